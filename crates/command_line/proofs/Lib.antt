@@ -1,0 +1,2 @@
+mod Simple
+mod Pairs

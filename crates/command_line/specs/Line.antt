@@ -1,0 +1,74 @@
+-- The command line, as clap's own definitions speak of it, and what words ask for.
+use Rattle.std.specs.Prelude.{◌≢◌, List, [], ◌∷◌, codes, true, Bool, if◌then◌else◌, Option, Some, None, String, map, string_bytes}
+use Rattle.std.specs.Option.{option_map}
+use Rattle.std.specs.Str.{bytes_eq}
+use Rattle.std.specs.declared.alloc.Global.{Global}
+use Rattle.clap.specs.Words.{App, Row, Rule, Text, first_of, new_app, new_rule, subcommand_of, takes, fault_of, Kinds, with_rule, with_subcommand}
+use Rattle.clap.specs.declared.builder.ArgAction.TheVariants.{Set}
+
+-- a required word
+abbrev pub word_rule : Text → Rule
+word_rule id = record (new_rule id) { action = Some Set; required = true }
+
+-- presolve IN OUT REC
+unfoldable pub presolve_app : App
+presolve_app = with_rule (with_rule (with_rule (new_app (codes "presolve")) (word_rule (codes "in"))) (word_rule (codes "out"))) (word_rule (codes "rec"))
+
+-- the whole: one subcommand for each command
+unfoldable pub line_app : App
+line_app = with_subcommand (new_app (codes "papilo")) presolve_app.top
+
+abbrev pub texts : List (String Global) → List Text
+texts words = map (λ word. string_bytes word) words
+
+-- clap takes the words
+unfoldable pub is_taken : List Text → Bool
+is_taken words = takes line_app words
+
+-- the kinds of error that clap gives at the words, but for want of memory
+unfoldable pub faults : List Text → Kinds
+faults words = fault_of line_app words
+
+-- the subcommand that clap finds, with the values of its arguments
+unfoldable pub found_in : List Text → Option (Text × List Row)
+found_in words = subcommand_of line_app words
+
+-- the names that presolve works on
+pub record PresolveNames : Type 0 where
+  pub input : Text
+  pub output : Text
+  pub records : Text
+
+-- a command with its names
+pub data Request : Type 0 where
+  Presolve : PresolveNames → Request
+
+-- the texts that a command writes go to names that differ
+abbrev pub HasTwoOutputs : Request → Type 0
+HasTwoOutputs (Presolve names) = names.output ≢ names.records
+
+-- three names, of which OUT and REC differ
+abbrev pub presolve_names : Option Text → Option Text → Option Text → Option PresolveNames
+presolve_names (Some input) (Some output) (Some records) =
+    if bytes_eq output records then None else Some (record { input = input; output = output; records = records })
+presolve_names input output records = None
+
+abbrev pub presolve_of : List Row → Option PresolveNames
+presolve_of rows = presolve_names (first_of (codes "in") rows) (first_of (codes "out") rows) (first_of (codes "rec") rows)
+
+-- by the name of the subcommand
+abbrev pub selected_in : Option (Text × List Row) → Option Request
+selected_in None = None
+selected_in (Some (name, rows)) = if bytes_eq name (codes "presolve") then option_map Presolve (presolve_of rows) else None
+
+-- what clap finds in the words
+abbrev pub selected : List Text → Option Request
+selected words = selected_in (found_in words)
+
+abbrev pub if_none : Kinds → Option Request → Option Request
+if_none [] request = request
+if_none (kind ∷ kinds) request = None
+
+-- what the words ask for: what clap finds in them, where it names no fault
+abbrev pub asked : List Text → Option Request
+asked words = if_none (faults words) (selected words)

@@ -1,0 +1,11 @@
+-- A request as its names.
+use Rattle.command_line.specs.Line.{PresolveNames, Request, Presolve}
+use Rattle.command_line.specs.declared.reading.PresolveWords.{PresolveWords}
+use Rattle.command_line.specs.declared.reading.Request.TheVariants as words
+use Rattle.command_line.specs.declared.reading.Request as declared
+
+abbrev pub names_of : PresolveWords → PresolveNames
+names_of words = record { input = words.input.now; output = words.output.now; records = words.records.now }
+
+abbrev pub seen : declared.Request → Request
+seen (words.Presolve p) = Presolve (names_of p)

@@ -1,0 +1,63 @@
+// The command line, as a command of `clap`.
+ghost use Rattle.std.specs.Prelude.{◌≡◌, ◌≢◌, [], Err, false, IfOk, OnOk, OnErr};
+ghost use Rattle.clap.specs.Words.{app_of, kind_of, rule_of, subcommand_rows_of};
+ghost use Rattle.clap.specs.declared.builder.command.Command.TheViews.{out-Command};
+ghost use Rattle.command_line.specs.Line.{faults, found_in, is_taken, line_app, presolve_app, texts, word_rule};
+
+use crate::Refusal;
+use clap::error::ErrorKind;
+use clap::{Arg, ArgAction, ArgMatches, Command, Error};
+use std::alloc::{AllocError, Global};
+
+// A word that has to stand.
+fn word<'a>(alloc: Global, id: &'a str) -> Arg<'a>
+    ensures rule { rule_of result ≡ word_rule id.entry.now }
+    ensures local { result.global ≡ false }
+{
+    Arg::new(alloc, id).action(ArgAction::Set).required(true)
+}
+
+#[tactic(auto, unfolding(crate::specs::Line::presolve_app))]
+fn presolve<'a>(alloc: Global) -> Result<Command<'a>, AllocError>
+    ensures app { IfOk result (λ command. app_of command ≡ presolve_app) }
+    ensures local { IfOk result (λ command. (out-Command command).has_globals ≡ false) }
+{
+    Command::new(alloc, "presolve")
+        .arg(word(alloc, "in"))?
+        .arg(word(alloc, "out"))?
+        .arg(word(alloc, "rec"))
+}
+
+#[tactic(auto, unfolding(crate::specs::Line::line_app))]
+fn line<'a>(alloc: Global) -> Result<Command<'a>, AllocError>
+    ensures app { IfOk result (λ command. app_of command ≡ line_app) }
+{
+    let presolve = presolve(alloc)?;
+    Command::new(alloc, "papilo").subcommand(presolve)
+}
+
+// What clap makes of the words.
+#[tactic(auto, using(crate::proofs::Simple::line_is_simple, crate::proofs::Simple::line_is_free), unfolding(crate::specs::Line::is_taken, crate::specs::Line::faults, crate::specs::Line::found_in))]
+pub fn matches<'a>(alloc: Global, words: &'a [String]) -> Result<ArgMatches<'a>, Refusal>
+    ensures rows { IfOk result (λ found. subcommand_rows_of found ≡ found_in (texts words.entry.now)) }
+    ensures taken { OnOk result (faults (texts words.entry.now) ≡ []) }
+    ensures faulty { result ≡ Err Refusal.Words → faults (texts words.entry.now) ≢ [] }
+    ensures untaken { result ≡ Err Refusal.Words → is_taken (texts words.entry.now) ≡ false }
+{
+    let Ok(command) = line(alloc) else {
+        return Err(Refusal::NoMemory);
+    };
+    match command.try_get_matches_from(words) {
+        Ok(found) => Ok(found),
+        Err(error) => Err(reason(&error)),
+    }
+}
+
+fn reason(error: &Error) -> Refusal
+    ensures { result ≡ Refusal.Words → kind_of error.now ≢ ErrorKind.OutOfMemory }
+{
+    match error.kind() {
+        ErrorKind::OutOfMemory => Refusal::NoMemory,
+        _ => Refusal::Words,
+    }
+}

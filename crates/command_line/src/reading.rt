@@ -1,0 +1,94 @@
+// What the words ask for.
+ghost use Rattle.std.specs.Prelude.{◌≡◌, ◌≢◌, ◌⊎◌, IfSome, None, [], Some, Err, false, option_map, IfOk, OnOk};
+ghost use Rattle.clap.specs.Words.{first_of, found_of, rows_of, subcommand_rows_of};
+ghost use Rattle.command_line.specs.Line.{HasTwoOutputs, asked, faults, is_taken, presolve_of, selected, selected_in, texts};
+ghost use Rattle.command_line.specs.Seen.{names_of, seen};
+
+use crate::command::matches;
+use clap::ArgMatches;
+use std::alloc::Global;
+
+/// The names that `presolve IN OUT REC` works on. `output` and `records` differ.
+#[derive(Clone, Copy, Debug)]
+pub struct PresolveWords<'a> {
+    pub input: &'a str,
+    pub output: &'a str,
+    pub records: &'a str,
+}
+
+/// A command with its words.
+#[derive(Clone, Copy, Debug)]
+pub enum Request<'a> {
+    Presolve(PresolveWords<'a>),
+}
+
+/// Why there is no request.
+#[derive(Clone, Copy, Debug, PartialEq, Eq)]
+pub enum Refusal {
+    /// `clap` does not take the words, or OUT and REC are equal.
+    Words,
+    /// There is no memory to read them.
+    NoMemory,
+}
+
+// The first value of a name.
+fn value<'a>(found: &ArgMatches<'a>, id: &str) -> Option<&'a str>
+    ensures { option_map (λ s. s.now) result ≡ first_of id.now (rows_of (found_of found.now)) }
+{
+    found.get_str(id)
+}
+
+// The names for `presolve`. OUT and REC may not be one name.
+fn presolve<'a>(found: &ArgMatches<'a>) -> Option<PresolveWords<'a>>
+    ensures names { option_map names_of result ≡ presolve_of (rows_of (found_of found.now)) }
+    ensures differ { IfSome result (λ words. words.output.now ≢ words.records.now) }
+{
+    let input = value(found, "in");
+    let output = value(found, "out");
+    let records = value(found, "rec");
+    match (input, output, records) {
+        (Some(input), Some(output), Some(records)) if output != records => Some(PresolveWords {
+            input,
+            output,
+            records,
+        }),
+        _ => None,
+    }
+}
+
+// The command's name and what it was given.
+fn command<'m, 'a>(found: &'m ArgMatches<'a>) -> Option<(&'a str, &'m ArgMatches<'a>)>
+    ensures { option_map (λ p. (p.0.now, rows_of (found_of p.1.now))) result ≡ subcommand_rows_of found.now }
+{
+    found.subcommand()
+}
+
+// The command with its names.
+fn selected_request<'a>(found: &ArgMatches<'a>) -> Option<Request<'a>>
+    ensures selected { option_map seen result ≡ selected_in (subcommand_rows_of found.now) }
+    ensures differ { IfSome result (λ request. HasTwoOutputs (seen request)) }
+{
+    let (name, given) = command(found)?;
+    match name {
+        "presolve" => Some(Request::Presolve(presolve(given)?)),
+        _ => None,
+    }
+}
+
+/// The command that the words ask for; the first word is the program's own name.
+///
+/// # Errors
+/// `Words` where `clap` names a fault in them, or OUT and REC are equal words. `NoMemory`.
+pub fn read<'a>(alloc: Global, words: &'a [String]) -> Result<Request<'a>, Refusal>
+    ensures asked { IfOk result (λ request. asked (texts words.entry.now) ≡ Some (seen request)) }
+    ensures differ { IfOk result (λ request. HasTwoOutputs (seen request)) }
+    ensures refused { result ≡ Err Refusal.Words → asked (texts words.entry.now) ≡ None }
+    ensures taken { OnOk result (faults (texts words.entry.now) ≡ []) }
+    ensures untaken { result ≡ Err Refusal.Words → (is_taken (texts words.entry.now) ≡ false) ⊎ (selected (texts words.entry.now) ≡ None) }
+{
+    let found = matches(alloc, words)?;
+    match selected_request(&found) {
+        Some(request) => Ok(request),
+        None => Err(Refusal::Words),
+    }
+}

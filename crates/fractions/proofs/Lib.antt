@@ -1,0 +1,7 @@
+pub mod GcdSteps
+pub mod SumSteps
+pub mod Reducing
+pub mod ProductSteps
+pub mod InverseSteps
+pub mod LowestTerms
+pub mod ShortProducts

@@ -1,0 +1,7 @@
+use Rattle.std.proofs.Common.{ap, ◌∙◌}
+use Rattle.std.specs.Ordering.{is_le}
+use Rattle.rational.proofs.Comparisons.{is_le-cmp}
+use Rattle.fractions.proofs.frac.Frac.le.Goals as goal
+
+pub returns : goal.returns
+returns c = c.is_le.ensures ∙ ap is_le c.cmp.ensures ∙ is_le-cmp _ _

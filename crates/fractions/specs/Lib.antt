@@ -1,0 +1,2 @@
+pub mod FracWords
+pub mod FracFields

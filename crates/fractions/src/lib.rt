@@ -1,0 +1,158 @@
+//! Exact numbers: fractions in lowest terms, of 127 bits.
+#![tactic(auto)]
+
+ghost use Rattle.std.specs.Prelude.{◌≡◌, ℕ, ◌<◌, ◌≤◌, ◌^◌, ◌*◌, OkIff, IfOk, IsOk, ◌↔◌, unsigned_abs};
+
+pub mod compare;
+pub mod divisor;
+pub mod ext;
+pub mod frac;
+pub mod parts;
+pub mod whole;
+
+/// A number is out of range: its numerator or denominator passes 2^127 - 1.
+#[derive(Debug, Clone, Copy, PartialEq, Eq)]
+pub struct Past;
+
+/// `x * y`, where it is in range.
+fn product(x: u128, y: u128) -> Result<u128, Past>
+    ensures { OkIff result (x * y < 2 ^ 127) (x * y) }
+{
+    if x < 1 << 63 && y < 1 << 63 {
+        return Ok(x as u64 as u128 * y as u64 as u128);
+    }
+    match x.checked_mul(y) {
+        Some(all) if all < 1 << 127 => Ok(all),
+        _ => Err(Past),
+    }
+}
+
+/// The numbers that are taken: decimal numbers alone, or all fractions.
+#[derive(Clone, Copy, Debug, PartialEq, Eq)]
+pub enum Numbers {
+    /// Numbers with at most 38 decimals.
+    Decimal,
+    /// All numbers that have room.
+    Fractions,
+}
+
+#[cfg(test)]
+mod tests {
+    use super::*;
+    use ext::Ext;
+    use frac::Frac;
+    use whole::Whole;
+
+    const MOST: i128 = i128::MAX;
+
+    /// `n / d`, and 0 where that has no meaning.
+    fn number(n: i128, d: u128) -> Frac {
+        if n == i128::MIN || d == 0 || d > MOST as u128 {
+            return Frac::zero();
+        }
+        Frac::ratio_of(Whole::new(n), d)
+    }
+
+    fn quotient(a: &Frac, b: &Frac) -> Result<Frac, Past> {
+        if b.is_zero() { Err(Past) } else { a.div(b) }
+    }
+
+    #[test]
+    fn sums(rt: HostRuntime) {
+        let rows = [
+            (number(1, 3), number(1, 6), Ok(number(1, 2))),
+            (number(1, 4), number(1, 8), Ok(number(3, 8))),
+            (number(-7, 20), number(7, 20), Ok(number(0, 1))),
+            (number(MOST, 1), number(1, 1), Err(Past)),
+            (number(-MOST, 1), number(-1, 1), Err(Past)),
+            // 2^64 / ((2^63 + 1) (2^63 - 1)), and with one bit more the denominator has no room
+            (
+                number(1, (1 << 63) + 1),
+                number(1, (1 << 63) - 1),
+                Ok(number(1 << 64, (1 << 126) - 1)),
+            ),
+            (
+                number(1, (1 << 64) + 1),
+                number(1, (1 << 64) - 1),
+                Err(Past),
+            ),
+            // the sum has room, the first step has none
+            (number(MOST, 2), number(-MOST, 3), Err(Past)),
+        ];
+        for (a, b, sum) in rows {
+            assert!(rt; a.add(&b) == sum);
+            assert!(rt; a.sub(&b.neg()) == sum);
+        }
+    }
+
+    #[test]
+    fn products(rt: HostRuntime) {
+        let rows = [
+            (number(2, 3), number(3, 2), Ok(number(1, 1))),
+            (number(-3, 4), number(10, 9), Ok(number(-5, 6))),
+            (number(1 << 100, 1), number(1, 1 << 90), Ok(number(1024, 1))),
+            (number(1, 1 << 100), number(1, 1 << 100), Err(Past)),
+            (number(MOST, 2), number(4, 1), Err(Past)),
+        ];
+        for (a, b, product) in rows {
+            assert!(rt; a.mul(&b) == product);
+        }
+        assert!(rt; quotient(&number(1, 2), &number(-3, 4)) == Ok(number(-2, 3)));
+    }
+
+    #[test]
+    fn lowest_terms(rt: HostRuntime) {
+        let rows = [
+            ((3 << 100, 6 << 90), (512, 1)),
+            (
+                (95_367_431_640_625 * 7, 1_000_000_000_000_000),
+                (21_875, 32_768),
+            ),
+            ((-210, 630), (1, 3)),
+            // 1000003, 999983 and 17 are primes
+            ((1_000_003 * 999_983, 999_983 * 17), (1_000_003, 17)),
+            ((0, 25), (0, 1)),
+        ];
+        for ((n, d), (num, den)) in rows {
+            let parts = number(n, d).parts();
+            assert!(rt; parts.num.size() == num && parts.den == den);
+            assert!(rt; parts.num.is_negative() == (n < 0));
+        }
+    }
+
+    #[test]
+    fn order_and_floors(rt: HostRuntime) {
+        let rising = [
+            number(-MOST, 1),
+            number(-1, 2),
+            number(-1, 3),
+            number(0, 1),
+            number(1, MOST as u128),
+            number(1, 3),
+            number(MOST - 2, MOST as u128 - 1),
+            number(1, 1),
+            number(MOST, MOST as u128 - 1),
+        ];
+        for (i, a) in rising.iter().enumerate() {
+            for (j, b) in rising.iter().enumerate() {
+                assert!(rt; a.cmp(b) == i.cmp(&j));
+                assert!(rt; a.lt(b) == (i < j) && a.le(b) == (i <= j));
+            }
+        }
+        for (a, floor, ceil) in [
+            (number(7, 2), 3, 4),
+            (number(-7, 2), -4, -3),
+            (number(4, 1), 4, 4),
+            (number(-1, 9), -1, 0),
+        ] {
+            assert!(rt; a.floor() == number(floor, 1) && a.ceil() == number(ceil, 1));
+            assert!(rt; a.is_whole() == (floor == ceil));
+        }
+        assert!(rt;
+            number(1, 9).is_positive() && number(-1, 9).is_negative() && Frac::zero().is_zero()
+        );
+        assert!(rt;
+            Ext::none().number() == None && Ext::at(Frac::one()).number() == Some(Frac::one())
+        );
+    }
+}

@@ -1,0 +1,6 @@
+use Rattle.lp_model.specs.Meaning.{no_row, Differ}
+use Rattle.std.proofs.Common.{get_or}
+use Rattle.lp_model.proofs.plain.rows_differ.Given as goal
+
+abbrev pub invariant-loop-k : goal.invariant-loop-k
+invariant-loop-k l = Differ l.k (λ i. (get_or l.rows i no_row).name)

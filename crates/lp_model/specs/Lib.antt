@@ -1,0 +1,10 @@
+pub mod Vectors
+pub mod LinearProgram
+pub mod Senses
+pub mod Optimality
+pub mod Reductions
+pub mod Verdicts
+pub mod Sparse
+pub mod ProgramData
+pub mod Meaning
+pub mod Violations

@@ -1,0 +1,23 @@
+//! Linear and mixed-integer programs as the MPS format speaks of them: rows with sides, columns with costs, bounds and entries.
+//!
+//! `specs/` says what a program means and what is asked of a point, of duals and of a reduction.
+#![tactic(auto)]
+
+mod labels;
+mod name;
+mod plain;
+mod point;
+mod program;
+mod terms;
+
+pub use labels::Labels;
+pub use name::Name;
+pub use plain::{
+    Violation, cost, first_violation, is_feasible, names_differ, no_worse, number_at, row_value,
+};
+pub use point::{Duals, Pair, Point};
+pub use program::{ColumnDef, Columns, Program, RowDef, Rows, Sense};
+pub use terms::{Term, Terms};
+
+#[cfg(test)]
+mod tests;

@@ -1,0 +1,266 @@
+//! A plain and slow program that judges a point of a small model: each value is the sum over all columns.
+
+ghost use Rattle.std.specs.Prelude.{◌≡◌, ◌↔◌, ◌⊎◌, ℕ, ◌<◌, length, IsTrue, IfOk, Option, Some, None, MatchOption, ◌≢◌, slice_index_or};
+ghost use Rattle.rational.specs.Number.{Number};
+ghost use Rattle.rational.specs.Order.{◌≤ℚ◌, ◌<ℚ◌};
+ghost use Rattle.rational.specs.Ends.{AtLeast, AtMost, Between};
+ghost use Rattle.rational.specs.Floor.{IsWhole};
+ghost use Rattle.lp_model.specs.LinearProgram.{value_at, cost_at, Feasible};
+ghost use Rattle.lp_model.specs.Meaning.{no_row, no_column, meaning, Differ, NamesDiffer};
+ghost use Rattle.lp_model.specs.Vectors.{vector_of};
+ghost use Rattle.lp_model.specs.Senses.{NoWorse};
+ghost use Rattle.lp_model.specs.Sparse.{dense};
+ghost use Rattle.lp_model.specs.Violations.{IsPast, RowsHold, ColumnsHold, FitsColumn, BreaksColumn, Violates, Judged};
+
+use crate::name::Name;
+use crate::point::Point;
+use crate::program::{ColumnDef, Program, RowDef, Sense};
+use crate::terms::Term;
+use fractions::Past;
+use fractions::ext::Ext;
+use fractions::frac::Frac;
+
+/// What of a program a point does not meet.
+#[derive(Clone, Copy)]
+pub enum Violation {
+    /// A row's value is past this side.
+    Side {
+        row: usize,
+        value: Frac,
+        limit: Frac,
+    },
+    /// A column's value is past this bound.
+    Bound {
+        column: usize,
+        value: Frac,
+        limit: Frac,
+    },
+    /// A whole column's value is not whole.
+    Broken {
+        column: usize,
+        value: Frac,
+    },
+}
+
+/// The number at an id: that of the first term with it, 0 where none has it.
+pub fn number_at(terms: &[Term], id: usize) -> Frac
+    ensures { result ≡ dense terms.now id }
+{
+    for term in terms {
+        if term.id as usize == id {
+            return term.value;
+        }
+    }
+    Frac::zero()
+}
+
+/// The value of a row at a point: the sum over all columns of coefficient times number. `Past` where a step is past 128 bits.
+pub fn row_value(program: &Program, row: usize, point: &Point) -> Result<Frac, Past>
+    requires { length point.now ≡ length program.now.columns }
+    ensures { IfOk result (λ v. v ≡ value_at (meaning program.now) row (vector_of point.now)) }
+{
+    let columns = program.columns();
+    let numbers = point.as_slice();
+    let mut sum = Frac::zero();
+    for j in 0..columns.len() {
+        let coefficient = number_at(columns[j].entries.as_slice(), row);
+        let term = coefficient.mul(&numbers[j])?;
+        sum = sum.add(&term)?;
+    }
+    Ok(sum)
+}
+
+/// The cost of a point: the sum of costs times numbers, then the constant. `Past` where a step is past 128 bits.
+pub fn cost(program: &Program, point: &Point) -> Result<Frac, Past>
+    requires { length point.now ≡ length program.now.columns }
+    ensures { IfOk result (λ c. c ≡ cost_at (meaning program.now) (vector_of point.now)) }
+{
+    let columns = program.columns();
+    let numbers = point.as_slice();
+    let mut sum = Frac::zero();
+    for j in 0..columns.len() {
+        let term = columns[j].cost.mul(&numbers[j])?;
+        sum = sum.add(&term)?;
+    }
+    let constant = program.constant();
+    sum.add(&constant)
+}
+
+/// Whether a cost is no worse than another, in a sense.
+pub fn no_worse(sense: Sense, a: &Frac, b: &Frac) -> bool
+    ensures { IsTrue result ↔ NoWorse sense a.now b.now }
+{
+    match sense {
+        Sense::Min => a.le(b),
+        Sense::Max => b.le(a),
+    }
+}
+
+/// The lower end, where a value is below it.
+fn past_lower(lower: &Ext, value: &Frac) -> Option<Frac>
+    ensures { MatchOption result (AtLeast lower.now value.now) (λ e. (lower.now ≡ Some e) × (value.now <ℚ e)) }
+{
+    match lower.number() {
+        Some(end) if !end.le(value) => Some(end),
+        _ => None,
+    }
+}
+
+/// The upper end, where a value is above it.
+fn past_upper(upper: &Ext, value: &Frac) -> Option<Frac>
+    ensures { MatchOption result (AtMost upper.now value.now) (λ e. (upper.now ≡ Some e) × (e <ℚ value.now)) }
+{
+    match upper.number() {
+        Some(end) if !value.le(&end) => Some(end),
+        _ => None,
+    }
+}
+
+/// The end that a value is past, where it is past one.
+fn passed_end(lower: &Ext, upper: &Ext, value: &Frac) -> Option<Frac>
+    ensures { MatchOption result (Between lower.now upper.now value.now) (λ e. IsPast lower.now upper.now value.now e) }
+{
+    match past_lower(lower, value) {
+        Some(end) => Some(end),
+        None => past_upper(upper, value),
+    }
+}
+
+/// Whether a number is whole.
+fn is_whole(value: &Frac) -> bool
+    ensures { IsTrue result ↔ IsWhole value.now }
+{
+    value.is_whole()
+}
+
+/// What the number of a column does not meet.
+fn column_violation(column: &ColumnDef, id: usize, value: Frac) -> Option<Violation>
+    ensures { MatchOption result (FitsColumn column.now value) (λ found. BreaksColumn column.now id value found) }
+{
+    match passed_end(&column.lower, &column.upper, &value) {
+        Some(limit) => Some(Violation::Bound {
+            column: id,
+            value,
+            limit,
+        }),
+        None if column.whole && !is_whole(&value) => {
+            Some(Violation::Broken { column: id, value })
+        }
+        None => None,
+    }
+}
+
+/// The first row, by id, whose value is past a side.
+fn violated_row(program: &Program, point: &Point) -> Result<Option<Violation>, Past>
+    requires { length point.now ≡ length program.now.columns }
+    ensures { IfOk result (λ v. MatchOption v (RowsHold (meaning program.now) (vector_of point.now)) (λ found. Violates (meaning program.now) (vector_of point.now) found)) }
+{
+    let rows = program.rows();
+    for i in 0..rows.len() {
+        let value = row_value(program, i, point)?;
+        if let Some(limit) = passed_end(&rows[i].lower, &rows[i].upper, &value) {
+            return Ok(Some(Violation::Side {
+                row: i,
+                value,
+                limit,
+            }));
+        }
+    }
+    Ok(None)
+}
+
+/// The first column, by id, whose number is past a bound or is not whole and has to be.
+fn violated_column(program: &Program, point: &Point) -> Option<Violation>
+    requires { length point.now ≡ length program.now.columns }
+    ensures { MatchOption result (ColumnsHold (meaning program.now) (vector_of point.now)) (λ found. Violates (meaning program.now) (vector_of point.now) found) }
+{
+    let columns = program.columns();
+    let numbers = point.as_slice();
+    for j in 0..columns.len() {
+        if let Some(found) = column_violation(&columns[j], j, numbers[j]) {
+            return Some(found);
+        }
+    }
+    None
+}
+
+/// What the point does not meet: the first row by id, else the first column by id; none where the point is feasible.
+/// `Past` where a row's sum is past 128 bits.
+pub fn first_violation(program: &Program, point: &Point) -> Result<Option<Violation>, Past>
+    requires { length point.now ≡ length program.now.columns }
+    ensures { IfOk result (λ v. Judged (meaning program.now) (vector_of point.now) v) }
+{
+    match violated_row(program, point)? {
+        Some(found) => Ok(Some(found)),
+        None => Ok(violated_column(program, point)),
+    }
+}
+
+/// Whether the point is feasible. `Past` where a row's sum is past 128 bits.
+pub fn is_feasible(program: &Program, point: &Point) -> Result<bool, Past>
+    requires { length point.now ≡ length program.now.columns }
+    ensures { IfOk result (λ b. IsTrue b ↔ Feasible (meaning program.now) (vector_of point.now)) }
+{
+    Ok(first_violation(program, point)?.is_none())
+}
+
+/// Whether no two rows have the same name, and no two columns.
+pub fn names_differ(program: &Program) -> bool
+    ensures { IsTrue result ↔ NamesDiffer program.now }
+{
+    rows_differ(program.rows()) && columns_differ(program.columns())
+}
+
+/// Whether none of the first rows has the name of this one.
+fn is_new_row(rows: &[RowDef], row: usize) -> bool
+    requires { row < length rows.now }
+    ensures { IsTrue result ↔ ((i : ℕ) → i < row → (slice_index_or rows.now i no_row).name ≢ (slice_index_or rows.now row no_row).name) }
+{
+    for i in 0..row {
+        if same_name(&rows[i].name, &rows[row].name) {
+            return false;
+        }
+    }
+    true
+}
+
+fn rows_differ(rows: &[RowDef]) -> bool
+    ensures { IsTrue result ↔ Differ (length rows.now) (λ i. (slice_index_or rows.now i no_row).name) }
+{
+    for k in 0..rows.len() {
+        if !is_new_row(rows, k) {
+            return false;
+        }
+    }
+    true
+}
+
+/// Whether none of the first columns has the name of this one.
+fn is_new_column(columns: &[ColumnDef], column: usize) -> bool
+    requires { column < length columns.now }
+    ensures { IsTrue result ↔ ((j : ℕ) → j < column → (slice_index_or columns.now j no_column).name ≢ (slice_index_or columns.now column no_column).name) }
+{
+    for j in 0..column {
+        if same_name(&columns[j].name, &columns[column].name) {
+            return false;
+        }
+    }
+    true
+}
+
+fn columns_differ(columns: &[ColumnDef]) -> bool
+    ensures { IsTrue result ↔ Differ (length columns.now) (λ j. (slice_index_or columns.now j no_column).name) }
+{
+    for k in 0..columns.len() {
+        if !is_new_column(columns, k) {
+            return false;
+        }
+    }
+    true
+}
+
+fn same_name(a: &Name, b: &Name) -> bool
+    ensures { IsTrue result ↔ (a.now ≡ b.now) }
+{
+    a.as_bytes() == b.as_bytes()
+}

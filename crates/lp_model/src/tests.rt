@@ -1,0 +1,137 @@
+//! The plain program on a small model, with values worked by hand.
+
+use super::*;
+use fractions::ext::Ext;
+use fractions::frac::Frac;
+use fractions::whole::Whole;
+use std::alloc::{AllocError, Global};
+use std::test::Fail;
+
+fn number(value: i32) -> Frac {
+    Frac::whole(Whole::new(value as i128))
+}
+
+fn at(value: i32) -> Ext {
+    Ext::at(number(value))
+}
+
+fn column(
+    alloc: Global,
+    name: &[u8],
+    cost: i32,
+    lower: i32,
+    rows: &[u32],
+) -> Result<ColumnDef, AllocError> {
+    let mut terms = Vec::new(alloc);
+    for row in rows {
+        terms.push(Term {
+            id: *row,
+            value: number(1),
+        })?;
+    }
+    Ok(ColumnDef {
+        name: Name::from_slice(alloc, name)?,
+        cost: number(cost),
+        lower: at(lower),
+        upper: Ext::none(),
+        whole: false,
+        entries: Terms::new(terms),
+    })
+}
+
+/// min x + 2 y; C1: x = 3; C2: x + y >= 5.
+fn whole_program(alloc: Global) -> Result<Program, AllocError> {
+    let mut rows = Vec::new(alloc);
+    rows.push(RowDef {
+        name: Name::from_slice(alloc, b"C1")?,
+        lower: at(3),
+        upper: at(3),
+    })?;
+    rows.push(RowDef {
+        name: Name::from_slice(alloc, b"C2")?,
+        lower: at(5),
+        upper: Ext::none(),
+    })?;
+    let mut columns = Vec::new(alloc);
+    columns.push(column(alloc, b"x", 1, 0, &[0, 1])?)?;
+    columns.push(column(alloc, b"y", 2, 0, &[1])?)?;
+    let cost = Name::from_slice(alloc, b"COST")?;
+    Ok(Program::new(Sense::Min, cost, number(0), rows, columns))
+}
+
+/// What is left of it: min 2 y + 3; y >= 2.
+fn reduced_program(alloc: Global) -> Result<Program, AllocError> {
+    let mut columns = Vec::new(alloc);
+    columns.push(column(alloc, b"y", 2, 2, &[])?)?;
+    let cost = Name::from_slice(alloc, b"COST")?;
+    Ok(Program::new(Sense::Min, cost, number(3), Vec::new(alloc), columns))
+}
+
+fn point(alloc: Global, values: &[i32]) -> Result<Point, AllocError> {
+    let mut numbers = Vec::new(alloc);
+    for value in values {
+        numbers.push(number(*value))?;
+    }
+    Ok(Point::new(numbers))
+}
+
+fn is_side(found: &Option<Violation>, row: usize, value: &Frac, limit: &Frac) -> bool {
+    match found {
+        Some(
+            Violation::Side {
+                row: i,
+                value: v,
+                limit: l,
+            },
+        ) => *i == row && v.is_same(value) && l.is_same(limit),
+        _ => false,
+    }
+}
+
+#[test]
+fn judges_points(rt: HostRuntime) -> Result<(), Fail> {
+    let alloc = rt.alloc();
+    let whole = whole_program(alloc)?;
+    for (values, feasible, price) in [([3, 2], true, 7), ([3, 1], false, 5)] {
+        let point = point(alloc, &values)?;
+        assert!(rt; point.as_slice().len() == whole.columns().len());
+        assert!(rt; is_feasible(&whole, &point)? == feasible);
+        assert!(rt; cost(&whole, &point)?.is_same(&number(price)));
+    }
+    Ok(())
+}
+
+#[test]
+fn costs_the_same_when_reduced(rt: HostRuntime) -> Result<(), Fail> {
+    let alloc = rt.alloc();
+    let reduced = reduced_program(alloc)?;
+    let point = point(alloc, &[2])?;
+    assert!(rt; point.as_slice().len() == reduced.columns().len());
+    assert!(rt; is_feasible(&reduced, &point)?);
+    assert!(rt; cost(&reduced, &point)?.is_same(&number(7)));
+    Ok(())
+}
+
+#[test]
+fn names_what_is_violated(rt: HostRuntime) -> Result<(), Fail> {
+    let alloc = rt.alloc();
+    let program = whole_program(alloc)?;
+    let point = point(alloc, &[3, 1])?;
+    assert!(rt; point.as_slice().len() == program.columns().len());
+    let found = first_violation(&program, &point)?;
+    assert!(rt; is_side(&found, 1, &number(4), &number(5)));
+    Ok(())
+}
+
+#[test]
+fn compares_costs(rt: HostRuntime) {
+    for (sense, a, b, no_worse_than) in [
+        (Sense::Min, 1, 2, true),
+        (Sense::Min, 2, 1, false),
+        (Sense::Max, 1, 2, false),
+        (Sense::Max, 2, 1, true),
+        (Sense::Max, 2, 2, true),
+    ] {
+        assert!(rt; no_worse(sense, &number(a), &number(b)) == no_worse_than);
+    }
+}

@@ -1,0 +1,12 @@
+pub mod Steps
+pub mod Joins
+pub mod ActivityLaws
+pub mod Carrying
+pub mod Pairs
+pub mod Optimal
+pub mod SparseSums
+pub mod Verdicts
+pub mod Turns
+pub mod Ids
+pub mod Renumbered
+pub mod Moves

@@ -1,0 +1,5 @@
+pub mod Bounds
+pub mod Faults
+pub mod Lines
+pub mod Numerals
+pub mod Words

@@ -1,0 +1,14 @@
+//! The MPS text of a program, in free format.
+#![tactic(auto)]
+
+mod bounds;
+mod cards;
+mod columns;
+mod error;
+mod rows;
+#[cfg(test)]
+mod tests;
+mod writing;
+
+pub use error::WriteError;
+pub use writing::write_mps;

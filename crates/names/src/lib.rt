@@ -1,0 +1,91 @@
+//! Names, numbered from 0 in the order in which they first came.
+#![tactic(auto)]
+
+use indexmap::IndexSet;
+use std::alloc::{AllocError, Global};
+use std::marker::Model;
+
+/// A table of different names. A contract sees it as the list of the names' bytes, in the order in which they came.
+#[derive(Drop)]
+pub struct Names<'a> {
+    set: IndexSet<&'a [u8]>,
+}
+
+impl<'a> Model for Names<'a> {
+    ghost use Rattle.std.specs.Prelude.{ℕ, List, map};
+
+    ghost Value = { List (List ℕ) };
+
+    ghost view = { λ names. map (λ s. s.now) names.set.keys };
+}
+
+/// How a name was taken in, with its number.
+#[derive(Clone, Copy, Debug, PartialEq, Eq)]
+pub enum Named {
+    /// The name is new, and now the last one.
+    Fresh(usize),
+    /// The name was there already.
+    Known(usize),
+}
+
+impl<'a> Names<'a> {
+    ghost use Rattle.std.specs.Prelude.{◌≡◌, ◌==◌, ◌<◌, ◌≤◌, ◌+◌, [], length, map, IfOk, IfSome, OnErr};
+    ghost use Rattle.names.specs.Names.{place, IsTaken, number_of};
+
+    /// A table without names.
+    pub fn new(alloc: Global) -> Self
+        ensures { result ≡ [] }
+    {
+        Names {
+            set: IndexSet::new(alloc),
+        }
+    }
+
+    /// How many names there are.
+    pub fn len(&self) -> usize
+        ensures { result ≡ length self.now }
+    {
+        self.set.len()
+    }
+
+    /// Whether there is no name.
+    pub fn is_empty(&self) -> bool
+        ensures { result ≡ (length self.now == 0) }
+    {
+        self.set.is_empty()
+    }
+
+    /// The names, by number.
+    pub fn as_slice(&self) -> &[&'a [u8]]
+        ensures names { map (λ s. s.now) result.now ≡ self.now }
+        ensures len { length result.now ≡ length self.now }
+    {
+        self.set.as_slice()
+    }
+
+    /// The number of a name, or none where there is no such name.
+    #[tactic(auto, using(crate::proofs::Places::place_keys))]
+    pub fn find(&self, name: &[u8]) -> Option<usize>
+        ensures place { result ≡ place name.now self.now }
+        ensures within { IfSome result (λ id. id < length self.now) }
+    {
+        self.set.get_index_of(name)
+    }
+
+    /// Takes in a name, and says its number, which is the last where the name is new.
+    #[tactic(auto, using(crate::proofs::Places::place_keys))]
+    pub fn insert(&mut self, name: &'a [u8]) -> Result<Named, AllocError>
+        ensures taken { IfOk result (λ named. IsTaken named name.entry.now self.old self.new) }
+        ensures within { IfOk result (λ named. number_of named < length self.new) }
+        ensures err { OnErr result (self.new ≡ self.old) }
+    {
+        match self.set.get_index_of(name) {
+            Some(id) => Ok(Named::Known(id)),
+            None => {
+                let id = self.len();
+                self.set.insert(name)?;
+                Ok(Named::Fresh(id))
+            }
+        }
+    }
+}

@@ -1,0 +1,15 @@
+pub mod Powers
+pub mod Placing
+pub mod Digits
+pub mod MantissaLaws
+pub mod ScalingLaws
+pub mod ReadingLaws
+pub mod Cutting
+pub mod Again
+pub mod Marks
+pub mod GrammarLaws
+pub mod Least
+pub mod ShortLaws
+pub mod DecimalLaws
+pub mod TextLaws
+pub mod WritingLaws

@@ -1,0 +1,24 @@
+//! Exact numbers as text: the one written form of a number, and the forms that are read.
+//!
+//! A number is written with the least number of decimals, from 0 to 38, that shows it exactly, and
+//! as `n/d` in lowest terms where there is none. It is read from digits with at most one point and
+//! an optional exponent, and, where fractions are taken, from `n/d`. What is read is the exact
+//! value: nothing is rounded.
+#![tactic(auto)]
+
+mod decimal_form;
+pub mod form;
+pub mod laws;
+mod mantissa;
+mod places;
+mod reading;
+mod scaling;
+mod short;
+#[cfg(test)]
+mod tests;
+mod writing;
+
+pub use fractions::Numbers;
+pub use places::is_decimal;
+pub use reading::{ReadNumber, read};
+pub use writing::{push, write};

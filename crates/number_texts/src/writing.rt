@@ -1,0 +1,123 @@
+//! Numbers to text.
+
+ghost use Rattle.std.specs.Prelude.{◌≡◌, ◌^◌, ◌<◌, ◌≤◌, ◌++◌, ◌∷◌, OnOk, IfOk};
+ghost use Rattle.std.specs.Fmt.{decimal};
+ghost use Rattle.number_texts.specs.Written.{place_of, last_digits, with_point, sign_of, size_text, written};
+
+use crate::places::{place, power};
+use fractions::frac::Frac;
+use fractions::whole::Whole;
+use itoa::Buffer;
+use std::alloc::{AllocError, Global};
+
+/// The digits of a natural number.
+fn digits_of(buffer: &mut Buffer, number: u128) -> &str
+    ensures { result.now ≡ decimal number }
+{
+    if number < 1 << 64 {
+        buffer.format(number as u64)
+    } else {
+        buffer.format(number)
+    }
+}
+
+/// Appends a natural number.
+fn push_natural(out: &mut Vec<u8>, number: u128) -> Result<(), AllocError>
+    ensures { OnOk result (out.new.items ≡ out.old.items ++ decimal number) }
+{
+    let mut buffer = Buffer::new();
+    out.extend_from_slice(digits_of(&mut buffer, number).as_bytes())
+}
+
+/// A 1, and behind it exactly `places` digits of `number`.
+#[tactic(auto, using(crate::proofs::WritingLaws::marked_digits))]
+fn marked_digits(buffer: &mut Buffer, number: u128, places: u32) -> &str
+    requires few { places ≤ 38 }
+    requires small { number < 10 ^ places }
+    ensures { result.now ≡ 49 ∷ last_digits places number }
+{
+    digits_of(buffer, power(places) + number)
+}
+
+/// Appends exactly `places` digits of `number`.
+fn push_digits(out: &mut Vec<u8>, number: u128, places: u32) -> Result<(), AllocError>
+    requires few { places ≤ 38 }
+    requires small { number < 10 ^ places }
+    ensures { OnOk result (out.new.items ≡ out.old.items ++ last_digits places number) }
+{
+    let mut buffer = Buffer::new();
+    let digits = marked_digits(&mut buffer, number, places).as_bytes();
+    out.extend_from_slice(&digits[1..])
+}
+
+/// Appends `number / 10 ^ places` with exactly `places` decimals.
+fn push_point(out: &mut Vec<u8>, number: u128, places: u32) -> Result<(), AllocError>
+    requires { places ≤ 38 }
+    ensures { OnOk result (out.new.items ≡ out.old.items ++ with_point number places) }
+{
+    if places == 0 {
+        return push_natural(out, number);
+    }
+    let unit = power(places);
+    push_natural(out, number / unit)?;
+    out.push(b'.')?;
+    push_digits(out, number % unit, places)
+}
+
+/// Appends the sign, if it is a minus.
+fn push_sign(out: &mut Vec<u8>, number: Whole) -> Result<(), AllocError>
+    ensures { OnOk result (out.new.items ≡ out.old.items ++ sign_of number) }
+{
+    if number.is_negative() {
+        out.push(b'-')?;
+    }
+    Ok(())
+}
+
+/// Appends `over / under`, with the least number of decimals that shows it exactly, or else as it
+/// stands.
+#[tactic(auto, using(crate::proofs::WritingLaws::whole_text))]
+fn push_size(out: &mut Vec<u8>, over: u128, under: u128) -> Result<(), AllocError>
+    requires positive { 0 < under }
+    requires small { over < 2 ^ 127 }
+    ensures { OnOk result (out.new.items ≡ out.old.items ++ size_text over under (place_of over under)) }
+{
+    if under == 1 {
+        return push_natural(out, over);
+    }
+    match place(over, under) {
+        Some(places) => push_point(out, over * (power(places) / under), places),
+        None => {
+            push_natural(out, over)?;
+            out.push(b'/')?;
+            push_natural(out, under)
+        }
+    }
+}
+
+/// Appends the one text of a number: a `-` if it is below 0, the whole digits, and with the least
+/// number of decimals that shows it exactly, from 0 to 38, a point and exactly that many digits. A
+/// number that no such number of decimals shows is written `n/d` in lowest terms.
+///
+/// # Errors
+/// Where memory is short; what then stands behind the bytes that were there is not told.
+#[tactic(auto, unfolding(crate::specs::Written::written, crate::specs::Written::written_by))]
+pub fn push(out: &mut Vec<u8>, number: &Frac) -> Result<(), AllocError>
+    ensures { OnOk result (out.new.items ≡ out.old.items ++ written number.now) }
+{
+    let parts = number.parts();
+    push_sign(out, parts.num)?;
+    push_size(out, parts.num.size(), parts.den)
+}
+
+/// The one text of a number, as [`push`] appends it.
+///
+/// # Errors
+/// Where memory is short.
+pub fn write(alloc: Global, number: &Frac) -> Result<Vec<u8>, AllocError>
+    ensures { IfOk result (λ text. text.items ≡ written number.now) }
+{
+    let mut out = Vec::new(alloc);
+    push(&mut out, number)?;
+    Ok(out)
+}

@@ -1,0 +1,85 @@
+-- How a run may end, and what each ending says of the files before and after it.
+use Rattle.std.specs.Prelude.{◌≡◌, ◌≢◌, ◌⊎◌, ℕ, List, [], ◌∷◌, ◌++◌, codes, Option, Some, None}
+use Rattle.std.specs.Fmt.{decimal}
+use Rattle.file_ports.specs.Ports.{Told, Rose, IsLonger, KeepsOthers, Grown, GrownInPart, Written}
+use Rattle.command_line.specs.Line.{Request, PresolveNames, Presolve}
+use Rattle.mps_cards.specs.Faults.{number_of_kind}
+use Rattle.mps_reader.specs.declared.faults.MpsFault.{MpsFault}
+use Rattle.papilo_cli.specs.Texts.{Outcome, AreTexts}
+use Rattle.papilo_cli.specs.declared.presolve.TheConstants.{INPUT_LIMIT}
+use Rattle.papilo_cli.specs.declared.ending.Ending.{Ending}
+use Rattle.papilo_cli.specs.declared.ending.Ending.TheVariants.{Done, Usage, Refused, ReadFault, WriteFault, NoMemory}
+
+abbrev pub status_of : Ending → ℕ
+status_of (Done text) = 0
+status_of Usage = 1
+status_of (Refused line) = 2
+status_of ReadFault = 3
+status_of WriteFault = 4
+status_of NoMemory = 5
+
+abbrev pub text_of : Ending → List ℕ
+text_of (Done text) = text.items
+text_of Usage = codes "usage: presolve, postsolve, check or gen" ++ 10 ∷ []
+text_of (Refused line) = line.items
+text_of ReadFault = codes "read fault" ++ 10 ∷ []
+text_of WriteFault = codes "write fault" ++ 10 ∷ []
+text_of NoMemory = codes "no memory" ++ 10 ∷ []
+
+-- what files tell, and their counts of faults, at one moment; each by name
+pub record Moment : Type 0 where
+  pub told : List ℕ → Told
+  pub reads : List ℕ → ℕ
+  pub writes : List ℕ → ℕ
+  pub overlong : ℕ → List ℕ → ℕ
+
+-- all names but two tell what they told
+abbrev pub KeepsAllBut : (List ℕ → Told) → (List ℕ → Told) → List ℕ → List ℕ → Type 0
+KeepsAllBut old new first second = (other : List ℕ) → other ≢ first → other ≢ second → new other ≡ old other
+
+-- the texts of some outcome were written, and its report goes with them
+pub record IsPresolved (names : PresolveNames) (printed : List ℕ) (old new : List ℕ → Told) : Type 0 where
+  pub outcome : Outcome
+  pub program : List ℕ
+  pub records : List ℕ
+  pub texts : AreTexts outcome program records printed
+  pub program_written : Written (old names.output) (new names.output) program
+  pub records_written : Written (old names.records) (new names.records) records
+  pub others : KeepsAllBut old new names.output names.records
+
+-- the line that names a fault of a program's text
+abbrev pub fault_text : MpsFault → List ℕ
+fault_text fault = codes "error M" ++ (decimal (number_of_kind fault.kind) ++ (codes " line " ++ (decimal fault.line ++ 10 ∷ [])))
+
+-- some fault of the program's text; or the text is longer than is read
+abbrev pub SaysFault : List ℕ → List ℕ → Moment → Moment → Type 0
+SaysFault input said before now =
+    ((fault : MpsFault) × (said ≡ fault_text fault))
+    ⊎ (IsLonger (before.told input) INPUT_LIMIT × Rose (before.overlong INPUT_LIMIT input) (now.overlong INPUT_LIMIT input) × (said ≡ codes "error M17" ++ 10 ∷ []))
+
+-- Of two writes one failed: the first, and all other names stand; or the second, and the first text was written.
+-- What was told before and is told now, and the counts of write faults before and now, are by name.
+abbrev pub FailsBetween : List ℕ → List ℕ → List ℕ → (List ℕ → Told) → (List ℕ → Told) → (List ℕ → ℕ) → (List ℕ → ℕ) → Type 0
+FailsBetween first text second old new before now =
+    (KeepsOthers old new first × Rose (before first) (now first))
+    ⊎ (Written (old first) (new first) text × Rose (before second) (now second) × KeepsAllBut old new first second)
+
+-- what an ending of a presolve says
+abbrev pub EndsPresolve : PresolveNames → Ending → Moment → Moment → Type 0
+EndsPresolve names (Done text) before now = IsPresolved names text.items before.told now.told
+EndsPresolve names Usage before now = ⊥
+EndsPresolve names (Refused line) before now = SaysFault names.input line.items before now × (now.told ≡ before.told)
+EndsPresolve names ReadFault before now = (now.told ≡ before.told) × Rose (before.reads names.input) (now.reads names.input)
+EndsPresolve names WriteFault before now = (outcome : Outcome) × (program records printed : List ℕ) × AreTexts outcome program records printed
+    × FailsBetween names.output program names.records before.told now.told before.writes now.writes
+EndsPresolve names NoMemory before now = now.told ≡ before.told
+
+-- what an ending says of what the words ask for; none where they are refused
+abbrev pub Ends : Option Request → Ending → Moment → Moment → Type 0
+Ends None ending before now = ((ending ≡ Usage) ⊎ (ending ≡ NoMemory)) × (now.told ≡ before.told)
+Ends (Some (Presolve names)) ending before now = EndsPresolve names ending before now
+
+-- The sink took the text and the status is the ending's; or the sink failed, having taken a prefix, and the status is 4.
+abbrev pub Prints : ℕ → Ending → Option (List ℕ) → Option (List ℕ) → ℕ → ℕ → Type 0
+Prints status ending old new before now =
+    ((status ≡ status_of ending) × Grown old new (text_of ending)) ⊎ ((status ≡ 4) × GrownInPart old new (text_of ending) × Rose before now)

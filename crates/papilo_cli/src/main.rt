@@ -1,0 +1,31 @@
+//! An exact presolver for linear and mixed-integer programs in the MPS format.
+#![tactic(auto)]
+
+mod ending;
+mod presolve;
+mod reduce;
+mod report;
+mod run;
+
+use file_ports::{HostFiles, HostOut};
+use run::run;
+use std::process::ExitCode;
+use std::{env, io};
+use worker_gate::OpenGate;
+
+fn main(rt: HostRuntime) -> ExitCode {
+    let alloc = rt.alloc();
+    let Ok(args) = env::args(&rt) else {
+        return ExitCode::from(5);
+    };
+    let Ok(words) = args.collect(alloc) else {
+        return ExitCode::from(5);
+    };
+    let words: Vec<String> = words;
+    let mut files = HostFiles::new(&rt);
+    let mut out = HostOut::new(io::writer(&rt));
+    ExitCode::from(run(&rt, alloc, &words, &mut files, &mut out, &OpenGate))
+}
+
+#[cfg(test)]
+mod tests;

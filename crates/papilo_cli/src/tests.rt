@@ -1,0 +1,289 @@
+use crate::run::run;
+use file_ports::{Held, MemFiles, MemSink, names_differ};
+use std::alloc::{AllocError, Global};
+use std::test::Fail;
+use worker_gate::OpenGate;
+
+// The least x + 2y with x = 3 and x + y at least 5.
+const SMALL: &str = "NAME          ROW1
+ROWS
+ N COST
+ E C1
+ G C2
+COLUMNS
+ x COST 1 C1 1
+ x C2 1
+ y COST 2 C2 1
+RHS
+ RHS C1 3 C2 5
+ENDATA
+";
+
+const SMALL_REDUCED: &str = "NAME presolved
+ROWS
+ N COST
+COLUMNS
+ y COST 2
+BOUNDS
+ LO BND y 2
+ENDATA
+";
+
+const SMALL_RECORDS: &str = "papilo-records 1
+sense min
+duals no
+columns 2
+gone x
+live y
+rows 2
+gone C1
+gone C2
+offset 3
+records 3
+K2 0 0 1 0 inf
+K3 0 3 1 1 1 1
+K2 1 1 1 0 inf
+end
+";
+
+const SMALL_REPORT: &str = "rows 2 -> 0
+columns 2 -> 1
+entries 3 -> 0
+records 3
+offset 3
+end fixpoint
+skipped 0
+";
+
+const USAGE: &str = "usage: presolve, postsolve, check or gen\n";
+
+// A run: its words after the program's name, the text that IN holds, the numbers of the reads, writes and puts that fail,
+// and then the status, the printed text, and what OUT and REC hold (None: missing, or not told).
+struct Case<'a> {
+    words: &'a [&'a str],
+    input: &'a str,
+    reads: &'a [u64],
+    writes: &'a [u64],
+    puts: &'a [u64],
+    status: u8,
+    printed: &'a str,
+    output: Option<&'a str>,
+    records: Option<&'a str>,
+}
+
+const PRESOLVE: &[&str] = &["presolve", "IN", "OUT", "REC"];
+
+const CASES: [Case<'static>; 12] = [
+    Case {
+        words: PRESOLVE,
+        input: SMALL,
+        reads: &[],
+        writes: &[],
+        puts: &[],
+        status: 0,
+        printed: SMALL_REPORT,
+        output: Some(SMALL_REDUCED),
+        records: Some(SMALL_RECORDS),
+    },
+    // Neither rows nor columns.
+    Case {
+        words: PRESOLVE,
+        input: "ROWS\n N COST\nCOLUMNS\nENDATA\n",
+        reads: &[],
+        writes: &[],
+        puts: &[],
+        status: 0,
+        printed: "rows 0 -> 0\ncolumns 0 -> 0\nentries 0 -> 0\nrecords 0\noffset 0\nend fixpoint\nskipped 0\n",
+        output: Some("NAME presolved\nROWS\n N COST\nCOLUMNS\nENDATA\n"),
+        records: Some(
+            "papilo-records 1\nsense min\nduals no\ncolumns 0\nrows 0\noffset 0\nrecords 0\nend\n",
+        ),
+    },
+    // The least -x with 3x at most 1: the bound 1/3 is no decimal number.
+    Case {
+        words: PRESOLVE,
+        input: "ROWS\n N COST\n L C1\nCOLUMNS\n x COST -1 C1 3\nRHS\n RHS C1 1\nENDATA\n",
+        reads: &[],
+        writes: &[],
+        puts: &[],
+        status: 0,
+        printed: "rows 1 -> 1\ncolumns 1 -> 1\nentries 1 -> 1\nrecords 0\noffset 0\nend fixpoint\nskipped 1\n",
+        output: Some(
+            "NAME presolved\nROWS\n N COST\n L C1\nCOLUMNS\n x COST -1\n x C1 3\nRHS\n RHS C1 1\nENDATA\n",
+        ),
+        records: Some(
+            "papilo-records 1\nsense min\nduals no\ncolumns 1\nlive x\nrows 1\nlive C1\noffset 0\nrecords 0\nend\n",
+        ),
+    },
+    // Three lines without ENDATA.
+    Case {
+        words: PRESOLVE,
+        input: "ROWS\n N COST\nCOLUMNS\n",
+        reads: &[],
+        writes: &[],
+        puts: &[],
+        status: 2,
+        printed: "error M6 line 4\n",
+        output: None,
+        records: None,
+    },
+    Case {
+        words: &["presolve", "a", "b", "b"],
+        input: SMALL,
+        reads: &[],
+        writes: &[],
+        puts: &[],
+        status: 1,
+        printed: USAGE,
+        output: None,
+        records: None,
+    },
+    Case {
+        words: &["--help"],
+        input: SMALL,
+        reads: &[],
+        writes: &[],
+        puts: &[],
+        status: 1,
+        printed: USAGE,
+        output: None,
+        records: None,
+    },
+    // A name that is missing, and a read that fails.
+    Case {
+        words: &["presolve", "MISSING", "OUT", "REC"],
+        input: SMALL,
+        reads: &[],
+        writes: &[],
+        puts: &[],
+        status: 3,
+        printed: "read fault\n",
+        output: None,
+        records: None,
+    },
+    Case {
+        words: PRESOLVE,
+        input: SMALL,
+        reads: &[1],
+        writes: &[],
+        puts: &[],
+        status: 3,
+        printed: "read fault\n",
+        output: None,
+        records: None,
+    },
+    Case {
+        words: PRESOLVE,
+        input: SMALL,
+        reads: &[],
+        writes: &[1],
+        puts: &[],
+        status: 4,
+        printed: "write fault\n",
+        output: None,
+        records: None,
+    },
+    Case {
+        words: PRESOLVE,
+        input: SMALL,
+        reads: &[],
+        writes: &[2],
+        puts: &[],
+        status: 4,
+        printed: "write fault\n",
+        output: Some(SMALL_REDUCED),
+        records: None,
+    },
+    Case {
+        words: PRESOLVE,
+        input: SMALL,
+        reads: &[],
+        writes: &[],
+        puts: &[1],
+        status: 4,
+        printed: "",
+        output: Some(SMALL_REDUCED),
+        records: Some(SMALL_RECORDS),
+    },
+    // Words that are no command.
+    Case {
+        words: &["gen", "1", "50", "80"],
+        input: SMALL,
+        reads: &[],
+        writes: &[],
+        puts: &[],
+        status: 1,
+        printed: USAGE,
+        output: None,
+        records: None,
+    },
+];
+
+fn held(
+    alloc: Global,
+    name: &str,
+    text: Option<&str>,
+    room: Option<u64>,
+) -> Result<Held, AllocError> {
+    let bytes = match text {
+        Some(text) => Some(text.as_bytes().to_vec(alloc)?),
+        None => None,
+    };
+    Ok(Held {
+        name: String::from_str(alloc, name)?,
+        bytes,
+        room,
+    })
+}
+
+fn words_of(alloc: Global, given: &[&str]) -> Result<Vec<String>, AllocError> {
+    let mut words = Vec::new(alloc);
+    words.push(String::from_str(alloc, "papilo")?)?;
+    for word in given {
+        words.push(String::from_str(alloc, word)?)?;
+    }
+    Ok(words)
+}
+
+#[test]
+fn each_status(rt: HostRuntime) -> Result<(), Fail> {
+    let alloc = rt.alloc();
+    for case in &CASES {
+        let words = words_of(alloc, case.words)?;
+        let input = held(alloc, "IN", Some(case.input), None)?;
+        let output = held(alloc, "OUT", None, Some(1000))?;
+        let records = held(alloc, "REC", None, Some(1000))?;
+        let held = [input, output, records];
+        assert!(rt; names_differ(&held));
+        let mut files = MemFiles::new(alloc, &held, case.reads, case.writes)?;
+        let mut out = MemSink::new(alloc, 1000, case.puts)?;
+        let status = run(&rt, alloc, &words, &mut files, &mut out, &OpenGate);
+        assert_eq!(rt; status, case.status, "at {:?}", case.words);
+        assert_eq!(rt; out.taken(), case.printed.as_bytes());
+        assert_eq!(rt; files.bytes("OUT"), case.output.map(|text| text.as_bytes()));
+        assert_eq!(rt;
+            files.bytes("REC"),
+            case.records.map(|text| text.as_bytes())
+        );
+    }
+    Ok(())
+}
+
+// One byte more than is read.
+#[test]
+fn too_long(rt: HostRuntime) -> Result<(), Fail> {
+    let alloc = rt.alloc();
+    let words = words_of(alloc, PRESOLVE)?;
+    let input = Held {
+        name: String::from_str(alloc, "IN")?,
+        bytes: Some(vec![in alloc; b'*'; 67_108_865]?),
+        room: None,
+    };
+    let held = [input];
+    assert!(rt; names_differ(&held));
+    let mut files = MemFiles::new(alloc, &held, &[], &[])?;
+    let mut out = MemSink::new(alloc, 100, &[])?;
+    assert_eq!(rt; run(&rt, alloc, &words, &mut files, &mut out, &OpenGate), 2);
+    assert_eq!(rt; out.taken(), b"error M17\n".as_slice());
+    Ok(())
+}

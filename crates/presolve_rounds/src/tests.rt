@@ -1,0 +1,176 @@
+//! Programs worked by hand.
+
+use crate::{End, Options, Presolved, presolve};
+use fractions::Numbers;
+use fractions::ext::Ext;
+use fractions::frac::Frac;
+use fractions::whole::Whole;
+use lp_model::{ColumnDef, Name, Program, RowDef, Sense, Term, Terms};
+use std::alloc::{AllocError, Global};
+use std::process::Abort;
+use std::test::Fail;
+use undo_records::Undo;
+
+/// A program of columns from 0 on, and what becomes of it.
+#[derive(Drop)]
+struct Case<'a> {
+    sense: Sense,
+    sides: &'a [(Option<i32>, Option<i32>)],
+    /// Costs and entries.
+    columns: &'a [(i32, &'a [(u32, i32)])],
+    limit: u64,
+    /// The rules by number, with their row and column.
+    applied: &'a [(u8, u32, u32)],
+    offset: i32,
+    end: End,
+    /// The rows and the columns left.
+    left: (usize, usize),
+}
+
+fn number(n: i32) -> Frac {
+    Frac::whole(Whole::new(i128::from(n)))
+}
+
+fn end_at(n: Option<i32>) -> Ext {
+    match n {
+        None => Ext::none(),
+        Some(n) => Ext::at(number(n)),
+    }
+}
+
+fn program(alloc: Global, case: &Case<'_>) -> Result<Program, AllocError> {
+    let mut rows = Vec::new(alloc);
+    for (lower, upper) in case.sides {
+        rows.push(RowDef {
+            name: Name::from_slice(alloc, b"row")?,
+            lower: end_at(*lower),
+            upper: end_at(*upper),
+        })?;
+    }
+    let mut columns = Vec::new(alloc);
+    for (cost, entries) in case.columns {
+        let mut terms = Vec::new(alloc);
+        for (id, value) in *entries {
+            terms.push(Term {
+                id: *id,
+                value: number(*value),
+            })?;
+        }
+        columns.push(ColumnDef {
+            name: Name::from_slice(alloc, b"column")?,
+            cost: number(*cost),
+            lower: Ext::at(Frac::zero()),
+            upper: Ext::none(),
+            whole: false,
+            entries: Terms::new(terms),
+        })?;
+    }
+    let objective = Name::from_slice(alloc, b"cost")?;
+    Ok(Program::new(case.sense, objective, number(7), rows, columns))
+}
+
+/// The number of a rule, with its row and column.
+fn applied(undo: &Undo) -> (u8, u32, u32) {
+    match undo {
+        Undo::EmptyRow { row } => (1, *row, 0),
+        Undo::SingletonRow { row, column, .. } => (2, *row, *column),
+        Undo::FixedColumn { column, .. } => (3, 0, *column),
+    }
+}
+
+fn check(rt: &impl Abort, case: &Case<'_>, made: &Presolved) {
+    assert!(rt; made.end == case.end);
+    assert!(rt; made.offset.is_same(&number(case.offset)));
+    assert!(rt; made.program.constant().is_same(&number(7)));
+    assert_eq!(rt; made.program.rows().len(), case.left.0);
+    assert_eq!(rt; made.program.columns().len(), case.left.1);
+    let undos = made.records.undos();
+    assert_eq!(rt; undos.len(), case.applied.len());
+    for (undo, wanted) in undos.iter().zip(case.applied) {
+        assert!(rt; applied(undo) == *wanted);
+    }
+}
+
+#[test]
+fn reduces_programs(rt: HostRuntime) -> Result<(), Fail> {
+    let alloc = rt.alloc();
+    let fixpoint = End::Fixpoint { skipped: 0 };
+    let chain: &[(i32, &[(u32, i32)])] = &[(1, &[(0, 1), (1, 1)]), (2, &[(1, 1)])];
+    let cases = [
+        // min x + 2y; x = 3; x + y >= 5
+        Case {
+            sense: Sense::Min,
+            sides: &[(Some(3), Some(3)), (Some(5), None)],
+            columns: chain,
+            limit: 100,
+            applied: &[(2, 0, 0), (3, 0, 0), (2, 1, 1)],
+            offset: 3,
+            end: fixpoint,
+            left: (0, 1),
+        },
+        // the same for max: costs and offset in the file's sense
+        Case {
+            sense: Sense::Max,
+            sides: &[(Some(3), Some(3)), (Some(5), None)],
+            columns: chain,
+            limit: 100,
+            applied: &[(2, 0, 0), (3, 0, 0), (2, 1, 1)],
+            offset: 3,
+            end: fixpoint,
+            left: (0, 1),
+        },
+        // the same, cut off
+        Case {
+            sense: Sense::Min,
+            sides: &[(Some(3), Some(3)), (Some(5), None)],
+            columns: chain,
+            limit: 1,
+            applied: &[(2, 0, 0)],
+            offset: 0,
+            end: End::LimitReached,
+            left: (1, 2),
+        },
+        // min -x; 3x <= 1: 1/3 is no decimal number
+        Case {
+            sense: Sense::Min,
+            sides: &[(None, Some(1))],
+            columns: &[(-1, &[(0, 3)])],
+            limit: 100,
+            applied: &[],
+            offset: 0,
+            end: End::Fixpoint { skipped: 1 },
+            left: (1, 1),
+        },
+        // -2x >= -4 gives x <= 2; 0 >= -1 has no entries
+        Case {
+            sense: Sense::Min,
+            sides: &[(Some(-4), None), (Some(-1), None)],
+            columns: &[(1, &[(0, -2)])],
+            limit: 100,
+            applied: &[(1, 1, 0), (2, 0, 0)],
+            offset: 0,
+            end: fixpoint,
+            left: (0, 1),
+        },
+        // nothing at all
+        Case {
+            sense: Sense::Min,
+            sides: &[],
+            columns: &[],
+            limit: 100,
+            applied: &[],
+            offset: 0,
+            end: fixpoint,
+            left: (0, 0),
+        },
+    ];
+    for case in &cases {
+        let options = Options {
+            numbers: Numbers::Decimal,
+            limit: case.limit,
+        };
+        let made = presolve(alloc, program(alloc, case)?, &options)?;
+        check(&rt, case, &made);
+    }
+    Ok(())
+}

@@ -1,0 +1,71 @@
+-- Laws of the less and the greater of two numbers, and of the distance from 0.
+use Rattle.std.proofs.Common.{◌≡◌, pos, Bool, true, false, if◌then◌else◌, ◌⊎◌, inl, inr, [], ◌∷◌, sym, refl, ap, ◌∙◌, subst, true≢false}
+use Rattle.rational.specs.Ring.{ring, v, num, ◌:-◌, inv}
+use Rattle.rational.specs.Number.{Number, rational, neg_ℚ, zero_ℚ}
+use Rattle.rational.specs.Order.{◌≤ℚ◌, ≤ℚ_refl, ≤ℚ_trans, ≤ℚ-by, ≤ℚ_cases, <ℚ-≤ℚ}
+use Rattle.rational.specs.Compare.{le_ℚ}
+use Rattle.rational.specs.MinMax.{min_ℚ, max_ℚ, abs_ℚ}
+use Rattle.rational.proofs.Comparisons.{le_ℚ-is}
+
+other : (p q : Number) → le_ℚ p q ≡ false → q ≤ℚ p
+other p q e = elim (≤ℚ_cases p q) [ inl h ↦ absurd (true≢false (sym ((le_ℚ-is p q).1 h) ∙ e)) | inr h ↦ <ℚ-≤ℚ h ]
+
+-- which of the two it is, and why
+pub min_ℚ_cases : (p q : Number) → ((min_ℚ p q ≡ p) × (p ≤ℚ q)) ⊎ ((min_ℚ p q ≡ q) × (q ≤ℚ p))
+min_ℚ_cases p q = by (le_ℚ p q) refl
+  where
+    by : (b : Bool) → le_ℚ p q ≡ b → ((min_ℚ p q ≡ p) × (p ≤ℚ q)) ⊎ ((min_ℚ p q ≡ q) × (q ≤ℚ p))
+    by true e = inl (ap (λ (b : Bool). if b then p else q) e, (le_ℚ-is p q).0 e)
+    by false e = inr (ap (λ (b : Bool). if b then p else q) e, other p q e)
+
+pub max_ℚ_cases : (p q : Number) → ((max_ℚ p q ≡ q) × (p ≤ℚ q)) ⊎ ((max_ℚ p q ≡ p) × (q ≤ℚ p))
+max_ℚ_cases p q = by (le_ℚ p q) refl
+  where
+    by : (b : Bool) → le_ℚ p q ≡ b → ((max_ℚ p q ≡ q) × (p ≤ℚ q)) ⊎ ((max_ℚ p q ≡ p) × (q ≤ℚ p))
+    by true e = inl (ap (λ (b : Bool). if b then q else p) e, (le_ℚ-is p q).0 e)
+    by false e = inr (ap (λ (b : Bool). if b then q else p) e, other p q e)
+
+pub min_ℚ-≤_left : (p q : Number) → min_ℚ p q ≤ℚ p
+min_ℚ-≤_left p q = elim (min_ℚ_cases p q) [ inl h ↦ subst (λ z. z ≤ℚ p) (sym h.0) (≤ℚ_refl p) | inr h ↦ subst (λ z. z ≤ℚ p) (sym h.0) h.1 ]
+
+pub min_ℚ-≤_right : (p q : Number) → min_ℚ p q ≤ℚ q
+min_ℚ-≤_right p q = elim (min_ℚ_cases p q) [ inl h ↦ subst (λ z. z ≤ℚ q) (sym h.0) h.1 | inr h ↦ subst (λ z. z ≤ℚ q) (sym h.0) (≤ℚ_refl q) ]
+
+pub ≤ℚ-min_ℚ : {p q r : Number} → r ≤ℚ p → r ≤ℚ q → r ≤ℚ min_ℚ p q
+≤ℚ-min_ℚ {p} {q} {r} h k = elim (min_ℚ_cases p q) [ inl m ↦ subst (λ z. r ≤ℚ z) (sym m.0) h | inr m ↦ subst (λ z. r ≤ℚ z) (sym m.0) k ]
+
+pub ≤ℚ-max_ℚ_left : (p q : Number) → p ≤ℚ max_ℚ p q
+≤ℚ-max_ℚ_left p q = elim (max_ℚ_cases p q) [ inl h ↦ subst (λ z. p ≤ℚ z) (sym h.0) h.1 | inr h ↦ subst (λ z. p ≤ℚ z) (sym h.0) (≤ℚ_refl p) ]
+
+pub ≤ℚ-max_ℚ_right : (p q : Number) → q ≤ℚ max_ℚ p q
+≤ℚ-max_ℚ_right p q = elim (max_ℚ_cases p q) [ inl h ↦ subst (λ z. q ≤ℚ z) (sym h.0) (≤ℚ_refl q) | inr h ↦ subst (λ z. q ≤ℚ z) (sym h.0) h.1 ]
+
+pub max_ℚ-≤ : {p q r : Number} → p ≤ℚ r → q ≤ℚ r → max_ℚ p q ≤ℚ r
+max_ℚ-≤ {p} {q} {r} h k = elim (max_ℚ_cases p q) [ inl m ↦ subst (λ z. z ≤ℚ r) (sym m.0) k | inr m ↦ subst (λ z. z ≤ℚ r) (sym m.0) h ]
+
+-- ---- the distance from 0
+pub abs_ℚ_cases : (q : Number) → ((abs_ℚ q ≡ q) × (zero_ℚ ≤ℚ q)) ⊎ ((abs_ℚ q ≡ neg_ℚ q) × (q ≤ℚ zero_ℚ))
+abs_ℚ_cases q = by (le_ℚ zero_ℚ q) refl
+  where
+    by : (b : Bool) → le_ℚ zero_ℚ q ≡ b → ((abs_ℚ q ≡ q) × (zero_ℚ ≤ℚ q)) ⊎ ((abs_ℚ q ≡ neg_ℚ q) × (q ≤ℚ zero_ℚ))
+    by true e = inl (ap (λ (b : Bool). if b then q else neg_ℚ q) e, (le_ℚ-is zero_ℚ q).0 e)
+    by false e = inr (ap (λ (b : Bool). if b then q else neg_ℚ q) e, other zero_ℚ q e)
+
+up_to : (q : Number) → q ≤ℚ zero_ℚ → zero_ℚ ≤ℚ neg_ℚ q
+up_to q h = ≤ℚ-by q zero_ℚ zero_ℚ (neg_ℚ q) (ring rational (q ∷ []) (num (pos 0) :- v 0) (inv (v 0) :- num (pos 0)) refl) h
+
+down_to : (q : Number) → zero_ℚ ≤ℚ q → neg_ℚ q ≤ℚ zero_ℚ
+down_to q h = ≤ℚ-by zero_ℚ q (neg_ℚ q) zero_ℚ (ring rational (q ∷ []) (v 0 :- num (pos 0)) (num (pos 0) :- inv (v 0)) refl) h
+
+pub abs_ℚ_pos : (q : Number) → zero_ℚ ≤ℚ abs_ℚ q
+abs_ℚ_pos q = elim (abs_ℚ_cases q) [ inl h ↦ subst (λ z. zero_ℚ ≤ℚ z) (sym h.0) h.1 | inr h ↦ subst (λ z. zero_ℚ ≤ℚ z) (sym h.0) (up_to q h.1) ]
+
+pub ≤ℚ-abs_ℚ : (q : Number) → q ≤ℚ abs_ℚ q
+≤ℚ-abs_ℚ q = elim (abs_ℚ_cases q) [ inl h ↦ subst (λ z. q ≤ℚ z) (sym h.0) (≤ℚ_refl q) | inr h ↦ subst (λ z. q ≤ℚ z) (sym h.0) (≤ℚ_trans h.1 (up_to q h.1)) ]
+
+pub neg_ℚ-≤-abs_ℚ : (q : Number) → neg_ℚ q ≤ℚ abs_ℚ q
+neg_ℚ-≤-abs_ℚ q = elim (abs_ℚ_cases q) [ inl h ↦ subst (λ z. neg_ℚ q ≤ℚ z) (sym h.0) (≤ℚ_trans (down_to q h.1) h.1) | inr h ↦ subst (λ z. neg_ℚ q ≤ℚ z) (sym h.0) (≤ℚ_refl (neg_ℚ q)) ]
+
+-- a distance is within r where the number and its negative are
+pub abs_ℚ-≤ : {q r : Number} → q ≤ℚ r → neg_ℚ q ≤ℚ r → abs_ℚ q ≤ℚ r
+abs_ℚ-≤ {q} {r} h k = elim (abs_ℚ_cases q) [ inl m ↦ subst (λ z. z ≤ℚ r) (sym m.0) h | inr m ↦ subst (λ z. z ≤ℚ r) (sym m.0) k ]

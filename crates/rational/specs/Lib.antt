@@ -1,0 +1,16 @@
+pub mod WholeLaws
+pub mod Ring
+pub mod Number
+pub mod Order
+pub mod Linear
+pub mod Gcd
+pub mod Divisors
+pub mod Lowest
+pub mod Compare
+pub mod Division
+pub mod Inverse
+pub mod Floor
+pub mod MinMax
+pub mod Ends
+pub mod Decimal
+pub mod Total

@@ -1,0 +1,31 @@
+-- Words and lines behind other bytes.
+use Rattle.std.proofs.Common.{◌≡◌, ℕ, List, [], ◌∷◌, ◌++◌, sym, ap, ◌∙◌, append_assoc}
+use Rattle.std.proofs.lemmas.List.{append-nil}
+use Rattle.std.specs.Prelude.{codes}
+use Rattle.undo_records.specs.Postsolve.{Postsolve}
+use Rattle.record_file.specs.RecordText.{Line, spaced, line_text, lines_text, header_lines, label_lines, offset_line, undo_lines, end_line, record_text}
+use Rattle.record_file.specs.Onto.{words_onto}
+
+pub words_onto_is : (bytes : List ℕ) (ws : List (List ℕ)) → words_onto bytes ws ≡ bytes ++ spaced ws
+words_onto_is bytes [] = sym (append-nil bytes)
+words_onto_is bytes (w ∷ ws) = words_onto_is (bytes ++ 32 ∷ w) ws ∙ append_assoc bytes (32 ∷ w) (spaced ws)
+
+-- a line behind other bytes
+pub line_onto_is : (bytes first : List ℕ) (ws : List (List ℕ)) → words_onto (bytes ++ first) ws ++ 10 ∷ [] ≡ bytes ++ ((first ++ spaced ws) ++ 10 ∷ [])
+line_onto_is bytes first ws =
+    ap (λ x. x ++ 10 ∷ []) (words_onto_is (bytes ++ first) ws ∙ append_assoc bytes first (spaced ws))
+    ∙ append_assoc bytes (first ++ spaced ws) (10 ∷ [])
+
+pub lines_text_append : (ls ms : List Line) → lines_text (ls ++ ms) ≡ lines_text ls ++ lines_text ms
+lines_text_append [] ms = λ i. lines_text ms
+lines_text_append (l ∷ ls) ms =
+    ap (λ x. line_text l ++ x) (lines_text_append ls ms) ∙ sym (append_assoc (line_text l) (lines_text ls) (lines_text ms))
+
+-- the sections one after another are the record text
+pub sections_are : (p : Postsolve) → ((((lines_text (header_lines p.sense) ++ lines_text (label_lines (codes "columns") p.columns)) ++ lines_text (label_lines (codes "rows") p.rows)) ++ line_text (offset_line p.offset)) ++ lines_text (undo_lines p.undos)) ++ codes "end\n" ≡ record_text p
+unfolding record_text
+sections_are p = joined
+    (header_lines p.sense) (label_lines (codes "columns") p.columns) (label_lines (codes "rows") p.rows) (offset_line p.offset) (undo_lines p.undos) end_line
+  where
+    joined : (hs bs cs : List Line) (d : Line) (es : List Line) (f : Line) → ((((lines_text hs ++ lines_text bs) ++ lines_text cs) ++ line_text d) ++ lines_text es) ++ line_text f ≡ lines_text (hs ++ (bs ++ (cs ++ d ∷ (es ++ f ∷ []))))
+    joined hs bs cs d es f = simp (lines_text_append, append_assoc, append-nil)

@@ -1,0 +1,3 @@
+pub mod Words
+pub mod RecordText
+pub mod Onto

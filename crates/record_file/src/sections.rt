@@ -1,0 +1,121 @@
+//! The sections of the record text.
+
+ghost use Rattle.std.specs.Prelude.{◌≡◌, ◌++◌, OnOk};
+ghost use Rattle.record_file.specs.Words.{rule_word, field_words};
+ghost use Rattle.record_file.specs.Onto.{words_onto};
+ghost use Rattle.record_file.specs.RecordText.{line_text, lines_text, header_lines, label_line, label_lines, offset_line, undo_line, undo_lines};
+
+use crate::words::{push_count, push_id, push_lower, push_ratio, push_terms, push_upper};
+use fractions::frac::Frac;
+use lp_model::Sense;
+use std::alloc::AllocError;
+use undo_records::{Label, Undo};
+
+/// Appends the lines in front of the columns.
+pub fn push_header(out: &mut Vec<u8>, sense: Sense) -> Result<(), AllocError>
+    ensures { OnOk result (out.new.items ≡ out.old.items ++ lines_text (header_lines sense)) }
+{
+    match sense {
+        Sense::Min => out.extend_from_slice(b"papilo-records 1\nsense min\nduals no\n"),
+        Sense::Max => out.extend_from_slice(b"papilo-records 1\nsense max\nduals no\n"),
+    }
+}
+
+/// Appends whether a row or a column is live, and its name.
+fn push_label(out: &mut Vec<u8>, label: &Label) -> Result<(), AllocError>
+    ensures { OnOk result (out.new.items ≡ out.old.items ++ line_text (label_line label.now)) }
+{
+    if label.live {
+        out.extend_from_slice(b"live ")?;
+    } else {
+        out.extend_from_slice(b"gone ")?;
+    }
+    out.extend_from_slice(label.name.as_bytes())?;
+    out.extend_from_slice(b"\n")
+}
+
+/// Appends a heading with the number of labels, and a line for each of them.
+pub fn push_labels(out: &mut Vec<u8>, heading: &[u8], labels: &[Label]) -> Result<(), AllocError>
+    ensures { OnOk result (out.new.items ≡ out.old.items ++ lines_text (label_lines heading.now labels.now)) }
+{
+    out.extend_from_slice(heading)?;
+    push_count(out, labels.len())?;
+    out.push(b'\n')?;
+    let mut rest = labels;
+    while let [label, after @ ..] = rest {
+        push_label(out, label)?;
+        rest = after;
+    }
+    Ok(())
+}
+
+/// Appends the offset.
+pub fn push_offset(out: &mut Vec<u8>, offset: &Frac) -> Result<(), AllocError>
+    ensures { OnOk result (out.new.items ≡ out.old.items ++ line_text (offset_line offset.now)) }
+{
+    out.extend_from_slice(b"offset ")?;
+    number_texts::push(out, offset)?;
+    out.extend_from_slice(b"\n")
+}
+
+/// Appends the words of a record.
+fn push_fields(out: &mut Vec<u8>, undo: &Undo) -> Result<(), AllocError>
+    ensures { OnOk result (out.new.items ≡ words_onto (out.old.items ++ rule_word undo.now) (field_words undo.now)) }
+{
+    match undo {
+        Undo::EmptyRow { row } => {
+            out.extend_from_slice(b"K1")?;
+            push_id(out, *row)
+        }
+        Undo::SingletonRow {
+            row,
+            column,
+            value,
+            lower,
+            upper,
+        } => {
+            out.extend_from_slice(b"K2")?;
+            push_id(out, *row)?;
+            push_id(out, *column)?;
+            push_ratio(out, value)?;
+            push_lower(out, *lower)?;
+            push_upper(out, *upper)
+        }
+        Undo::FixedColumn {
+            column,
+            value,
+            cost,
+            entries,
+        } => {
+            out.extend_from_slice(b"K3")?;
+            push_id(out, *column)?;
+            push_ratio(out, value)?;
+            push_ratio(out, cost)?;
+            push_terms(out, entries.as_slice())
+        }
+    }
+}
+
+/// Appends a record's line.
+#[tactic(auto, using(crate::proofs::OntoLaws::line_onto_is))]
+fn push_undo(out: &mut Vec<u8>, undo: &Undo) -> Result<(), AllocError>
+    ensures { OnOk result (out.new.items ≡ out.old.items ++ line_text (undo_line undo.now)) }
+{
+    push_fields(out, undo)?;
+    out.extend_from_slice(b"\n")
+}
+
+/// Appends the number of records, and a line for each of them.
+pub fn push_undos(out: &mut Vec<u8>, undos: &[Undo]) -> Result<(), AllocError>
+    ensures { OnOk result (out.new.items ≡ out.old.items ++ lines_text (undo_lines undos.now)) }
+{
+    out.extend_from_slice(b"records")?;
+    push_count(out, undos.len())?;
+    out.push(b'\n')?;
+    let mut rest = undos;
+    while let [undo, after @ ..] = rest {
+        push_undo(out, undo)?;
+        rest = after;
+    }
+    Ok(())
+}

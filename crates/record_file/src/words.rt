@@ -1,0 +1,91 @@
+//! The words of a line, each behind a space.
+
+ghost use Rattle.std.specs.Prelude.{◌≡◌, ◌++◌, ◌∷◌, OnOk};
+ghost use Rattle.std.specs.Fmt.{decimal};
+ghost use Rattle.record_file.specs.Words.{ratio_word, lower_word, upper_word, list_words};
+ghost use Rattle.record_file.specs.Onto.{words_onto};
+
+use fractions::ext::Ext;
+use fractions::frac::Frac;
+use itoa::Buffer;
+use lp_model::Term;
+use std::alloc::AllocError;
+
+/// Appends a natural number.
+fn push_natural(out: &mut Vec<u8>, number: u128) -> Result<(), AllocError>
+    ensures { OnOk result (out.new.items ≡ out.old.items ++ decimal number) }
+{
+    let mut buffer = Buffer::new();
+    if number < 1 << 64 {
+        out.extend_from_slice(buffer.format(number as u64).as_bytes())
+    } else {
+        out.extend_from_slice(buffer.format(number).as_bytes())
+    }
+}
+
+/// Appends a count.
+pub fn push_count(out: &mut Vec<u8>, count: usize) -> Result<(), AllocError>
+    ensures { OnOk result (out.new.items ≡ out.old.items ++ 32 ∷ decimal count) }
+{
+    out.push(b' ')?;
+    push_natural(out, count as u128)
+}
+
+/// Appends the id of a row or a column.
+pub fn push_id(out: &mut Vec<u8>, id: u32) -> Result<(), AllocError>
+    ensures { OnOk result (out.new.items ≡ out.old.items ++ 32 ∷ decimal id) }
+{
+    out.push(b' ')?;
+    push_natural(out, id as u128)
+}
+
+/// Appends a number as `n` or `n/d`.
+pub fn push_ratio(out: &mut Vec<u8>, number: &Frac) -> Result<(), AllocError>
+    ensures { OnOk result (out.new.items ≡ out.old.items ++ 32 ∷ ratio_word number.now) }
+{
+    let parts = number.parts();
+    out.push(b' ')?;
+    if parts.num.is_negative() {
+        out.push(b'-')?;
+    }
+    push_natural(out, parts.num.size())?;
+    if parts.den != 1 {
+        out.push(b'/')?;
+        push_natural(out, parts.den)?;
+    }
+    Ok(())
+}
+
+/// Appends a lower bound.
+pub fn push_lower(out: &mut Vec<u8>, bound: Ext) -> Result<(), AllocError>
+    ensures { OnOk result (out.new.items ≡ out.old.items ++ 32 ∷ lower_word bound) }
+{
+    match bound.number() {
+        None => out.extend_from_slice(b" -inf"),
+        Some(number) => push_ratio(out, &number),
+    }
+}
+
+/// Appends an upper bound.
+pub fn push_upper(out: &mut Vec<u8>, bound: Ext) -> Result<(), AllocError>
+    ensures { OnOk result (out.new.items ≡ out.old.items ++ 32 ∷ upper_word bound) }
+{
+    match bound.number() {
+        None => out.extend_from_slice(b" inf"),
+        Some(number) => push_ratio(out, &number),
+    }
+}
+
+/// Appends how many terms there are, and each with its id and its value.
+pub fn push_terms(out: &mut Vec<u8>, terms: &[Term]) -> Result<(), AllocError>
+    ensures { OnOk result (out.new.items ≡ words_onto out.old.items (list_words terms.now)) }
+{
+    push_count(out, terms.len())?;
+    let mut rest = terms;
+    while let [term, after @ ..] = rest {
+        push_id(out, term.id)?;
+        push_ratio(out, &term.value)?;
+        rest = after;
+    }
+    Ok(())
+}

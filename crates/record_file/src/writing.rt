@@ -1,0 +1,24 @@
+//! Records to text.
+
+ghost use Rattle.std.specs.Prelude.{◌≡◌, IfOk};
+ghost use Rattle.record_file.specs.RecordText.{record_text};
+
+use crate::sections::{push_header, push_labels, push_offset, push_undos};
+use std::alloc::{AllocError, Global};
+use undo_records::Records;
+
+/// The one text of records: lines that end with a line feed, words with one space between, ids of the original program, numbers whole or
+/// as `n/d` in lowest terms, and the offset as numbers are written in programs.
+#[tactic(auto, using(crate::proofs::OntoLaws::sections_are))]
+pub fn write_records(alloc: Global, records: &Records) -> Result<Vec<u8>, AllocError>
+    ensures { IfOk result (λ text. text.items ≡ record_text records.now) }
+{
+    let mut out = Vec::new(alloc);
+    push_header(&mut out, records.sense())?;
+    push_labels(&mut out, b"columns", records.columns())?;
+    push_labels(&mut out, b"rows", records.rows())?;
+    push_offset(&mut out, &records.offset())?;
+    push_undos(&mut out, records.undos())?;
+    out.extend_from_slice(b"end\n")?;
+    Ok(out)
+}

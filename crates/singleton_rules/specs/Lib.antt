@@ -1,0 +1,5 @@
+pub mod Sides
+pub mod Enabled
+pub mod Singletons
+pub mod FixedColumns
+pub mod Records

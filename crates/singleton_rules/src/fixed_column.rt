@@ -1,0 +1,138 @@
+//! K3: a fixed column.
+
+ghost use Rattle.std.specs.Prelude.{◌≡◌, OnErr, IfOk, true, All, Some};
+ghost use Rattle.singleton_rules.specs.FixedColumns.{shifted_of, width};
+ghost use Rattle.singleton_rules.specs.Enabled.{enabled};
+ghost use Rattle.singleton_rules.specs.Records.{Applies};
+ghost use Rattle.singleton_rules.specs.declared.instance.Instance.TheVariants.{FixedColumn};
+ghost use Rattle.sparse_problem.specs.Problems.{row_at, SidesAlone};
+
+use crate::ends::{can_write, can_write_end, less};
+use crate::instance::Refusal;
+use fractions::ext::Ext;
+use fractions::frac::Frac;
+use fractions::{Numbers, Past};
+use lp_model::Term;
+use sparse_problem::{Problem, Sides};
+use std::alloc::{AllocError, Global};
+use undo_records::Undo;
+
+/// The sides of a row without a fixed column, and the width between them where they are finite and differ.
+#[derive(Clone, Copy)]
+struct NewSides {
+    row: u32,
+    lower: Ext,
+    upper: Ext,
+    width: Ext,
+}
+
+/// The width between two finite ends that differ. Past where it is, or where the upper end as the lower one plus the width is.
+fn width_of(lower: &Ext, upper: &Ext) -> Result<Ext, Past>
+    ensures { IfOk result (λ w. w ≡ width lower.now upper.now) }
+{
+    match lower.number() {
+        None => Ok(Ext::none()),
+        Some(from) => match upper.number() {
+            None => Ok(Ext::none()),
+            Some(to) => finite_width(&from, &to),
+        },
+    }
+}
+
+/// The width between two numbers, if they differ.
+fn finite_width(from: &Frac, to: &Frac) -> Result<Ext, Past>
+    ensures { IfOk result (λ w. w ≡ width (Some from.now) (Some to.now)) }
+{
+    if from.is_same(to) {
+        return Ok(Ext::none());
+    }
+    let width = to.sub(from)?;
+    let _ = from.add(&width)?;
+    Ok(Ext::at(width))
+}
+
+/// The sides of a row less its entry times the value. A side that is infinite stays.
+fn less_term(sides: &Sides, term: &Term, value: &Frac) -> Result<NewSides, Past>
+    ensures { IfOk result (λ s. s ≡ shifted_of sides.now term.now value.now) }
+{
+    let product = term.value.mul(value)?;
+    let lower = less(&sides.lower, &product)?;
+    let upper = less(&sides.upper, &product)?;
+    let width = width_of(&lower, &upper)?;
+    Ok(NewSides {
+        row: term.id,
+        lower,
+        upper,
+        width,
+    })
+}
+
+/// Whether the numbers of a row's new sides may be written.
+fn can_write_sides(numbers: Numbers, sides: &NewSides) -> bool {
+    can_write_end(numbers, &sides.lower)
+        && can_write_end(numbers, &sides.upper)
+        && can_write_end(numbers, &sides.width)
+}
+
+/// The new sides of the rows of a fixed column.
+fn all_new_sides(
+    alloc: Global,
+    problem: &Problem,
+    terms: &[Term],
+    value: &Frac,
+) -> Result<Vec<NewSides>, Refusal>
+    requires { All (λ t. (row_at problem.now t.id).live ≡ true) terms.now }
+    ensures { IfOk result (λ all. All (λ s. (row_at problem.now s.row).live ≡ true) all.items) }
+{
+    let mut all = Vec::with_capacity(alloc, terms.len())?;
+    for term in terms {
+        let sides = problem.sides(term.id);
+        let moved = less_term(&sides, term, value)?;
+        all.push(moved).map_err(AllocError::from)?;
+    }
+    Ok(all)
+}
+
+/// Gives the rows their new sides.
+fn shift_rows(problem: &mut Problem, all: &[NewSides])
+    requires { All (λ s. (row_at problem.old s.row).live ≡ true) all.now }
+    ensures { SidesAlone problem.old problem.new }
+{
+    for row in all {
+        problem.set_sides(row.row, row.lower, row.upper);
+    }
+}
+
+/// Puts a fixed column's value into the sides of its rows and the offset, and deletes it.
+///
+/// # Errors
+/// Past where a side's product or difference, a width, or the offset is; else NotDecimal where a side or a width may not be written.
+pub fn substitute_value(
+    problem: &mut Problem,
+    alloc: Global,
+    column: u32,
+    numbers: Numbers,
+) -> Result<Undo, Refusal>
+    requires { enabled problem.old (FixedColumn column) ≡ true }
+    ensures refused { OnErr result (problem.new ≡ problem.old) }
+    ensures applied { IfOk result (λ undo. Applies (FixedColumn column) problem.old undo problem.new) }
+{
+    let bounds = problem.bounds(column);
+    let value = bounds.lower.number().unwrap_or(Frac::zero());
+    let cost = problem.cost(column);
+    let entries = problem.column_entries(alloc, column)?;
+    let all = all_new_sides(alloc, problem, entries.as_slice(), &value)?;
+    let offset = problem.offset().add(&cost.mul(&value)?)?;
+    if !all.iter().all(|sides| can_write_sides(numbers, sides)) {
+        return Err(Refusal::NotDecimal);
+    }
+    shift_rows(problem, all.as_slice());
+    problem.delete_column(column);
+    problem.set_offset(offset);
+    Ok(Undo::FixedColumn {
+        column,
+        value,
+        cost,
+        entries,
+    })
+}

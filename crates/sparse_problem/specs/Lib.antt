@@ -1,0 +1,5 @@
+pub mod Grids
+pub mod Matrices
+pub mod Transposes
+pub mod Sparse
+pub mod Problems
