@@ -8,3 +8,4 @@ pub mod Sparse
 pub mod ProgramData
 pub mod Meaning
 pub mod Violations
+pub mod Room

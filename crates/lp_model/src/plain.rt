@@ -1,7 +1,10 @@
 //! A plain and slow program that judges a point of a small model: each value is the sum over all columns.
 
-ghost use Rattle.std.specs.Prelude.{◌≡◌, ◌↔◌, ◌⊎◌, ℕ, ◌<◌, length, IsTrue, IfOk, Option, Some, None, MatchOption, ◌≢◌, slice_index_or};
-ghost use Rattle.rational.specs.Number.{Number};
+ghost use Rattle.std.specs.Prelude.{◌≡◌, ◌↔◌, ◌⊎◌, ℕ, ◌<◌, length, IsTrue, IfOk, IsOk, Option, Some, None, MatchOption, ◌≢◌, slice_index_or};
+ghost use Rattle.rational.specs.Number.{◌+ℚ◌, ◌*ℚ◌};
+ghost use Rattle.rational.specs.Lowest.{Fits};
+ghost use Rattle.fractions.specs.FracWords.{SumFits};
+ghost use Rattle.lp_model.specs.Room.{ValueFits, ValuesFit, CostFits};
 ghost use Rattle.rational.specs.Order.{◌≤ℚ◌, ◌<ℚ◌};
 ghost use Rattle.rational.specs.Ends.{AtLeast, AtMost, Between};
 ghost use Rattle.rational.specs.Floor.{IsWhole};
@@ -54,33 +57,45 @@ pub fn number_at(terms: &[Term], id: usize) -> Frac
     Frac::zero()
 }
 
-/// The value of a row at a point: the sum over all columns of coefficient times number. `Past` where a step is past 128 bits.
+/// A sum with one more product.
+///
+/// # Errors
+/// [`Past`] exactly where the product or the sum has no room.
+fn with_product(sum: &Frac, factor: &Frac, number: &Frac) -> Result<Frac, Past>
+    ensures value { IfOk result (λ r. r ≡ sum.now +ℚ factor.now *ℚ number.now) }
+    ensures fits { IsOk result ↔ (Fits (factor.now *ℚ number.now) × SumFits sum.now (factor.now *ℚ number.now)) }
+{
+    let product = factor.mul(number)?;
+    sum.add(&product)
+}
+
+/// The value of a row at a point: the sum over all columns of coefficient times number. [`Past`] exactly where a step of it has no room.
 pub fn row_value(program: &Program, row: usize, point: &Point) -> Result<Frac, Past>
     requires { length point.now ≡ length program.now.columns }
-    ensures { IfOk result (λ v. v ≡ value_at (meaning program.now) row (vector_of point.now)) }
+    ensures value { IfOk result (λ v. v ≡ value_at (meaning program.now) row (vector_of point.now)) }
+    ensures fits { IsOk result ↔ ValueFits (meaning program.now) row (vector_of point.now) }
 {
     let columns = program.columns();
     let numbers = point.as_slice();
     let mut sum = Frac::zero();
     for j in 0..columns.len() {
         let coefficient = number_at(columns[j].entries.as_slice(), row);
-        let term = coefficient.mul(&numbers[j])?;
-        sum = sum.add(&term)?;
+        sum = with_product(&sum, &coefficient, &numbers[j])?;
     }
     Ok(sum)
 }
 
-/// The cost of a point: the sum of costs times numbers, then the constant. `Past` where a step is past 128 bits.
+/// The cost of a point: the sum of costs times numbers, then the constant. [`Past`] exactly where a step of it has no room.
 pub fn cost(program: &Program, point: &Point) -> Result<Frac, Past>
     requires { length point.now ≡ length program.now.columns }
-    ensures { IfOk result (λ c. c ≡ cost_at (meaning program.now) (vector_of point.now)) }
+    ensures value { IfOk result (λ c. c ≡ cost_at (meaning program.now) (vector_of point.now)) }
+    ensures fits { IsOk result ↔ CostFits (meaning program.now) (vector_of point.now) }
 {
     let columns = program.columns();
     let numbers = point.as_slice();
     let mut sum = Frac::zero();
     for j in 0..columns.len() {
-        let term = columns[j].cost.mul(&numbers[j])?;
-        sum = sum.add(&term)?;
+        sum = with_product(&sum, &columns[j].cost, &numbers[j])?;
     }
     let constant = program.constant();
     sum.add(&constant)
@@ -153,7 +168,8 @@ fn column_violation(column: &ColumnDef, id: usize, value: Frac) -> Option<Violat
 /// The first row, by id, whose value is past a side.
 fn violated_row(program: &Program, point: &Point) -> Result<Option<Violation>, Past>
     requires { length point.now ≡ length program.now.columns }
-    ensures { IfOk result (λ v. MatchOption v (RowsHold (meaning program.now) (vector_of point.now)) (λ found. Violates (meaning program.now) (vector_of point.now) found)) }
+    ensures found { IfOk result (λ v. MatchOption v (RowsHold (meaning program.now) (vector_of point.now)) (λ found. Violates (meaning program.now) (vector_of point.now) found)) }
+    ensures fits { ValuesFit (meaning program.now) (vector_of point.now) → IsOk result }
 {
     let rows = program.rows();
     for i in 0..rows.len() {
@@ -185,10 +201,11 @@ fn violated_column(program: &Program, point: &Point) -> Option<Violation>
 }
 
 /// What the point does not meet: the first row by id, else the first column by id; none where the point is feasible.
-/// `Past` where a row's sum is past 128 bits.
+/// [`Past`] only where a row's value has no room.
 pub fn first_violation(program: &Program, point: &Point) -> Result<Option<Violation>, Past>
     requires { length point.now ≡ length program.now.columns }
-    ensures { IfOk result (λ v. Judged (meaning program.now) (vector_of point.now) v) }
+    ensures found { IfOk result (λ v. Judged (meaning program.now) (vector_of point.now) v) }
+    ensures fits { ValuesFit (meaning program.now) (vector_of point.now) → IsOk result }
 {
     match violated_row(program, point)? {
         Some(found) => Ok(Some(found)),
@@ -196,10 +213,11 @@ pub fn first_violation(program: &Program, point: &Point) -> Result<Option<Violat
     }
 }
 
-/// Whether the point is feasible. `Past` where a row's sum is past 128 bits.
+/// Whether the point is feasible. [`Past`] only where a row's value has no room.
 pub fn is_feasible(program: &Program, point: &Point) -> Result<bool, Past>
     requires { length point.now ≡ length program.now.columns }
-    ensures { IfOk result (λ b. IsTrue b ↔ Feasible (meaning program.now) (vector_of point.now)) }
+    ensures answer { IfOk result (λ b. IsTrue b ↔ Feasible (meaning program.now) (vector_of point.now)) }
+    ensures fits { ValuesFit (meaning program.now) (vector_of point.now) → IsOk result }
 {
     Ok(first_violation(program, point)?.is_none())
 }

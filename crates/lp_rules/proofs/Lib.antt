@@ -1,0 +1,4 @@
+pub mod Rows
+pub mod Singletons
+pub mod Columns
+pub mod Lists
