@@ -12,7 +12,6 @@ use std::test::Fail;
 use undo_records::Undo;
 
 /// A program of columns from 0 on, and what becomes of it.
-#[derive(Drop)]
 struct Case<'a> {
     sense: Sense,
     sides: &'a [(Option<i32>, Option<i32>)],
@@ -91,80 +90,84 @@ fn check(rt: &impl Abort, case: &Case<'_>, made: &Presolved) {
     }
 }
 
+const FIXPOINT: End = End::Fixpoint { skipped: 0 };
+
+/// x in both rows, y in the second.
+const CHAIN: &[(i32, &[(u32, i32)])] = &[(1, &[(0, 1), (1, 1)]), (2, &[(1, 1)])];
+
+const CASES: [Case<'static>; 6] = [
+    // min x + 2y; x = 3; x + y >= 5
+    Case {
+        sense: Sense::Min,
+        sides: &[(Some(3), Some(3)), (Some(5), None)],
+        columns: CHAIN,
+        limit: 100,
+        applied: &[(2, 0, 0), (3, 0, 0), (2, 1, 1)],
+        offset: 3,
+        end: FIXPOINT,
+        left: (0, 1),
+    },
+    // the same for max: costs and offset in the file's sense
+    Case {
+        sense: Sense::Max,
+        sides: &[(Some(3), Some(3)), (Some(5), None)],
+        columns: CHAIN,
+        limit: 100,
+        applied: &[(2, 0, 0), (3, 0, 0), (2, 1, 1)],
+        offset: 3,
+        end: FIXPOINT,
+        left: (0, 1),
+    },
+    // the same, cut off
+    Case {
+        sense: Sense::Min,
+        sides: &[(Some(3), Some(3)), (Some(5), None)],
+        columns: CHAIN,
+        limit: 1,
+        applied: &[(2, 0, 0)],
+        offset: 0,
+        end: End::LimitReached,
+        left: (1, 2),
+    },
+    // min -x; 3x <= 1: 1/3 is no decimal number
+    Case {
+        sense: Sense::Min,
+        sides: &[(None, Some(1))],
+        columns: &[(-1, &[(0, 3)])],
+        limit: 100,
+        applied: &[],
+        offset: 0,
+        end: End::Fixpoint { skipped: 1 },
+        left: (1, 1),
+    },
+    // -2x >= -4 gives x <= 2; 0 >= -1 has no entries
+    Case {
+        sense: Sense::Min,
+        sides: &[(Some(-4), None), (Some(-1), None)],
+        columns: &[(1, &[(0, -2)])],
+        limit: 100,
+        applied: &[(1, 1, 0), (2, 0, 0)],
+        offset: 0,
+        end: FIXPOINT,
+        left: (0, 1),
+    },
+    // nothing at all
+    Case {
+        sense: Sense::Min,
+        sides: &[],
+        columns: &[],
+        limit: 100,
+        applied: &[],
+        offset: 0,
+        end: FIXPOINT,
+        left: (0, 0),
+    },
+];
+
 #[test]
 fn reduces_programs(rt: HostRuntime) -> Result<(), Fail> {
     let alloc = rt.alloc();
-    let fixpoint = End::Fixpoint { skipped: 0 };
-    let chain: &[(i32, &[(u32, i32)])] = &[(1, &[(0, 1), (1, 1)]), (2, &[(1, 1)])];
-    let cases = [
-        // min x + 2y; x = 3; x + y >= 5
-        Case {
-            sense: Sense::Min,
-            sides: &[(Some(3), Some(3)), (Some(5), None)],
-            columns: chain,
-            limit: 100,
-            applied: &[(2, 0, 0), (3, 0, 0), (2, 1, 1)],
-            offset: 3,
-            end: fixpoint,
-            left: (0, 1),
-        },
-        // the same for max: costs and offset in the file's sense
-        Case {
-            sense: Sense::Max,
-            sides: &[(Some(3), Some(3)), (Some(5), None)],
-            columns: chain,
-            limit: 100,
-            applied: &[(2, 0, 0), (3, 0, 0), (2, 1, 1)],
-            offset: 3,
-            end: fixpoint,
-            left: (0, 1),
-        },
-        // the same, cut off
-        Case {
-            sense: Sense::Min,
-            sides: &[(Some(3), Some(3)), (Some(5), None)],
-            columns: chain,
-            limit: 1,
-            applied: &[(2, 0, 0)],
-            offset: 0,
-            end: End::LimitReached,
-            left: (1, 2),
-        },
-        // min -x; 3x <= 1: 1/3 is no decimal number
-        Case {
-            sense: Sense::Min,
-            sides: &[(None, Some(1))],
-            columns: &[(-1, &[(0, 3)])],
-            limit: 100,
-            applied: &[],
-            offset: 0,
-            end: End::Fixpoint { skipped: 1 },
-            left: (1, 1),
-        },
-        // -2x >= -4 gives x <= 2; 0 >= -1 has no entries
-        Case {
-            sense: Sense::Min,
-            sides: &[(Some(-4), None), (Some(-1), None)],
-            columns: &[(1, &[(0, -2)])],
-            limit: 100,
-            applied: &[(1, 1, 0), (2, 0, 0)],
-            offset: 0,
-            end: fixpoint,
-            left: (0, 1),
-        },
-        // nothing at all
-        Case {
-            sense: Sense::Min,
-            sides: &[],
-            columns: &[],
-            limit: 100,
-            applied: &[],
-            offset: 0,
-            end: fixpoint,
-            left: (0, 0),
-        },
-    ];
-    for case in &cases {
+    for case in &CASES {
         let options = Options {
             numbers: Numbers::Decimal,
             limit: case.limit,
