@@ -1,18 +1,27 @@
 -- The command line, as clap's own definitions speak of it, and what words ask for.
-use Rattle.std.specs.Prelude.{◌≢◌, List, [], ◌∷◌, codes, true, Bool, if◌then◌else◌, Option, Some, None, String, map, string_bytes}
+use Rattle.std.specs.Prelude.{◌≢◌, List, [], ◌∷◌, codes, true, false, Bool, if◌then◌else◌, Option, Some, None, String, map, string_bytes}
 use Rattle.std.specs.Option.{option_map}
 use Rattle.std.specs.Str.{bytes_eq}
 use Rattle.std.specs.declared.alloc.Global.{Global}
 use Rattle.clap.specs.Words.{App, Row, Rule, Text, first_of, new_app, new_rule, subcommand_of, takes, fault_of, Kinds, with_rule, with_subcommand}
-use Rattle.clap.specs.declared.builder.ArgAction.TheVariants.{Set}
+use Rattle.command_line.specs.declared.reading.PresolveOptions.{PresolveOptions}
+use Rattle.clap.specs.declared.builder.ArgAction.TheVariants.{Set, SetTrue}
 
 -- a required word
 abbrev pub word_rule : Text → Rule
 word_rule id = record (new_rule id) { action = Some Set; required = true }
 
+-- an option `--id`
+abbrev pub flag_rule : Text → Rule
+flag_rule id = record (new_rule id) { long = Some id; action = Some SetTrue }
+
 -- presolve IN OUT REC
+unfoldable pub presolve_words : App
+presolve_words = with_rule (with_rule (with_rule (new_app (codes "presolve")) (word_rule (codes "in"))) (word_rule (codes "out"))) (word_rule (codes "rec"))
+
+-- presolve IN OUT REC [--fractions] [--fixed]
 unfoldable pub presolve_app : App
-presolve_app = with_rule (with_rule (with_rule (new_app (codes "presolve")) (word_rule (codes "in"))) (word_rule (codes "out"))) (word_rule (codes "rec"))
+presolve_app = with_rule (with_rule presolve_words (flag_rule (codes "fractions"))) (flag_rule (codes "fixed"))
 
 -- the whole: one subcommand for each command
 unfoldable pub line_app : App
@@ -33,11 +42,20 @@ faults words = fault_of line_app words
 unfoldable pub found_in : List Text → Option (Text × List Row)
 found_in words = subcommand_of line_app words
 
--- the names that presolve works on
+-- the names that presolve works on, and the options
 pub record PresolveNames : Type 0 where
   pub input : Text
   pub output : Text
   pub records : Text
+  pub options : PresolveOptions
+
+-- an option is given where clap's value is `true`
+abbrev pub is_on : Option Text → Bool
+is_on None = false
+is_on (Some text) = bytes_eq text (codes "true")
+
+abbrev pub options_of : List Row → PresolveOptions
+options_of rows = record { fractions = is_on (first_of (codes "fractions") rows); fixed = is_on (first_of (codes "fixed") rows) }
 
 -- a command with its names
 pub data Request : Type 0 where
@@ -48,13 +66,13 @@ abbrev pub HasTwoOutputs : Request → Type 0
 HasTwoOutputs (Presolve names) = names.output ≢ names.records
 
 -- three names, of which OUT and REC differ
-abbrev pub presolve_names : Option Text → Option Text → Option Text → Option PresolveNames
-presolve_names (Some input) (Some output) (Some records) =
-    if bytes_eq output records then None else Some (record { input = input; output = output; records = records })
-presolve_names input output records = None
+abbrev pub presolve_names : Option Text → Option Text → Option Text → PresolveOptions → Option PresolveNames
+presolve_names (Some input) (Some output) (Some records) options =
+    if bytes_eq output records then None else Some (record { input = input; output = output; records = records; options = options })
+presolve_names input output records options = None
 
 abbrev pub presolve_of : List Row → Option PresolveNames
-presolve_of rows = presolve_names (first_of (codes "in") rows) (first_of (codes "out") rows) (first_of (codes "rec") rows)
+presolve_of rows = presolve_names (first_of (codes "in") rows) (first_of (codes "out") rows) (first_of (codes "rec") rows) (options_of rows)
 
 -- by the name of the subcommand
 abbrev pub selected_in : Option (Text × List Row) → Option Request

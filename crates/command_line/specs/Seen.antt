@@ -5,7 +5,7 @@ use Rattle.command_line.specs.declared.reading.Request.TheVariants as words
 use Rattle.command_line.specs.declared.reading.Request as declared
 
 abbrev pub names_of : PresolveWords → PresolveNames
-names_of words = record { input = words.input.now; output = words.output.now; records = words.records.now }
+names_of words = record { input = words.input.now; output = words.output.now; records = words.records.now; options = words.options }
 
 abbrev pub seen : declared.Request → Request
 seen (words.Presolve p) = Presolve (names_of p)

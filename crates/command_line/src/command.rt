@@ -2,7 +2,7 @@
 ghost use Rattle.std.specs.Prelude.{◌≡◌, ◌≢◌, [], Err, false, IfOk, OnOk, OnErr};
 ghost use Rattle.clap.specs.Words.{app_of, kind_of, rule_of, subcommand_rows_of};
 ghost use Rattle.clap.specs.declared.builder.command.Command.TheViews.{out-Command};
-ghost use Rattle.command_line.specs.Line.{faults, found_in, is_taken, line_app, presolve_app, texts, word_rule};
+ghost use Rattle.command_line.specs.Line.{faults, flag_rule, found_in, is_taken, line_app, presolve_app, presolve_words, texts, word_rule};
 
 use crate::Refusal;
 use clap::error::ErrorKind;
@@ -17,15 +17,33 @@ fn word<'a>(alloc: Global, id: &'a str) -> Arg<'a>
     Arg::new(alloc, id).action(ArgAction::Set).required(true)
 }
 
-#[tactic(auto, unfolding(crate::specs::Line::presolve_app))]
-fn presolve<'a>(alloc: Global) -> Result<Command<'a>, AllocError>
-    ensures app { IfOk result (λ command. app_of command ≡ presolve_app) }
+// An option that is given or not.
+fn flag<'a>(alloc: Global, id: &'a str) -> Arg<'a>
+    ensures rule { rule_of result ≡ flag_rule id.entry.now }
+    ensures local { result.global ≡ false }
+{
+    Arg::new(alloc, id).long(id).action(ArgAction::SetTrue)
+}
+
+#[tactic(auto, unfolding(crate::specs::Line::presolve_words))]
+fn presolve_words<'a>(alloc: Global) -> Result<Command<'a>, AllocError>
+    ensures app { IfOk result (λ command. app_of command ≡ presolve_words) }
     ensures local { IfOk result (λ command. (out-Command command).has_globals ≡ false) }
 {
     Command::new(alloc, "presolve")
         .arg(word(alloc, "in"))?
         .arg(word(alloc, "out"))?
         .arg(word(alloc, "rec"))
+}
+
+#[tactic(auto, unfolding(crate::specs::Line::presolve_app))]
+fn presolve<'a>(alloc: Global) -> Result<Command<'a>, AllocError>
+    ensures app { IfOk result (λ command. app_of command ≡ presolve_app) }
+    ensures local { IfOk result (λ command. (out-Command command).has_globals ≡ false) }
+{
+    presolve_words(alloc)?
+        .arg(flag(alloc, "fractions"))?
+        .arg(flag(alloc, "fixed"))
 }
 
 #[tactic(auto, unfolding(crate::specs::Line::line_app))]

@@ -1,19 +1,29 @@
 // What the words ask for.
 ghost use Rattle.std.specs.Prelude.{◌≡◌, ◌≢◌, ◌⊎◌, IfSome, None, [], Some, Err, false, option_map, IfOk, OnOk};
 ghost use Rattle.clap.specs.Words.{first_of, found_of, rows_of, subcommand_rows_of};
-ghost use Rattle.command_line.specs.Line.{HasTwoOutputs, asked, faults, is_taken, presolve_of, selected, selected_in, texts};
+ghost use Rattle.command_line.specs.Line.{HasTwoOutputs, asked, faults, is_on, is_taken, options_of, presolve_of, selected, selected_in, texts};
 ghost use Rattle.command_line.specs.Seen.{names_of, seen};
 
 use crate::command::matches;
 use clap::ArgMatches;
 use std::alloc::Global;
 
-/// The names that `presolve IN OUT REC` works on. `output` and `records` differ.
+/// The options of `presolve`.
+#[derive(Clone, Copy, Debug, PartialEq, Eq)]
+pub struct PresolveOptions {
+    /// Numbers that are no decimal numbers are taken and written too, as `n/d`.
+    pub fractions: bool,
+    /// IN has the fixed format.
+    pub fixed: bool,
+}
+
+/// The names that `presolve IN OUT REC` works on, of which `output` and `records` differ, and the options.
 #[derive(Clone, Copy, Debug)]
 pub struct PresolveWords<'a> {
     pub input: &'a str,
     pub output: &'a str,
     pub records: &'a str,
+    pub options: PresolveOptions,
 }
 
 /// A command with its words.
@@ -38,6 +48,26 @@ fn value<'a>(found: &ArgMatches<'a>, id: &str) -> Option<&'a str>
     found.get_str(id)
 }
 
+// Whether an option is given.
+fn is_given(found: &ArgMatches, id: &str) -> bool
+    ensures { result ≡ is_on (first_of id.now (rows_of (found_of found.now))) }
+{
+    match value(found, id) {
+        Some(text) => text == "true",
+        None => false,
+    }
+}
+
+// The options for `presolve`.
+fn options(found: &ArgMatches) -> PresolveOptions
+    ensures { result ≡ options_of (rows_of (found_of found.now)) }
+{
+    PresolveOptions {
+        fractions: is_given(found, "fractions"),
+        fixed: is_given(found, "fixed"),
+    }
+}
+
 // The names for `presolve`. OUT and REC may not be one name.
 fn presolve<'a>(found: &ArgMatches<'a>) -> Option<PresolveWords<'a>>
     ensures names { option_map names_of result ≡ presolve_of (rows_of (found_of found.now)) }
@@ -46,11 +76,13 @@ fn presolve<'a>(found: &ArgMatches<'a>) -> Option<PresolveWords<'a>>
     let input = value(found, "in");
     let output = value(found, "out");
     let records = value(found, "rec");
+    let options = options(found);
     match (input, output, records) {
         (Some(input), Some(output), Some(records)) if output != records => Some(PresolveWords {
             input,
             output,
             records,
+            options,
         }),
         _ => None,
     }

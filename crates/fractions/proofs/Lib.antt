@@ -5,3 +5,4 @@ pub mod ProductSteps
 pub mod InverseSteps
 pub mod LowestTerms
 pub mod ShortProducts
+pub mod FiveTable

@@ -1,2 +1,4 @@
 pub mod FracWords
 pub mod FracFields
+pub mod EndWords
+pub mod Fives

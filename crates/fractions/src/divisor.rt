@@ -1,11 +1,9 @@
 //! The greatest common divisor.
 
-ghost use Prim.Native.Nat.{◌∣◌};
-ghost use Rattle.std.specs.Prelude.{◌≡◌, ℕ, ◌<◌, ◌≤◌, ◌^◌, ◌/◌, ◌%◌, IsTrue};
+ghost use Rattle.std.specs.Prelude.{◌≡◌, ℕ, ◌<◌, ◌≤◌, ◌^◌, ◌/◌, ◌%◌};
 ghost use Rattle.rational.specs.Gcd.{gcd as gcd_of};
 
-/// The greatest power of five below 2^32.
-const FIVES: u64 = 1_220_703_125;
+use crate::fives::is_power_of_five;
 
 /// The greatest common divisor.
 pub fn gcd(a: u128, b: u128) -> u128
@@ -86,8 +84,13 @@ fn odd_gcd(a: u64, b: u64) -> u64
     requires right { b % 2 ≡ 1 }
     ensures { result ≡ gcd_of a b }
 {
-    if a % 5 != 0 && divides_fives(b) {
-        return 1;
+    if is_power_of_five(b) {
+        if a % 5 != 0 {
+            return 1;
+        }
+        if is_power_of_five(a) {
+            return a.min(b);
+        }
     }
     if a < 1 << 32 && b < 1 << 32 {
         if a % b == 0 {
@@ -98,14 +101,6 @@ fn odd_gcd(a: u64, b: u64) -> u64
         }
     }
     five_gcd(a, b)
-}
-
-/// Whether `b` divides `FIVES`.
-fn divides_fives(b: u64) -> bool
-    requires { 0 < b }
-    ensures { IsTrue result → b ∣ (5 ^ 13) }
-{
-    b <= FIVES && FIVES % b == 0
 }
 
 /// The same of odd numbers, with their fives taken out first.

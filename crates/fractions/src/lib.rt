@@ -5,7 +5,9 @@ ghost use Rattle.std.specs.Prelude.{◌≡◌, ℕ, ◌<◌, ◌≤◌, ◌^◌,
 
 pub mod compare;
 pub mod divisor;
+pub mod ends;
 pub mod ext;
+mod fives;
 pub mod frac;
 pub mod parts;
 pub mod whole;
@@ -39,6 +41,7 @@ pub enum Numbers {
 #[cfg(test)]
 mod tests {
     use super::*;
+    use ends::{greater_lower, less, lesser_upper, over};
     use ext::Ext;
     use frac::Frac;
     use whole::Whole;
@@ -154,5 +157,42 @@ mod tests {
         assert!(rt;
             Ext::none().number() == None && Ext::at(Frac::one()).number() == Some(Frac::one())
         );
+    }
+
+    #[test]
+    fn ends_of_ranges(rt: HostRuntime) {
+        let half = number(1, 2);
+        let none = Ext::none();
+        let at_half = Ext::at(half);
+        let at_one = Ext::at(Frac::one());
+        for (a, b, low, high) in [
+            (none, none, none, none),
+            (none, at_one, at_one, at_one),
+            (at_one, none, at_one, at_one),
+            (at_half, at_one, at_one, at_half),
+            (at_one, at_half, at_one, at_half),
+        ] {
+            assert!(rt; greater_lower(&a, &b).is_same(&low));
+            assert!(rt; lesser_upper(&a, &b).is_same(&high));
+        }
+        let past = number(1, MOST as u128);
+        for (end, quotient, rest) in [
+            (none, Ok(None), Ok(None)),
+            (at_one, Ok(Some(number(2, 1))), Ok(Some(half))),
+            (Ext::at(number(MOST, 1)), Err(Past), Err(Past)),
+        ] {
+            assert!(rt; over_half(&end).map(|e| e.number()) == quotient);
+            assert!(rt; less(&end, &half).map(|e| e.number()) == rest);
+        }
+        assert!(rt; less(&Ext::at(past), &half).is_err());
+    }
+
+    fn over_half(end: &Ext) -> Result<Ext, Past> {
+        let half = number(1, 2);
+        if half.is_zero() {
+            Err(Past)
+        } else {
+            over(end, &half)
+        }
     }
 }

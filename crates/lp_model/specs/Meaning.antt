@@ -1,5 +1,5 @@
 -- What a program's data mean.
-use Rattle.std.specs.Prelude.{◌≢◌, ℕ, ◌<◌, false, List, [], length, slice_index_or, None}
+use Rattle.std.specs.Prelude.{ℕ, false, [], length, slice_index_or, None}
 use Rattle.rational.specs.Number.{zero_ℚ}
 use Rattle.lp_model.specs.declared.program.RowDef.{RowDef}
 use Rattle.lp_model.specs.declared.program.ColumnDef.{ColumnDef}
@@ -20,26 +20,29 @@ row_at p i = slice_index_or p.rows i no_row
 abbrev pub column_at : ProgramData → ℕ → ColumnDef
 column_at p j = slice_index_or p.columns j no_column
 
--- the linear program that the data show
-abbrev pub meaning : ProgramData → LinearProgram
-meaning p = record {
+-- no rows, no columns, no constant
+abbrev pub no_program : LinearProgram
+no_program = record { rows = 0; columns = 0; coefficient = λ i j. zero_ℚ; lower_side = λ i. None; upper_side = λ i. None; lower_bound = λ j. None; upper_bound = λ j. None; whole = λ j. false; costs = λ j. zero_ℚ; constant = zero_ℚ }
+
+-- a program with the rows of the data
+abbrev pub with_rows : ProgramData → LinearProgram → LinearProgram
+with_rows p M = record M {
   rows = length p.rows;
-  columns = length p.columns;
-  coefficient = λ i j. dense (column_at p j).entries i;
   lower_side = λ i. (row_at p i).lower;
   upper_side = λ i. (row_at p i).upper;
+}
+
+-- a program with the columns of the data, whose entries are the coefficients
+abbrev pub with_columns : ProgramData → LinearProgram → LinearProgram
+with_columns p M = record M {
+  columns = length p.columns;
+  coefficient = λ i j. dense (column_at p j).entries i;
   lower_bound = λ j. (column_at p j).lower;
   upper_bound = λ j. (column_at p j).upper;
   whole = λ j. (column_at p j).whole;
   costs = λ j. (column_at p j).cost;
-  constant = p.constant;
 }
 
--- no two of the first n have the same name
-abbrev pub Differ : ℕ → (ℕ → List ℕ) → Type 0
-Differ n name = (i k : ℕ) → i < k → k < n → name i ≢ name k
-
--- the rows' names differ, and so do the columns'
-pub record NamesDiffer (p : ProgramData) : Type 0 where
-  pub rows : Differ (length p.rows) (λ i. (row_at p i).name)
-  pub columns : Differ (length p.columns) (λ j. (column_at p j).name)
+-- the linear program that the data show
+abbrev pub meaning : ProgramData → LinearProgram
+meaning p = record (with_columns p (with_rows p no_program)) { constant = p.constant }

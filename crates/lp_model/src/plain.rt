@@ -1,6 +1,6 @@
 //! A plain and slow program that judges a point of a small model: each value is the sum over all columns.
 
-ghost use Rattle.std.specs.Prelude.{◌≡◌, ◌↔◌, ◌⊎◌, ℕ, ◌<◌, length, IsTrue, IfOk, IsOk, Option, Some, None, MatchOption, ◌≢◌, slice_index_or};
+ghost use Rattle.std.specs.Prelude.{◌≡◌, ◌↔◌, ◌⊎◌, ◌∷◌, ℕ, ◌<◌, length, IsTrue, IfOk, IsOk, Option, Some, None, MatchOption, ◌≢◌, slice_index_or};
 ghost use Rattle.rational.specs.Number.{◌+ℚ◌, ◌*ℚ◌};
 ghost use Rattle.rational.specs.Lowest.{Fits};
 ghost use Rattle.fractions.specs.FracWords.{SumFits};
@@ -9,7 +9,8 @@ ghost use Rattle.rational.specs.Order.{◌≤ℚ◌, ◌<ℚ◌};
 ghost use Rattle.rational.specs.Ends.{AtLeast, AtMost, Between};
 ghost use Rattle.rational.specs.Floor.{IsWhole};
 ghost use Rattle.lp_model.specs.LinearProgram.{value_at, cost_at, Feasible};
-ghost use Rattle.lp_model.specs.Meaning.{no_row, no_column, meaning, Differ, NamesDiffer};
+ghost use Rattle.lp_model.specs.Meaning.{no_row, no_column, meaning};
+ghost use Rattle.lp_model.specs.Names.{Differ, names_of_rows, names_of_columns, NamesDiffer};
 ghost use Rattle.lp_model.specs.Vectors.{vector_of};
 ghost use Rattle.lp_model.specs.Senses.{NoWorse};
 ghost use Rattle.lp_model.specs.Sparse.{dense};
@@ -222,20 +223,38 @@ pub fn is_feasible(program: &Program, point: &Point) -> Result<bool, Past>
     Ok(first_violation(program, point)?.is_none())
 }
 
-/// Whether no two rows have the same name, and no two columns.
-pub fn names_differ(program: &Program) -> bool
-    ensures { IsTrue result ↔ NamesDiffer program.now }
+/// Whether the names of the objective and the rows differ, and the names of the columns. It compares each two of them.
+pub fn names_differ(objective: &Name, rows: &[RowDef], columns: &[ColumnDef]) -> bool
+    ensures { IsTrue result ↔ NamesDiffer objective.now rows.now columns.now }
 {
-    rows_differ(program.rows()) && columns_differ(program.columns())
+    row_names_differ(objective, rows) && columns_differ(columns)
 }
 
-/// Whether none of the first rows has the name of this one.
-fn is_new_row(rows: &[RowDef], row: usize) -> bool
-    requires { row < length rows.now }
-    ensures { IsTrue result ↔ ((i : ℕ) → i < row → (slice_index_or rows.now i no_row).name ≢ (slice_index_or rows.now row no_row).name) }
+/// Whether the names of the objective and the rows differ.
+fn row_names_differ(objective: &Name, rows: &[RowDef]) -> bool
+    ensures { IsTrue result ↔ Differ (objective.now ∷ names_of_rows rows.now) }
 {
-    for i in 0..row {
-        if same_name(&rows[i].name, &rows[row].name) {
+    is_no_row(objective, rows) && rows_differ(rows)
+}
+
+/// Whether no row has this name.
+fn is_no_row(name: &Name, rows: &[RowDef]) -> bool
+    ensures { IsTrue result ↔ ((i : ℕ) → i < length rows.now → name.now ≢ (slice_index_or rows.now i no_row).name) }
+{
+    for row in rows {
+        if same_name(name, &row.name) {
+            return false;
+        }
+    }
+    true
+}
+
+/// Whether no column has this name.
+fn is_no_column(name: &Name, columns: &[ColumnDef]) -> bool
+    ensures { IsTrue result ↔ ((j : ℕ) → j < length columns.now → name.now ≢ (slice_index_or columns.now j no_column).name) }
+{
+    for column in columns {
+        if same_name(name, &column.name) {
             return false;
         }
     }
@@ -243,36 +262,27 @@ fn is_new_row(rows: &[RowDef], row: usize) -> bool
 }
 
 fn rows_differ(rows: &[RowDef]) -> bool
-    ensures { IsTrue result ↔ Differ (length rows.now) (λ i. (slice_index_or rows.now i no_row).name) }
+    ensures { IsTrue result ↔ Differ (names_of_rows rows.now) }
 {
-    for k in 0..rows.len() {
-        if !is_new_row(rows, k) {
+    let mut rest = rows;
+    while let Some((first, after)) = rest.split_first() {
+        if !is_no_row(&first.name, after) {
             return false;
         }
-    }
-    true
-}
-
-/// Whether none of the first columns has the name of this one.
-fn is_new_column(columns: &[ColumnDef], column: usize) -> bool
-    requires { column < length columns.now }
-    ensures { IsTrue result ↔ ((j : ℕ) → j < column → (slice_index_or columns.now j no_column).name ≢ (slice_index_or columns.now column no_column).name) }
-{
-    for j in 0..column {
-        if same_name(&columns[j].name, &columns[column].name) {
-            return false;
-        }
+        rest = after;
     }
     true
 }
 
 fn columns_differ(columns: &[ColumnDef]) -> bool
-    ensures { IsTrue result ↔ Differ (length columns.now) (λ j. (slice_index_or columns.now j no_column).name) }
+    ensures { IsTrue result ↔ Differ (names_of_columns columns.now) }
 {
-    for k in 0..columns.len() {
-        if !is_new_column(columns, k) {
+    let mut rest = columns;
+    while let Some((first, after)) = rest.split_first() {
+        if !is_no_column(&first.name, after) {
             return false;
         }
+        rest = after;
     }
     true
 }

@@ -2,6 +2,7 @@
 
 ghost use Rattle.std.specs.Prelude.{◌≡◌, ◌<◌, length};
 ghost use Rattle.lp_model.specs.ProgramData.{ProgramData};
+ghost use Rattle.lp_model.specs.Names.{NamesDiffer};
 
 use crate::name::Name;
 use crate::terms::Terms;
@@ -120,6 +121,7 @@ impl Columns {
 }
 
 /// A program: the least or greatest of `constant + sum of cost times value` over the points within all rows and bounds.
+/// The names of its rows and of its objective differ, and so do the names of its columns.
 #[derive(Drop)]
 pub struct Program {
     sense: Sense,
@@ -133,16 +135,19 @@ impl Model for Program {
     ghost use Rattle.std.specs.Coded.{codes};
     ghost use Rattle.rational.specs.Lowest.{number_code};
     ghost use Rattle.lp_model.specs.ProgramData.{ProgramData};
+    ghost use Rattle.lp_model.specs.Names.{NamesDiffer};
 
     ghost Value = { ProgramData };
 
     ghost coded = { Prim.hlevel (codes, number_code) };
 
     ghost view = { λ p. record { sense = p.sense; objective = p.objective; constant = p.constant; rows = p.rows; columns = p.columns } };
+
+    ghost invariant = { λ p. NamesDiffer p.objective p.rows p.columns };
 }
 
 impl Program {
-    /// The program of these parts.
+    /// The program of these parts. Their names differ, as [`names_differ`](crate::names_differ) tells.
     pub fn new(
         sense: Sense,
         objective: Name,
@@ -150,6 +155,7 @@ impl Program {
         rows: Vec<RowDef>,
         columns: Vec<ColumnDef>,
     ) -> Program
+        requires { NamesDiffer objective rows.items columns.items }
         ensures { result ≡ record { sense = sense; objective = objective; constant = constant; rows = rows.items; columns = columns.items } }
     {
         Program {
@@ -168,9 +174,10 @@ impl Program {
         self.sense
     }
 
-    /// The objective's name.
+    /// The objective's name. No row has it, no two rows have one name, and no two columns.
     pub fn objective(&self) -> &Name
-        ensures { result.now ≡ self.now.objective }
+        ensures name { result.now ≡ self.now.objective }
+        ensures differ { NamesDiffer self.now.objective self.now.rows self.now.columns }
     {
         &self.objective
     }
@@ -196,11 +203,12 @@ impl Program {
         self.columns.as_slice()
     }
 
-    /// The objective's name, the rows and the columns, back without a copy.
+    /// The objective's name, the rows and the columns, back without a copy. Their names differ.
     pub fn into_parts(self) -> (Name, Rows, Columns)
         ensures objective { result.0 ≡ self.objective }
         ensures rows { result.1 ≡ self.rows }
         ensures columns { result.2 ≡ self.columns }
+        ensures differ { NamesDiffer self.objective self.rows self.columns }
     {
         (self.objective, self.rows, self.columns)
     }

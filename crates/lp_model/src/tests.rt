@@ -5,6 +5,7 @@ use fractions::ext::Ext;
 use fractions::frac::Frac;
 use fractions::whole::Whole;
 use std::alloc::{AllocError, Global};
+use std::process::Abort;
 use std::test::Fail;
 
 fn number(value: i32) -> Frac {
@@ -39,31 +40,33 @@ fn column(
     })
 }
 
+fn row(alloc: Global, name: &[u8], lower: i32, upper: Ext) -> Result<RowDef, AllocError> {
+    Ok(RowDef {
+        name: Name::from_slice(alloc, name)?,
+        lower: at(lower),
+        upper,
+    })
+}
+
 /// min x + 2 y; C1: x = 3; C2: x + y >= 5.
-fn whole_program(alloc: Global) -> Result<Program, AllocError> {
+fn whole_program(rt: &impl Abort, alloc: Global) -> Result<Program, AllocError> {
     let mut rows = Vec::new(alloc);
-    rows.push(RowDef {
-        name: Name::from_slice(alloc, b"C1")?,
-        lower: at(3),
-        upper: at(3),
-    })?;
-    rows.push(RowDef {
-        name: Name::from_slice(alloc, b"C2")?,
-        lower: at(5),
-        upper: Ext::none(),
-    })?;
+    rows.push(row(alloc, b"C1", 3, at(3))?)?;
+    rows.push(row(alloc, b"C2", 5, Ext::none())?)?;
     let mut columns = Vec::new(alloc);
     columns.push(column(alloc, b"x", 1, 0, &[0, 1])?)?;
     columns.push(column(alloc, b"y", 2, 0, &[1])?)?;
     let cost = Name::from_slice(alloc, b"COST")?;
+    assert!(rt; names_differ(&cost, rows.as_slice(), columns.as_slice()));
     Ok(Program::new(Sense::Min, cost, number(0), rows, columns))
 }
 
 /// What is left of it: min 2 y + 3; y >= 2.
-fn reduced_program(alloc: Global) -> Result<Program, AllocError> {
+fn reduced_program(rt: &impl Abort, alloc: Global) -> Result<Program, AllocError> {
     let mut columns = Vec::new(alloc);
     columns.push(column(alloc, b"y", 2, 2, &[])?)?;
     let cost = Name::from_slice(alloc, b"COST")?;
+    assert!(rt; names_differ(&cost, &[], columns.as_slice()));
     Ok(Program::new(Sense::Min, cost, number(3), Vec::new(alloc), columns))
 }
 
@@ -91,7 +94,7 @@ fn is_side(found: &Option<Violation>, row: usize, value: &Frac, limit: &Frac) ->
 #[test]
 fn judges_points(rt: HostRuntime) -> Result<(), Fail> {
     let alloc = rt.alloc();
-    let whole = whole_program(alloc)?;
+    let whole = whole_program(&rt, alloc)?;
     for (values, feasible, price) in [([3, 2], true, 7), ([3, 1], false, 5)] {
         let point = point(alloc, &values)?;
         assert!(rt; point.as_slice().len() == whole.columns().len());
@@ -104,7 +107,7 @@ fn judges_points(rt: HostRuntime) -> Result<(), Fail> {
 #[test]
 fn costs_the_same_when_reduced(rt: HostRuntime) -> Result<(), Fail> {
     let alloc = rt.alloc();
-    let reduced = reduced_program(alloc)?;
+    let reduced = reduced_program(&rt, alloc)?;
     let point = point(alloc, &[2])?;
     assert!(rt; point.as_slice().len() == reduced.columns().len());
     assert!(rt; is_feasible(&reduced, &point)?);
@@ -115,7 +118,7 @@ fn costs_the_same_when_reduced(rt: HostRuntime) -> Result<(), Fail> {
 #[test]
 fn names_what_is_violated(rt: HostRuntime) -> Result<(), Fail> {
     let alloc = rt.alloc();
-    let program = whole_program(alloc)?;
+    let program = whole_program(&rt, alloc)?;
     let point = point(alloc, &[3, 1])?;
     assert!(rt; point.as_slice().len() == program.columns().len());
     let found = first_violation(&program, &point)?;
@@ -134,4 +137,32 @@ fn compares_costs(rt: HostRuntime) {
     ] {
         assert!(rt; no_worse(sense, &number(a), &number(b)) == no_worse_than);
     }
+}
+
+/// Names of the rows and of the columns of a program with the objective COST, and whether they differ.
+const NAMES: [(&[&[u8]], &[&[u8]], bool); 6] = [
+    (&[], &[], true),
+    (&[b"C1", b"C2"], &[b"C1", b"x"], true),
+    (&[b"C1"], &[b"COST"], true),
+    (&[b"C1", b"C2", b"C1"], &[b"x"], false),
+    (&[b"C1", b"COST"], &[b"x"], false),
+    (&[b"C1"], &[b"x", b"y", b"y"], false),
+];
+
+#[test]
+fn tells_whether_names_differ(rt: HostRuntime) -> Result<(), Fail> {
+    let alloc = rt.alloc();
+    let cost = Name::from_slice(alloc, b"COST")?;
+    for (row_names, column_names, differ) in NAMES {
+        let mut rows = Vec::new(alloc);
+        for name in row_names {
+            rows.push(row(alloc, name, 0, Ext::none())?)?;
+        }
+        let mut columns = Vec::new(alloc);
+        for name in column_names {
+            columns.push(column(alloc, name, 0, 0, &[])?)?;
+        }
+        assert!(rt; names_differ(&cost, rows.as_slice(), columns.as_slice()) == differ);
+    }
+    Ok(())
 }

@@ -4,4 +4,3 @@ pub mod FixedColumn
 pub mod RoundBounds
 pub mod EmptyColumn
 pub mod Crossed
-pub mod Fits

@@ -2,31 +2,16 @@
 
 ghost use Rattle.std.specs.Prelude.{◌≡◌, ◌≢◌, ◌↔◌, IfOk, IsOk, IsTrue};
 ghost use Rattle.rational.specs.Number.{zero_ℚ};
-ghost use Rattle.rational.specs.Ends.{over, less, meet_low, meet_high};
 ghost use Rattle.lp_rules.specs.Crossed.{AreCrossed};
 ghost use Rattle.lp_rules.specs.EmptyColumn.{resting_place, any_between};
-ghost use Rattle.lp_rules.specs.Fits.{OverFits, LessFits};
+ghost use Rattle.fractions.specs.EndWords.{OverFits};
 ghost use Rattle.lp_rules.specs.RoundBounds.{rounded_up, rounded_down};
 ghost use Rattle.lp_rules.specs.SingletonRow.{lower_over, upper_over};
 
 use fractions::Past;
+use fractions::ends::over;
 use fractions::ext::Ext;
 use fractions::frac::Frac;
-
-/// An end over a number that isn't 0.
-///
-/// # Errors
-/// [`Past`] exactly where the quotient has no room.
-pub fn end_over(end: &Ext, entry: &Frac) -> Result<Ext, Past>
-    requires { entry.now ≢ zero_ℚ }
-    ensures value { IfOk result (λ r. r ≡ over end.now entry.now) }
-    ensures fits { IsOk result ↔ OverFits end.now entry.now }
-{
-    match end.number() {
-        None => Ok(Ext::none()),
-        Some(number) => Ok(Ext::at(number.div(entry)?)),
-    }
-}
 
 /// K2: the sides of a row over its one entry, as bounds of the entry's column, the lower one first. For an entry below 0 the
 /// ends change over.
@@ -39,48 +24,12 @@ pub fn sides_over(entry: &Frac, lower: &Ext, upper: &Ext) -> Result<(Ext, Ext), 
     ensures upper { IfOk result (λ ends. ends.1 ≡ upper_over entry.now lower.now upper.now) }
     ensures fits { IsOk result ↔ (OverFits lower.now entry.now × OverFits upper.now entry.now) }
 {
-    let low = end_over(lower, entry)?;
-    let high = end_over(upper, entry)?;
+    let low = over(lower, entry)?;
+    let high = over(upper, entry)?;
     if entry.is_positive() {
         Ok((low, high))
     } else {
         Ok((high, low))
-    }
-}
-
-/// The greater of two lower ends.
-pub fn met_lower(a: &Ext, b: &Ext) -> Ext
-    ensures { result ≡ meet_low a.now b.now }
-{
-    match (a.number(), b.number()) {
-        (None, _) => *b,
-        (Some(_), None) => *a,
-        (Some(x), Some(y)) => Ext::at(if x.le(&y) { y } else { x }),
-    }
-}
-
-/// The less of two upper ends.
-pub fn met_upper(a: &Ext, b: &Ext) -> Ext
-    ensures { result ≡ meet_high a.now b.now }
-{
-    match (a.number(), b.number()) {
-        (None, _) => *b,
-        (Some(_), None) => *a,
-        (Some(x), Some(y)) => Ext::at(if x.le(&y) { x } else { y }),
-    }
-}
-
-/// K3: a side less what a fixed column gives to its row.
-///
-/// # Errors
-/// [`Past`] exactly where the difference is.
-pub fn side_less(side: &Ext, given: &Frac) -> Result<Ext, Past>
-    ensures value { IfOk result (λ r. r ≡ less side.now given.now) }
-    ensures fits { IsOk result ↔ LessFits side.now given.now }
-{
-    match side.number() {
-        None => Ok(Ext::none()),
-        Some(number) => Ok(Ext::at(number.sub(given)?)),
     }
 }
 

@@ -7,4 +7,6 @@
 
 pub mod ends;
 pub mod laws;
+#[cfg(test)]
+mod tests;
 pub mod undo;

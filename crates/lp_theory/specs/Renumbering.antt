@@ -15,20 +15,29 @@ IdsFrom m n (k ∷ ks) = (m ≤ k) × (k < n) × IdsFrom (suc k) n ks
 abbrev pub IsLeftOut : ℕ → List ℕ → Type 0
 IsLeftOut k ids = (a : ℕ) → a < length ids → slice_index ids a ≢ k
 
--- The written program: row a of it is row rows[a] of M, column b is column columns[b].
-abbrev pub written : LinearProgram → List ℕ → List ℕ → LinearProgram
-written M rows columns = record {
+-- row a is row rows[a] of M
+abbrev pub with_rows_at : List ℕ → LinearProgram → LinearProgram
+with_rows_at rows M = record M {
   rows = length rows;
-  columns = length columns;
-  coefficient = λ a b. M.coefficient (slice_index rows a) (slice_index columns b);
+  coefficient = λ a. M.coefficient (slice_index rows a);
   lower_side = λ a. M.lower_side (slice_index rows a);
   upper_side = λ a. M.upper_side (slice_index rows a);
+}
+
+-- column b is column columns[b] of M
+abbrev pub with_columns_at : List ℕ → LinearProgram → LinearProgram
+with_columns_at columns M = record M {
+  columns = length columns;
+  coefficient = λ a b. M.coefficient a (slice_index columns b);
   lower_bound = λ b. M.lower_bound (slice_index columns b);
   upper_bound = λ b. M.upper_bound (slice_index columns b);
   whole = λ b. M.whole (slice_index columns b);
   costs = λ b. M.costs (slice_index columns b);
-  constant = M.constant;
 }
+
+-- The written program: row a of it is row rows[a] of M, column b is column columns[b].
+abbrev pub written : LinearProgram → List ℕ → List ℕ → LinearProgram
+written M rows columns = with_columns_at columns (with_rows_at rows M)
 
 -- what is left out was deleted: such a row has no sides, such a column has no coefficients, no bounds and no cost, and is not whole
 pub record IsRest (M : LinearProgram) (rows columns : List ℕ) : Type 0 where

@@ -5,9 +5,9 @@ use Rattle.std.specs.List.{slice_split, onto_first, position_from}
 use Rattle.std.proofs.lemmas.List.Splits.{slice_split-cons_yes, slice_split-cons_no}
 use Rattle.std.proofs.lemmas.List.Quantifiers.{position-Some}
 use Rattle.std.proofs.lemmas.Iterator.Adapters.{position_from-zero}
-use Rattle.mps_cards.specs.Lines.{ended, lines_of, without_return}
+use Rattle.mps_profile.specs.Lines.{ended, lines_of, without_return}
 
-split_at : {X : Type 0} (p : X → Bool) (xs : List X) (i : ℕ) (d : X) → i < length xs → p (get_or xs i d) ≡ true → ((k : ℕ) → k < i → p (get_or xs k d) ≡ false)
+pub split_at : {X : Type 0} (p : X → Bool) (xs : List X) (i : ℕ) (d : X) → i < length xs → p (get_or xs i d) ≡ true → ((k : ℕ) → k < i → p (get_or xs k d) ≡ false)
     → slice_split p xs ≡ take i xs ∷ slice_split p (drop (suc i) xs)
 split_at p [] i d lt passes before = absurd (omega (arith, lt))
 split_at p (x ∷ xs) zero d lt passes before = slice_split-cons_yes p x xs passes
@@ -39,13 +39,16 @@ one_part_from : (p : ℕ → Bool) (x : ℕ) (xs : List ℕ) (i : ℕ) (b : Bool
 one_part_from p x xs i true is rest bad = cc
 one_part_from p x xs i false is rest none = slice_split-cons_no p x xs is ∙ ap (onto_first x) (rest none)
 
-one_part : (p : ℕ → Bool) (xs : List ℕ) (i : ℕ) → position_from p i xs ≡ None → slice_split p xs ≡ xs ∷ []
-one_part p [] i none = refl
-one_part p (x ∷ xs) i none = one_part_from p x xs i (p x) refl (one_part p xs (i + 1)) none
+one_part_after : (p : ℕ → Bool) (xs : List ℕ) (i : ℕ) → position_from p i xs ≡ None → slice_split p xs ≡ xs ∷ []
+one_part_after p [] i none = refl
+one_part_after p (x ∷ xs) i none = one_part_from p x xs i (p x) refl (one_part_after p xs (i + 1)) none
+
+pub one_part : (p : ℕ → Bool) (xs : List ℕ) → position p xs ≡ None → slice_split p xs ≡ xs ∷ []
+one_part p xs none = one_part_after p xs 0 (sym (position_from-zero p xs) ∙ none)
 
 one_line : (part : List ℕ) → 0 < length part → ended (part ∷ []) ≡ part ∷ []
 one_line [] some = absurd (omega (arith, some))
 one_line (b ∷ bytes) some = refl
 
 pub lines-last : (text : List ℕ) → 0 < length text → position (λ b. b == 10) text ≡ None → lines_of text ≡ text ∷ []
-lines-last text some none = ap ended (one_part (λ (b : ℕ). b == 10) text 0 (sym (position_from-zero (λ (b : ℕ). b == 10) text) ∙ none)) ∙ one_line text some
+lines-last text some none = ap ended (one_part (λ (b : ℕ). b == 10) text none) ∙ one_line text some

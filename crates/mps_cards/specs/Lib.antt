@@ -1,5 +1,2 @@
-pub mod Bounds
-pub mod Faults
-pub mod Lines
-pub mod Numerals
-pub mod Words
+pub mod Splits
+pub mod Texts

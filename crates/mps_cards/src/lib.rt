@@ -1,13 +1,12 @@
-//! The parts of MPS text: lines, fields, sections, words and numbers, and the faults of a text.
+//! The parts of MPS text: lines, fields, and what a line says.
 #![tactic(auto)]
 
-pub mod bounds;
-pub mod faults;
+pub mod column_texts;
 pub mod fields;
+mod fixed_cards;
+mod free_cards;
+pub mod items;
 pub mod lines;
-pub mod numerals;
-pub mod pairs;
-pub mod row_kinds;
-pub mod sections;
-
-pub use faults::MpsFaultKind;
+pub mod split_line;
+#[cfg(test)]
+mod tests;

@@ -1,11 +1,10 @@
 //! Why a text gives no program.
 
 ghost use Rattle.std.specs.Prelude.{◌≡◌};
-ghost use Rattle.mps_reader.specs.declared.faults.Stop.TheVariants.{Fault, OutOfMemory};
 ghost use Rattle.mps_reader.specs.declared.faults.MpsError.TheVariants.{NoMemory};
 
-use mps_cards::MpsFaultKind;
-use std::alloc::{AllocError, AllocFailed};
+use mps_profile::MpsFaultKind;
+use std::alloc::AllocError;
 
 /// A fault with its line, from 1. The line of a missing ENDATA is one past the last.
 #[derive(Clone, Copy, Debug, PartialEq, Eq)]
@@ -28,36 +27,5 @@ impl From<AllocError> for MpsError {
 
     fn from(_e: AllocError) -> MpsError {
         MpsError::NoMemory
-    }
-}
-
-/// Why a line is not taken.
-#[derive(Clone, Copy)]
-pub enum Stop {
-    Fault(MpsFaultKind),
-    OutOfMemory,
-}
-
-impl From<MpsFaultKind> for Stop {
-    ghost from_gives = { λ kind e. e ≡ Fault kind };
-
-    fn from(kind: MpsFaultKind) -> Stop {
-        Stop::Fault(kind)
-    }
-}
-
-impl From<AllocError> for Stop {
-    ghost from_gives = { λ _ e. e ≡ OutOfMemory };
-
-    fn from(_e: AllocError) -> Stop {
-        Stop::OutOfMemory
-    }
-}
-
-impl<T: Drop> From<AllocFailed<T>> for Stop {
-    ghost from_gives = { λ _ e. e ≡ OutOfMemory };
-
-    fn from(_e: AllocFailed<T>) -> Stop {
-        Stop::OutOfMemory
     }
 }

@@ -1,200 +1,87 @@
-//! Reads a text line by line.
+//! What the lines of a text have said so far.
 
-ghost use Rattle.std.specs.Prelude.{◌≡◌, ◌+◌, ◌<◌, ◌≤◌, ◌^◌, [], length, IfOk};
-ghost use Rattle.mps_reader.specs.Faults.{FaultIsAtLine};
+ghost use Rattle.std.specs.Prelude.{◌≡◌, [], List, Ok};
+ghost use Rattle.mps_profile.specs.Texts.{Text};
+ghost use Rattle.mps_profile.specs.Lines.{lines_of};
+ghost use Rattle.mps_profile.specs.Cards.{Card};
+ghost use Rattle.mps_profile.specs.Reading.{is_end, section_fault};
+ghost use Rattle.mps_cards.specs.Texts.{text_item};
+ghost use Rattle.mps_tables.specs.Tables.{Holds};
+ghost use Rattle.mps_reader.specs.Reading.{Has, Moved, TookItem, TookLine};
 
-use crate::assembly::assemble;
-use crate::cards;
-use crate::faults::{MpsError, MpsFault, Stop};
-use crate::progress::{Progress, Told};
-use crate::tables::Tables;
-use lp_model::Program;
-use mps_cards::MpsFaultKind;
-use mps_cards::fields::{is_blank, split_free};
-use mps_cards::lines::first_line;
-use mps_cards::sections::{Section, opened, sense_named};
-use number_texts::Numbers;
+use mps_cards::items::Item;
+use mps_cards::split_line::SplitLine;
+use mps_profile::MpsFaultKind;
+use mps_profile::dialect::Dialect;
+use mps_profile::progress::Progress;
+use mps_profile::sections::Section;
+use mps_tables::faults::Stop;
+use mps_tables::tables::Tables;
 use std::alloc::Global;
 
-/// What the lines of a text have said so far.
+/// What the lines of a text have said so far: how far it has come, and the tables of its cards.
 #[derive(Drop)]
-struct Reader<'a> {
-    progress: Progress,
-    tables: Tables<'a>,
-    // The fields of the present line.
-    fields: Vec<&'a [u8]>,
+pub struct Reader {
+    pub progress: Progress,
+    pub tables: Tables,
 }
 
-/// Whether a line is a comment.
-fn is_comment(line: &[u8]) -> bool {
-    matches!(line, [b'*', ..])
-}
-
-/// Whether a line is a card, where it is no comment and has a field.
-fn is_card(line: &[u8]) -> bool {
-    match line {
-        [first, ..] => is_blank(*first),
-        [] => false,
-    }
-}
-
-/// Whether the next line that counts is a card.
-fn has_card(text: &[u8]) -> bool {
-    let mut rest = text;
-    while !rest.is_empty() {
-        let (line, after) = first_line(rest);
-        if !is_comment(line) && !line.iter().all(|b| is_blank(*b)) {
-            return is_card(line);
-        }
-        rest = after;
-    }
-    false
-}
-
-impl<'a> Reader<'a> {
+impl Reader {
     /// Before the first line.
-    fn new(alloc: Global, numbers: Numbers) -> Self
-        ensures { result.tables.rows.names ≡ [] }
+    pub fn new(alloc: Global, dialect: Dialect) -> Reader
+        ensures { Has dialect [] result }
     {
         Reader {
-            progress: Progress::new(),
-            tables: Tables::new(alloc, numbers),
-            fields: Vec::new(alloc),
+            progress: Progress::start(),
+            tables: Tables::new(alloc, dialect),
         }
     }
 
-    /// Takes a line; `after` is the text that follows it.
-    fn line(&mut self, alloc: Global, line: &'a [u8], after: &[u8]) -> Result<(), Stop>
-        ensures { length self.new.tables.rows.names ≤ length self.old.tables.rows.names + 1 }
+    /// Whether ENDATA was read.
+    pub fn is_ended(&self) -> bool
+        ensures { result ≡ is_end self.now.progress.section }
     {
-        if is_comment(line) {
-            return Ok(());
-        }
-        split_free(&mut self.fields, line)?;
-        if self.fields.is_empty() {
-            return Ok(());
-        }
-        if is_card(line) {
-            self.card(alloc)
-        } else {
-            self.open(after)
-        }
+        self.progress.is_end()
     }
 
-    /// Takes a card.
-    fn card(&mut self, alloc: Global) -> Result<(), Stop>
-        ensures { length self.new.tables.rows.names ≤ length self.old.tables.rows.names + 1 }
+    /// The text comes further.
+    fn move_to(&mut self, next: Progress) -> Result<(), Stop>
+        ensures { (cards : List Card) → Holds self.old.tables.dialect cards self.old.tables
+            → Moved (section_fault cards next.section) next result self.old self.new }
     {
-        let fields = self.fields.as_slice();
-        match self.progress.section {
-            Some(Section::Objsense) => self.sense_card(),
-            Some(Section::Rows) => cards::row(alloc, &mut self.tables, fields),
-            Some(Section::Columns) => cards::column(&mut self.tables, fields),
-            Some(Section::Rhs) => cards::side(&mut self.tables, fields),
-            Some(Section::Ranges) => cards::range(&mut self.tables, fields),
-            Some(Section::Bounds) => cards::bound(&mut self.tables, fields),
-            None | Some(Section::Name) | Some(Section::Endata) => {
-                Err(Stop::Fault(MpsFaultKind::SectionOrder))
-            }
-        }
-    }
-
-    /// Takes a card of OBJSENSE: one, where the section's own line has no word.
-    fn sense_card(&mut self) -> Result<(), Stop>
-        ensures { self.new.tables ≡ self.old.tables }
-    {
-        if self.progress.sense != Told::Awaited {
-            return Err(Stop::Fault(MpsFaultKind::SectionOrder));
-        }
-        let [word] = self.fields.as_slice() else {
-            return Err(Stop::Fault(MpsFaultKind::FieldCount));
-        };
-        self.progress.sense = Told::Sense(sense_named(word)?);
-        Ok(())
-    }
-
-    /// Takes a section line.
-    fn open(&mut self, after: &[u8]) -> Result<(), Stop>
-        ensures { self.new.tables ≡ self.old.tables }
-    {
-        let [word, more @ ..] = self.fields.as_slice() else {
-            return Ok(());
-        };
-        let section = opened(word)?;
-        let told = match section {
-            Section::Objsense => told_sense(more, after)?,
-            _ => self.progress.sense,
-        };
-        if !self.progress.may_follow(section) {
-            return Err(Stop::Fault(MpsFaultKind::SectionOrder));
-        }
-        if section == Section::Columns && !self.tables.rows.has_free() {
+        if matches!(next.section, Some(Section::Columns)) && !self.tables.has_free() {
             return Err(Stop::Fault(MpsFaultKind::NoObjective));
         }
-        self.progress = Progress {
-            section: Some(section),
-            named: self.progress.named || section == Section::Name,
-            sense: told,
-        };
+        self.progress = next;
         Ok(())
     }
-}
 
-/// What the line of OBJSENSE tells: the word behind the section's name, or that a card is to come.
-fn told_sense(words: &[&[u8]], after: &[u8]) -> Result<Told, MpsFaultKind> {
-    match words {
-        [word, ..] => Ok(Told::Sense(sense_named(word)?)),
-        [] => {
-            if has_card(after) {
-                Ok(Told::Awaited)
-            } else {
-                Err(MpsFaultKind::FieldCount)
-            }
+    /// Takes what a line says.
+    fn take(&mut self, item: Item<'_>) -> Result<(), Stop>
+        ensures { (cards : List Card) → Holds self.old.tables.dialect cards self.old.tables
+            → TookItem self.old.tables.dialect cards (Ok (text_item item.entry)) result self.old self.new }
+    {
+        match item {
+            Item::Silent => Ok(()),
+            Item::Moves(next) => self.move_to(next),
+            Item::Says(card) => self.tables.take(card),
         }
     }
-}
 
-/// Reads the lines of a text up to ENDATA.
-fn read_lines<'a>(alloc: Global, text: &'a [u8], numbers: Numbers) -> Result<Reader<'a>, MpsError>
-    requires { length text.now < 2 ^ 32 }
-    ensures line { FaultIsAtLine text.entry.now result }
-    ensures rows { IfOk result (λ reader. length reader.tables.rows.names < 2 ^ 32) }
-{
-    let mut reader = Reader::new(alloc, numbers);
-    let mut rest = text;
-    let mut number: u64 = 0;
-    while !rest.is_empty() {
-        if reader.progress.is_ended() {
-            return Ok(reader);
-        }
-        let (line, after) = first_line(rest);
-        number += 1;
-        match reader.line(alloc, line, after) {
-            Ok(()) => {}
-            Err(Stop::Fault(kind)) => {
-                return Err(MpsError::Fault(MpsFault { kind, line: number }));
-            }
-            Err(Stop::OutOfMemory) => return Err(MpsError::NoMemory),
-        }
-        rest = after;
+    /// Takes a line; `after` is the text behind it. The room of `words` is used for its fields.
+    pub fn line<'l>(
+        &mut self,
+        alloc: Global,
+        line: &'l [u8],
+        after: &[u8],
+        words: Vec<&'l [u8]>,
+    ) -> Result<Vec<&'l [u8]>, Stop>
+        ensures { (before : List Text) → Has self.old.tables.dialect before self.old
+            → TookLine self.old.tables.dialect before line.now (lines_of after.now) result self.new }
+    {
+        let split = SplitLine::cut(alloc, self.tables.dialect().format, line, words)?;
+        let item = split.item(&self.progress, after)?;
+        self.take(item)?;
+        Ok(split.into_words())
     }
-    if reader.progress.is_ended() {
-        return Ok(reader);
-    }
-    Err(MpsError::Fault(MpsFault {
-        kind: MpsFaultKind::NoEnd,
-        line: number + 1,
-    }))
-}
-
-/// Reads a program from MPS text in the free format. What follows ENDATA is unread.
-///
-/// # Errors
-/// The first fault by line, at one line the one with the lowest number; or want of memory.
-pub fn read_mps(alloc: Global, bytes: &[u8], numbers: Numbers) -> Result<Program, MpsError>
-    requires { length bytes.now < 2 ^ 32 }
-    ensures line { FaultIsAtLine bytes.now result }
-{
-    let reader = read_lines(alloc, bytes, numbers)?;
-    Ok(assemble(alloc, reader.progress.sense, &reader.tables)?)
 }

@@ -1,6 +1,6 @@
 //! Texts with the fault or the program that they give.
 
-use crate::{MpsError, read_mps};
+use crate::{Dialect, Format, MpsError, read_mps};
 use fractions::ext::Ext;
 use lp_model::{Program, Sense, Term};
 use number_texts::{Numbers, write};
@@ -13,7 +13,19 @@ struct Case<'a> {
     seen: &'a str,
 }
 
-const FAULTS: [Case<'static>; 26] = [
+const FAULTS: [Case<'static>; 29] = [
+    Case {
+        text: "ROWS\n N c\n Q a\n L c\n",
+        seen: "M18 line 3",
+    },
+    Case {
+        text: "ROWS\n N c\nCOLUMNS\n x d one\n",
+        seen: "M7 line 4",
+    },
+    Case {
+        text: "ROWS\n N c\nCOLUMNS\n x c 170141183460469231731687303715884105728\n",
+        seen: "M8 line 4",
+    },
     Case {
         text: "ROWS\n N c\n L a\n",
         seen: "M6 line 4",
@@ -140,10 +152,39 @@ const PROGRAMS: [Case<'static>; 4] = [
     },
 ];
 
+/// Texts of the fixed format: a bound by columns, the same with a byte in column 13, a name with an inner space, a set that
+/// is left out, and a number with a slash.
+const FIXED: [Case<'static>; 5] = [
+    Case {
+        text: "ROWS\n N  COST\nCOLUMNS\n    x         COST              1.\nBOUNDS\n UP BND1      x         4\nENDATA\n",
+        seen: "min 0 x 1 0 4",
+    },
+    Case {
+        text: "ROWS\n N  COST\nCOLUMNS\n    x         COST              1.\nBOUNDS\n UP BND1    z x         4\nENDATA\n",
+        seen: "M1 line 6",
+    },
+    Case {
+        text: "ROWS\n N  COST\n E  A B\nCOLUMNS\n    x         COST      1              A B       2\nRHS\n              A B       6\nENDATA\n",
+        seen: "min 0 A_B 6 6 x 1 0 inf 0:2",
+    },
+    Case {
+        text: "ROWS\n N  COST\n E\tA\n",
+        seen: "M1 line 3",
+    },
+    Case {
+        text: "ROWS\n N  COST\nCOLUMNS\n    x         COST            1/2\n",
+        seen: "M7 line 4",
+    },
+];
+
 /// What a short text gives, without fractions.
-fn read(alloc: Global, text: &str) -> Result<Program, MpsError> {
+fn read(alloc: Global, text: &str, format: Format) -> Result<Program, MpsError> {
+    let dialect = Dialect {
+        format,
+        numbers: Numbers::Decimal,
+    };
     if text.len() < 1 << 32 {
-        read_mps(alloc, text.as_bytes(), Numbers::Decimal)
+        read_mps(alloc, text.as_bytes(), dialect)
     } else {
         Err(MpsError::NoMemory)
     }
@@ -201,27 +242,34 @@ fn shown(alloc: Global, program: &Program) -> Result<Vec<u8>, AllocError> {
     Ok(seen)
 }
 
+/// What is seen of a text: its program, or its fault with the line.
+fn seen(alloc: Global, text: &str, format: Format) -> Result<Vec<u8>, AllocError> {
+    match read(alloc, text, format) {
+        Ok(program) => shown(alloc, &program),
+        Err(MpsError::Fault(fault)) => {
+            let number = fault.kind.number();
+            let line = fault.line;
+            let words = format!(in alloc; "M{number} line {line}")?;
+            Vec::from_slice(alloc, words.as_bytes())
+        }
+        Err(MpsError::NoMemory) => Vec::from_slice(alloc, b"no memory"),
+    }
+}
+
 #[test]
 fn gives(rt: HostRuntime) -> Result<(), Fail> {
     let alloc = rt.alloc();
     for case in FAULTS.iter() {
-        let found = match read(alloc, case.text) {
-            Ok(_) => format!(in alloc; "a program")?,
-            Err(MpsError::Fault(fault)) => {
-                format!(in alloc; "M{} line {}", fault.kind.number(), fault.line)?
-            }
-            Err(MpsError::NoMemory) => format!(in alloc; "no memory")?,
-        };
-        assert_eq!(&rt; found.as_str(), case.seen, "of {}", case.text);
+        let found = seen(alloc, case.text, Format::Free)?;
+        assert_eq!(&rt; found.as_slice(), case.seen.as_bytes(), "of {}", case.text);
     }
     for case in PROGRAMS.iter() {
-        match read(alloc, case.text) {
-            Ok(program) => {
-                let seen = shown(alloc, &program)?;
-                assert_eq!(&rt; seen.as_slice(), case.seen.as_bytes(), "of {}", case.text);
-            }
-            Err(_) => panic!(&rt; "no program of {}", case.text),
-        }
+        let found = seen(alloc, case.text, Format::Free)?;
+        assert_eq!(&rt; found.as_slice(), case.seen.as_bytes(), "of {}", case.text);
+    }
+    for case in FIXED.iter() {
+        let found = seen(alloc, case.text, Format::Fixed)?;
+        assert_eq!(&rt; found.as_slice(), case.seen.as_bytes(), "of {}", case.text);
     }
     Ok(())
 }

@@ -1,9 +1,10 @@
 use super::*;
 use fractions::ext::Ext;
 use fractions::frac::Frac;
-use lp_model::{ColumnDef, Name, Program, RowDef, Sense, Term, Terms};
+use lp_model::{ColumnDef, Name, Program, RowDef, Sense, Term, Terms, names_differ};
 use number_texts::read;
 use std::alloc::Global;
+use std::process::Abort;
 use std::test::Fail;
 
 /// A row; an empty side is none.
@@ -259,38 +260,43 @@ fn columns(alloc: Global, cases: &[ColumnCase<'_>]) -> Result<Vec<ColumnDef>, Fa
     Ok(columns)
 }
 
+/// A program with the objective COST.
+fn program(rt: &impl Abort, alloc: Global, case: &Case<'_>) -> Result<Program, Fail> {
+    let objective = Name::from_slice(alloc, b"COST")?;
+    let constant = number(case.constant)?;
+    let rows = rows(alloc, case.rows)?;
+    let columns = columns(alloc, case.columns)?;
+    assert!(rt; names_differ(&objective, rows.as_slice(), columns.as_slice()));
+    Ok(Program::new(case.sense, objective, constant, rows, columns))
+}
+
 #[test]
 fn writes(rt: HostRuntime) -> Result<(), Fail> {
     let alloc = rt.alloc();
     for case in CASES {
-        let program = Program::new(
-            case.sense,
-            Name::from_slice(alloc, b"COST")?,
-            number(case.constant)?,
-            rows(alloc, case.rows)?,
-            columns(alloc, case.columns)?,
-        );
-        let text = write_mps(alloc, &program)?;
+        let text = write_mps(alloc, &program(&rt, alloc, case)?)?;
         assert!(rt; text.as_slice() == case.text);
     }
     Ok(())
 }
 
-#[test]
-fn past(rt: HostRuntime) -> Result<(), Fail> {
-    let alloc = rt.alloc();
-    let wide = [RowCase {
+/// A row whose sides are too far apart. It has no text.
+const WIDE: Case<'static> = Case {
+    sense: Sense::Min,
+    constant: b"0",
+    rows: &[RowCase {
         name: b"wide",
         lower: b"-1",
         upper: b"170141183460469231731687303715884105727",
-    }];
-    let program = Program::new(
-        Sense::Min,
-        Name::from_slice(alloc, b"COST")?,
-        Frac::zero(),
-        rows(alloc, &wide)?,
-        Vec::new(alloc),
-    );
+    }],
+    columns: &[],
+    text: b"",
+};
+
+#[test]
+fn past(rt: HostRuntime) -> Result<(), Fail> {
+    let alloc = rt.alloc();
+    let program = program(&rt, alloc, &WIDE)?;
     assert!(rt; matches!(&write_mps(alloc, &program), Err(WriteError::Past)));
     Ok(())
 }

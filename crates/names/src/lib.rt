@@ -5,18 +5,18 @@ use indexmap::IndexSet;
 use std::alloc::{AllocError, Global};
 use std::marker::Model;
 
-/// A table of different names. A contract sees it as the list of the names' bytes, in the order in which they came.
+/// A table of different names, which it owns. A contract sees it as the list of the names' bytes, in the order in which they came.
 #[derive(Drop)]
-pub struct Names<'a> {
-    set: IndexSet<&'a [u8]>,
+pub struct Names {
+    set: IndexSet<Vec<u8>>,
 }
 
-impl<'a> Model for Names<'a> {
+impl Model for Names {
     ghost use Rattle.std.specs.Prelude.{ℕ, List, map};
 
     ghost Value = { List (List ℕ) };
 
-    ghost view = { λ names. map (λ s. s.now) names.set.keys };
+    ghost view = { λ names. map (λ name. name.items) names.set.keys };
 }
 
 /// How a name was taken in, with its number.
@@ -28,8 +28,8 @@ pub enum Named {
     Known(usize),
 }
 
-impl<'a> Names<'a> {
-    ghost use Rattle.std.specs.Prelude.{◌≡◌, ◌==◌, ◌<◌, ◌≤◌, ◌+◌, [], length, map, IfOk, IfSome, OnErr};
+impl Names {
+    ghost use Rattle.std.specs.Prelude.{◌≡◌, ◌==◌, ◌<◌, ◌≤◌, ◌+◌, [], length, map, slice_index_or, IfOk, IfSome, OnErr};
     ghost use Rattle.names.specs.Names.{place, IsTaken, number_of};
 
     /// A table without names.
@@ -56,11 +56,19 @@ impl<'a> Names<'a> {
     }
 
     /// The names, by number.
-    pub fn as_slice(&self) -> &[&'a [u8]]
-        ensures names { map (λ s. s.now) result.now ≡ self.now }
+    pub fn as_slice(&self) -> &[Vec<u8>]
+        ensures names { map (λ name. name.items) result.now ≡ self.now }
         ensures len { length result.now ≡ length self.now }
     {
         self.set.as_slice()
+    }
+
+    /// The name with a number.
+    pub fn name(&self, number: usize) -> &[u8]
+        requires { number < length self.now }
+        ensures { result.now ≡ slice_index_or self.now number [] }
+    {
+        self.as_slice()[number].as_slice()
     }
 
     /// The number of a name, or none where there is no such name.
@@ -72,10 +80,10 @@ impl<'a> Names<'a> {
         self.set.get_index_of(name)
     }
 
-    /// Takes in a name, and says its number, which is the last where the name is new.
+    /// Takes in a name, and says its number, which is the last where the name is new. Only a new name is copied.
     #[tactic(auto, using(crate::proofs::Places::place_keys))]
-    pub fn insert(&mut self, name: &'a [u8]) -> Result<Named, AllocError>
-        ensures taken { IfOk result (λ named. IsTaken named name.entry.now self.old self.new) }
+    pub fn insert(&mut self, alloc: Global, name: &[u8]) -> Result<Named, AllocError>
+        ensures taken { IfOk result (λ named. IsTaken named name.now self.old self.new) }
         ensures within { IfOk result (λ named. number_of named < length self.new) }
         ensures err { OnErr result (self.new ≡ self.old) }
     {
@@ -83,7 +91,8 @@ impl<'a> Names<'a> {
             Some(id) => Ok(Named::Known(id)),
             None => {
                 let id = self.len();
-                self.set.insert(name)?;
+                let owned = Vec::from_slice(alloc, name)?;
+                self.set.insert(owned)?;
                 Ok(Named::Fresh(id))
             }
         }

@@ -13,3 +13,4 @@ pub mod ShortLaws
 pub mod DecimalLaws
 pub mod TextLaws
 pub mod WritingLaws
+pub mod ReachLaws

@@ -5,3 +5,4 @@ pub mod Read
 pub mod Views
 pub mod Grammar
 pub mod Shorts
+pub mod Reach

@@ -7,10 +7,12 @@
 #![tactic(auto)]
 
 mod decimal_form;
+mod display;
 pub mod form;
 pub mod laws;
 mod mantissa;
 mod places;
+mod reach;
 mod reading;
 mod scaling;
 mod short;
@@ -18,7 +20,9 @@ mod short;
 mod tests;
 mod writing;
 
+pub use display::Displayed;
 pub use fractions::Numbers;
 pub use places::is_decimal;
+pub use reach::reaches;
 pub use reading::{ReadNumber, read};
 pub use writing::{push, write};

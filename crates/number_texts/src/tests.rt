@@ -230,6 +230,8 @@ fn reads_and_writes(rt: HostRuntime) -> Result<(), Fail> {
             Ok(number) => {
                 let text = write(rt.alloc(), &number)?;
                 assert!(rt; text.as_slice() == case.want);
+                let shown = format!(in rt.alloc(); "{}", Displayed(&number))?;
+                assert!(rt; shown.as_bytes() == case.want);
                 assert!(rt; case.numbers == Numbers::Fractions || is_decimal(&number));
             }
             Err(ReadNumber::NumberPast) => assert!(rt; case.want == b"~".as_slice()),

@@ -39,6 +39,15 @@ fn marked_digits(buffer: &mut Buffer, number: u128, places: u32) -> &str
     digits_of(buffer, power(places) + number)
 }
 
+/// Exactly `places` digits of `number`.
+pub(crate) fn decimals(buffer: &mut Buffer, number: u128, places: u32) -> &str
+    requires few { places ≤ 38 }
+    requires small { number < 10 ^ places }
+    ensures { result.now ≡ last_digits places number }
+{
+    &marked_digits(buffer, number, places)[1..]
+}
+
 /// Appends exactly `places` digits of `number`.
 fn push_digits(out: &mut Vec<u8>, number: u128, places: u32) -> Result<(), AllocError>
     requires few { places ≤ 38 }
@@ -46,8 +55,7 @@ fn push_digits(out: &mut Vec<u8>, number: u128, places: u32) -> Result<(), Alloc
     ensures { OnOk result (out.new.items ≡ out.old.items ++ last_digits places number) }
 {
     let mut buffer = Buffer::new();
-    let digits = marked_digits(&mut buffer, number, places).as_bytes();
-    out.extend_from_slice(&digits[1..])
+    out.extend_from_slice(decimals(&mut buffer, number, places).as_bytes())
 }
 
 /// Appends `number / 10 ^ places` with exactly `places` decimals.

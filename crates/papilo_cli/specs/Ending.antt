@@ -1,11 +1,18 @@
 -- How a run may end, and what each ending says of the files before and after it.
-use Rattle.std.specs.Prelude.{◌≡◌, ◌≢◌, ◌⊎◌, ℕ, List, [], ◌∷◌, ◌++◌, codes, Option, Some, None}
+use Rattle.std.specs.Prelude.{◌≡◌, ◌≢◌, ◌⊎◌, ℕ, List, [], ◌∷◌, ◌++◌, codes, Option, Some, None, if◌then◌else◌}
 use Rattle.std.specs.Fmt.{decimal}
 use Rattle.file_ports.specs.Ports.{Told, Rose, IsLonger, KeepsOthers, Grown, GrownInPart, Written}
 use Rattle.command_line.specs.Line.{Request, PresolveNames, Presolve}
-use Rattle.mps_cards.specs.Faults.{number_of_kind}
+use Rattle.command_line.specs.declared.reading.PresolveOptions.{PresolveOptions}
+use Rattle.fractions.specs.declared.Numbers.{Numbers}
+use Rattle.fractions.specs.declared.Numbers.TheVariants.{Decimal, Fractions}
+use Rattle.mps_profile.specs.Faults.{number_of_kind}
+use Rattle.mps_profile.specs.Reading.{first_fault}
+use Rattle.mps_profile.specs.declared.dialect.Dialect.{Dialect}
+use Rattle.mps_profile.specs.declared.dialect.Format.{Format}
+use Rattle.mps_profile.specs.declared.dialect.Format.TheVariants.{Free, Fixed}
 use Rattle.mps_reader.specs.declared.faults.MpsFault.{MpsFault}
-use Rattle.papilo_cli.specs.Texts.{Outcome, AreTexts}
+use Rattle.papilo_cli.specs.Texts.{Outcome, AreTexts, IsProgramOf}
 use Rattle.papilo_cli.specs.declared.presolve.TheConstants.{INPUT_LIMIT}
 use Rattle.papilo_cli.specs.declared.ending.Ending.{Ending}
 use Rattle.papilo_cli.specs.declared.ending.Ending.TheVariants.{Done, Usage, Refused, ReadFault, WriteFault, NoMemory}
@@ -37,9 +44,26 @@ pub record Moment : Type 0 where
 abbrev pub KeepsAllBut : (List ℕ → Told) → (List ℕ → Told) → List ℕ → List ℕ → Type 0
 KeepsAllBut old new first second = (other : List ℕ) → other ≢ first → other ≢ second → new other ≡ old other
 
--- the texts of some outcome were written, and its report goes with them
+-- how IN is read
+abbrev pub numbers_of : PresolveOptions → Numbers
+numbers_of options = if options.fractions then Fractions else Decimal
+
+abbrev pub format_of : PresolveOptions → Format
+format_of options = if options.fixed then Fixed else Free
+
+abbrev pub dialect_of : PresolveOptions → Dialect
+dialect_of options = record { format = format_of options; numbers = numbers_of options }
+
+-- what a name tells, where it tells its bytes, has this property; it isn't missing
+abbrev pub Reads : Told → (List ℕ → Type 0) → Type 0
+Reads None P = Unit {0}
+Reads (Some None) P = ⊥
+Reads (Some (Some held)) P = P held
+
+-- the texts of some outcome of IN's program were written, and its report goes with them
 pub record IsPresolved (names : PresolveNames) (printed : List ℕ) (old new : List ℕ → Told) : Type 0 where
   pub outcome : Outcome
+  pub source : Reads (old names.input) (λ text. IsProgramOf (dialect_of names.options) text outcome.source)
   pub program : List ℕ
   pub records : List ℕ
   pub texts : AreTexts outcome program records printed
@@ -51,11 +75,12 @@ pub record IsPresolved (names : PresolveNames) (printed : List ℕ) (old new : L
 abbrev pub fault_text : MpsFault → List ℕ
 fault_text fault = codes "error M" ++ (decimal (number_of_kind fault.kind) ++ (codes " line " ++ (decimal fault.line ++ 10 ∷ [])))
 
--- some fault of the program's text; or the text is longer than is read
-abbrev pub SaysFault : List ℕ → List ℕ → Moment → Moment → Type 0
-SaysFault input said before now =
-    ((fault : MpsFault) × (said ≡ fault_text fault))
-    ⊎ (IsLonger (before.told input) INPUT_LIMIT × Rose (before.overlong INPUT_LIMIT input) (now.overlong INPUT_LIMIT input) × (said ≡ codes "error M17" ++ 10 ∷ []))
+-- the first fault of the program's text; or the text is longer than is read
+abbrev pub SaysFault : PresolveNames → List ℕ → Moment → Moment → Type 0
+SaysFault names said before now =
+    ((fault : MpsFault) × Reads (before.told names.input) (λ text. first_fault (dialect_of names.options) text ≡ Some (fault.kind, fault.line)) × (said ≡ fault_text fault))
+    ⊎ (IsLonger (before.told names.input) INPUT_LIMIT × Rose (before.overlong INPUT_LIMIT names.input) (now.overlong INPUT_LIMIT names.input)
+    × (said ≡ codes "error M17" ++ 10 ∷ []))
 
 -- Of two writes one failed: the first, and all other names stand; or the second, and the first text was written.
 -- What was told before and is told now, and the counts of write faults before and now, are by name.
@@ -68,9 +93,10 @@ FailsBetween first text second old new before now =
 abbrev pub EndsPresolve : PresolveNames → Ending → Moment → Moment → Type 0
 EndsPresolve names (Done text) before now = IsPresolved names text.items before.told now.told
 EndsPresolve names Usage before now = ⊥
-EndsPresolve names (Refused line) before now = SaysFault names.input line.items before now × (now.told ≡ before.told)
+EndsPresolve names (Refused line) before now = SaysFault names line.items before now × (now.told ≡ before.told)
 EndsPresolve names ReadFault before now = (now.told ≡ before.told) × Rose (before.reads names.input) (now.reads names.input)
 EndsPresolve names WriteFault before now = (outcome : Outcome) × (program records printed : List ℕ) × AreTexts outcome program records printed
+    × Reads (before.told names.input) (λ text. IsProgramOf (dialect_of names.options) text outcome.source)
     × FailsBetween names.output program names.records before.told now.told before.writes now.writes
 EndsPresolve names NoMemory before now = now.told ≡ before.told
 

@@ -1,13 +1,16 @@
-//! The command `presolve IN OUT REC`.
+//! The command `presolve IN OUT REC [--fractions] [--fixed]`.
 
 ghost use Rattle.std.specs.Prelude.{◌≡◌, ◌≢◌, IfOk, OnOk, OnErr};
 ghost use Rattle.file_ports.specs.Ports.{Written};
-ghost use Rattle.papilo_cli.specs.Ending.{EndsPresolve, FailsBetween, KeepsAllBut, fault_text};
+ghost use Rattle.command_line.specs.Seen.{names_of};
+ghost use Rattle.papilo_cli.specs.Ending.{EndsPresolve, FailsBetween, KeepsAllBut, fault_text, dialect_of};
 
 use crate::ending::Ending;
 use crate::reduce::{NotReduced, Texts, reduce};
+use command_line::{PresolveOptions, PresolveWords};
 use file_ports::{Failed, Files, ReadErr};
-use mps_reader::MpsFault;
+use fractions::Numbers;
+use mps_reader::{Dialect, Format, MpsFault};
 use std::alloc::{AllocError, Global};
 
 /// The longest program that is read, in bytes.
@@ -41,21 +44,37 @@ fn write_both<F: Files>(
     files.write(records, &texts.records)
 }
 
+// How IN is read.
+fn dialect_of(options: PresolveOptions) -> Dialect
+    ensures { result ≡ dialect_of options }
+{
+    Dialect {
+        format: if options.fixed {
+            Format::Fixed
+        } else {
+            Format::Free
+        },
+        numbers: if options.fractions {
+            Numbers::Fractions
+        } else {
+            Numbers::Decimal
+        },
+    }
+}
+
 /// Reads a program, writes the reduced one and its records. All that is written and printed is made before the first write.
 pub fn presolve<F: Files>(
     alloc: Global,
-    input: &str,
-    output: &str,
-    records: &str,
+    words: &PresolveWords<'_>,
     files: &mut F,
 ) -> Result<Ending, AllocError>
-    requires { output.now ≢ records.now }
-    ensures ends { IfOk result (λ e. EndsPresolve (record { input = input.now; output = output.now; records = records.now }) e
+    requires { words.now.output.now ≢ words.now.records.now }
+    ensures ends { IfOk result (λ e. EndsPresolve (names_of words.now) e
         (record { told = F.told files.old; reads = F.read_faults files.old; writes = F.write_faults files.old; overlong = F.overlong files.old })
         (record { told = F.told files.new; reads = F.read_faults files.new; writes = F.write_faults files.new; overlong = F.overlong files.new })) }
     ensures no_memory { OnErr result (F.told files.new ≡ F.told files.old) }
 {
-    let text = match files.read(alloc, input, INPUT_LIMIT) {
+    let text = match files.read(alloc, words.input, INPUT_LIMIT) {
         Ok(text) => text,
         Err(ReadErr::Failed) => return Ok(Ending::ReadFault),
         Err(ReadErr::TooLong) => {
@@ -63,12 +82,12 @@ pub fn presolve<F: Files>(
         }
         Err(ReadErr::NoMemory) => return Err(AllocError),
     };
-    let texts = match reduce(alloc, &text) {
+    let texts = match reduce(alloc, &text, dialect_of(words.options)) {
         Ok(texts) => texts,
         Err(NotReduced::Fault(fault)) => return Ok(Ending::Refused(fault_line(alloc, fault)?)),
         Err(NotReduced::NoMemory) => return Err(AllocError),
     };
-    match write_both(output, records, &texts, files) {
+    match write_both(words.output, words.records, &texts, files) {
         Ok(()) => Ok(Ending::Done(texts.report)),
         Err(Failed) => Ok(Ending::WriteFault),
     }

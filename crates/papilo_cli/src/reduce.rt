@@ -2,13 +2,14 @@
 
 ghost use Rattle.std.specs.Prelude.{◌≡◌, ◌<◌, ◌≤◌, ◌^◌, ◌-◌, length, min, IfOk};
 ghost use Rattle.std.specs.List.{sum_by};
+ghost use Rattle.lp_model.specs.ProgramData.{ProgramData};
 ghost use Rattle.mps_writer.specs.MpsText.{mps_text};
-ghost use Rattle.papilo_cli.specs.Texts.{AreTexts, Outcome, Tells, entries_of};
+ghost use Rattle.papilo_cli.specs.Texts.{AreTexts, Carries, IsReduced, Outcome, Tells, entries_of};
 
 use crate::report::{Change, Report, report_of};
 use fractions::Numbers;
 use lp_model::{ColumnDef, Program};
-use mps_reader::{MpsError, MpsFault, read_mps};
+use mps_reader::{Dialect, MpsError, MpsFault, read_mps};
 use mps_writer::{WriteError, write_mps};
 use presolve_rounds::{Options, Presolved, presolve};
 use record_file::write_records;
@@ -75,42 +76,35 @@ fn size_of(program: &Program) -> Size
     }
 }
 
-fn read_program(alloc: Global, text: &[u8]) -> Result<Program, NotReduced>
-    requires { length text.now < 2 ^ 32 }
-{
-    match read_mps(alloc, text, Numbers::Decimal) {
-        Ok(program) => Ok(program),
-        Err(MpsError::Fault(fault)) => Err(NotReduced::Fault(fault)),
-        Err(MpsError::NoMemory) => Err(NotReduced::NoMemory),
-    }
-}
-
-fn program_text(alloc: Global, program: &Program) -> Result<Vec<u8>, NotReduced>
+fn program_text(alloc: Global, program: &Program) -> Result<Vec<u8>, AllocError>
     ensures { IfOk result (λ text. text.items ≡ mps_text program.now) }
 {
     match write_mps(alloc, program) {
         Ok(text) => Ok(text),
-        Err(WriteError::Past) => Err(NotReduced::NoMemory),
-        Err(WriteError::NoMemory) => Err(NotReduced::NoMemory),
+        Err(WriteError::Past) => Err(AllocError),
+        Err(WriteError::NoMemory) => Err(AllocError),
     }
 }
 
-fn report_for(presolved: &Presolved, entries: u64) -> Report
-    ensures { Tells (record { program = presolved.now.program; records = presolved.now.records; report = result }) }
+// The report of a presolve of a program of this size.
+fn report_for(presolved: &Presolved, before: Size) -> Report
+    ensures { (source : ProgramData) → Carries presolved.now.records source → before.rows ≡ length source.rows
+        → before.columns ≡ length source.columns → before.entries ≡ entries_of source
+        → Tells (record { source = source; program = presolved.now.program; records = presolved.now.records; report = result }) }
 {
     let left = size_of(&presolved.program);
     let records = &presolved.records;
     Report {
         rows: Change {
-            before: records.rows().len() as u64,
+            before: before.rows,
             after: left.rows,
         },
         columns: Change {
-            before: records.columns().len() as u64,
+            before: before.columns,
             after: left.columns,
         },
         entries: Change {
-            before: entries,
+            before: before.entries,
             after: left.entries,
         },
         records: records.undos().len() as u64,
@@ -119,9 +113,10 @@ fn report_for(presolved: &Presolved, entries: u64) -> Report
     }
 }
 
-fn texts_of(alloc: Global, presolved: &Presolved, report: &Report) -> Result<Texts, NotReduced>
-    requires { Tells (record { program = presolved.now.program; records = presolved.now.records; report = report.now }) }
-    ensures { IfOk result (λ texts. AreTexts (record { program = presolved.now.program; records = presolved.now.records; report = report.now })
+fn texts_of(alloc: Global, presolved: &Presolved, report: &Report) -> Result<Texts, AllocError>
+    ensures { IfOk result (λ texts. (source : ProgramData)
+        → Tells (record { source = source; program = presolved.now.program; records = presolved.now.records; report = report.now })
+        → AreTexts (record { source = source; program = presolved.now.program; records = presolved.now.records; report = report.now })
         texts.program.items texts.records.items texts.report.items) }
 {
     let program = program_text(alloc, &presolved.program)?;
@@ -134,22 +129,36 @@ fn texts_of(alloc: Global, presolved: &Presolved, report: &Report) -> Result<Tex
     })
 }
 
-/// Reads a program, reduces it, and makes the texts of what is left. Numbers are decimal.
-///
-/// # Errors
-/// The first fault of the text, or want of memory.
-pub fn reduce(alloc: Global, text: &[u8]) -> Result<Texts, NotReduced>
-    requires { length text.now < 2 ^ 32 }
-    ensures { IfOk result (λ texts. (outcome : Outcome) × AreTexts outcome texts.program.items texts.records.items texts.report.items) }
+// Reduces a program, and makes the texts of what is left.
+fn reduce_program(alloc: Global, program: Program, numbers: Numbers) -> Result<Texts, AllocError>
+    ensures { IfOk result (λ texts. (outcome : Outcome) × (outcome.source ≡ program)
+        × AreTexts outcome texts.program.items texts.records.items texts.report.items) }
 {
-    let program = read_program(alloc, text)?;
-    let entries = count_entries(program.columns());
+    let before = size_of(&program);
     let options = Options {
-        numbers: Numbers::Decimal,
+        numbers,
         limit: RECORD_LIMIT,
     };
     let presolved = presolve(alloc, program, &options)?;
-    let report = report_for(&presolved, entries);
+    let report = report_for(&presolved, before);
     let texts = texts_of(alloc, &presolved, &report)?;
     Ok(texts)
+}
+
+/// Reads a program, reduces it, and makes the texts of what is left.
+///
+/// # Errors
+/// The first fault of the text, or want of memory.
+pub fn reduce(alloc: Global, text: &[u8], dialect: Dialect) -> Result<Texts, NotReduced>
+    requires { length text.now < 2 ^ 32 }
+    ensures { IsReduced dialect text.now result }
+{
+    match read_mps(alloc, text, dialect) {
+        Ok(program) => {
+            let texts = reduce_program(alloc, program, dialect.numbers)?;
+            Ok(texts)
+        }
+        Err(MpsError::Fault(fault)) => Err(NotReduced::Fault(fault)),
+        Err(MpsError::NoMemory) => Err(NotReduced::NoMemory),
+    }
 }

@@ -3,7 +3,7 @@
 ghost use Rattle.std.specs.Prelude.{◌≡◌, ◌≢◌, ◌≤◌, ◌⊎◌, ℕ, List, None, Some};
 ghost use Rattle.file_ports.specs.Ports.{Rose, Grown};
 ghost use Rattle.command_line.specs.Line.{asked, texts, Presolve, PresolveNames};
-ghost use Rattle.papilo_cli.specs.Ending.{Ends, IsPresolved, KeepsAllBut, Prints};
+ghost use Rattle.papilo_cli.specs.Ending.{Ends, IsPresolved, KeepsAllBut, Prints, SaysFault};
 
 use crate::ending::Ending;
 use crate::presolve::presolve;
@@ -19,10 +19,8 @@ fn ending_of<F: Files>(alloc: Global, words: &[String], files: &mut F) -> Ending
         (record { told = F.told files.new; reads = F.read_faults files.new; writes = F.write_faults files.new; overlong = F.overlong files.new }) }
 {
     match command_line::read(alloc, words) {
-        Ok(Request::Presolve(names)) => {
-            presolve(alloc, names.input, names.output, names.records, files).unwrap_or(
-                Ending::NoMemory,
-            )
+        Ok(Request::Presolve(words)) => {
+            presolve(alloc, &words, files).unwrap_or(Ending::NoMemory)
         }
         Err(Refusal::Words) => Ending::Usage,
         Err(Refusal::NoMemory) => Ending::NoMemory,
@@ -55,6 +53,11 @@ pub fn run<R, F: Files, S: Sink, G: Gate>(
     ensures sink_fault { asked (texts words.now) ≡ None → result ≡ 4 → Rose (S.faults out.old) (S.faults out.new) }
     ensures presolved { (names : PresolveNames) → asked (texts words.now) ≡ Some (Presolve names) → result ≡ 0
         → (printed : List ℕ) × IsPresolved names printed (F.told files.old) (F.told files.new) × Grown (S.taken out.old) (S.taken out.new) printed }
+    ensures refused_text { (names : PresolveNames) → asked (texts words.now) ≡ Some (Presolve names) → result ≡ 2
+        → (said : List ℕ) × SaysFault names said
+        (record { told = F.told files.old; reads = F.read_faults files.old; writes = F.write_faults files.old; overlong = F.overlong files.old })
+        (record { told = F.told files.new; reads = F.read_faults files.new; writes = F.write_faults files.new; overlong = F.overlong files.new })
+        × Grown (S.taken out.old) (S.taken out.new) said }
     ensures others { (names : PresolveNames) → asked (texts words.now) ≡ Some (Presolve names)
         → KeepsAllBut (F.told files.old) (F.told files.new) names.output names.records }
     ensures quiet { result ≢ 0 → result ≢ 4 → F.told files.new ≡ F.told files.old }

@@ -1,7 +1,8 @@
 //! Presolve of a program.
 
 ghost use Rattle.std.specs.Prelude.{◌≡◌, length, IfOk};
-ghost use Rattle.presolve_rounds.specs.Runs.{TellsEnd};
+ghost use Rattle.lp_model.specs.Names.{names_of_rows, names_of_columns};
+ghost use Rattle.presolve_rounds.specs.Runs.{TellsEnd, names_in};
 
 use crate::run::{End, Run};
 use fractions::Numbers;
@@ -41,6 +42,9 @@ pub struct Presolved {
 pub fn presolve(alloc: Global, program: Program, options: &Options) -> Result<Presolved, AllocError>
     ensures end { IfOk result (λ made. TellsEnd made.end options.now.limit (length made.records.undos)) }
     ensures offset { IfOk result (λ made. made.records.offset ≡ made.offset) }
+    ensures sense { IfOk result (λ made. made.records.sense ≡ program.sense) }
+    ensures rows { IfOk result (λ made. names_in made.records.rows ≡ names_of_rows program.rows) }
+    ensures columns { IfOk result (λ made. names_in made.records.columns ≡ names_of_columns program.columns) }
 {
     let problem = Problem::from_program(alloc, &program)?;
     let mut run = Run::new(alloc, problem, options.numbers, options.limit)?;
@@ -59,12 +63,14 @@ pub fn presolve(alloc: Global, program: Program, options: &Options) -> Result<Pr
 }
 
 /// The names of the rows, and which are live.
-fn row_labels(alloc: Global, problem: &Problem, rows: &[RowDef]) -> Result<Vec<Label>, AllocError> {
+fn row_labels(alloc: Global, problem: &Problem, rows: &[RowDef]) -> Result<Vec<Label>, AllocError>
+    ensures { IfOk result (λ labels. names_in labels.items ≡ names_of_rows rows.now) }
+{
     let lines = problem.matrix().rows();
     let mut labels = Vec::with_capacity(alloc, rows.len())?;
-    for (i, row) in rows.iter().enumerate() {
+    for i in 0..rows.len() {
         labels.push(Label {
-            name: row.name.copy(alloc)?,
+            name: rows[i].name.copy(alloc)?,
             live: i < lines.len() && lines[i].live,
         })?;
     }
@@ -76,12 +82,14 @@ fn column_labels(
     alloc: Global,
     problem: &Problem,
     columns: &[ColumnDef],
-) -> Result<Vec<Label>, AllocError> {
+) -> Result<Vec<Label>, AllocError>
+    ensures { IfOk result (λ labels. names_in labels.items ≡ names_of_columns columns.now) }
+{
     let lines = problem.matrix().columns();
     let mut labels = Vec::with_capacity(alloc, columns.len())?;
-    for (j, column) in columns.iter().enumerate() {
+    for j in 0..columns.len() {
         labels.push(Label {
-            name: column.name.copy(alloc)?,
+            name: columns[j].name.copy(alloc)?,
             live: j < lines.len() && lines[j].live,
         })?;
     }

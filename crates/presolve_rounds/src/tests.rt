@@ -5,7 +5,7 @@ use fractions::Numbers;
 use fractions::ext::Ext;
 use fractions::frac::Frac;
 use fractions::whole::Whole;
-use lp_model::{ColumnDef, Name, Program, RowDef, Sense, Term, Terms};
+use lp_model::{ColumnDef, Name, Program, RowDef, Sense, Term, Terms, names_differ};
 use std::alloc::{AllocError, Global};
 use std::process::Abort;
 use std::test::Fail;
@@ -37,17 +37,20 @@ fn end_at(n: Option<i32>) -> Ext {
     }
 }
 
-fn program(alloc: Global, case: &Case<'_>) -> Result<Program, AllocError> {
+/// The names of rows, and of columns. No case has more of either.
+const NAMES: [&[u8]; 3] = [b"first", b"second", b"third"];
+
+fn program(rt: &impl Abort, alloc: Global, case: &Case<'_>) -> Result<Program, AllocError> {
     let mut rows = Vec::new(alloc);
-    for (lower, upper) in case.sides {
+    for (name, (lower, upper)) in NAMES.iter().zip(case.sides) {
         rows.push(RowDef {
-            name: Name::from_slice(alloc, b"row")?,
+            name: Name::from_slice(alloc, name)?,
             lower: end_at(*lower),
             upper: end_at(*upper),
         })?;
     }
     let mut columns = Vec::new(alloc);
-    for (cost, entries) in case.columns {
+    for (name, (cost, entries)) in NAMES.iter().zip(case.columns) {
         let mut terms = Vec::new(alloc);
         for (id, value) in *entries {
             terms.push(Term {
@@ -56,7 +59,7 @@ fn program(alloc: Global, case: &Case<'_>) -> Result<Program, AllocError> {
             })?;
         }
         columns.push(ColumnDef {
-            name: Name::from_slice(alloc, b"column")?,
+            name: Name::from_slice(alloc, name)?,
             cost: number(*cost),
             lower: Ext::at(Frac::zero()),
             upper: Ext::none(),
@@ -65,6 +68,7 @@ fn program(alloc: Global, case: &Case<'_>) -> Result<Program, AllocError> {
         })?;
     }
     let objective = Name::from_slice(alloc, b"cost")?;
+    assert!(rt; names_differ(&objective, rows.as_slice(), columns.as_slice()));
     Ok(Program::new(case.sense, objective, number(7), rows, columns))
 }
 
@@ -172,7 +176,7 @@ fn reduces_programs(rt: HostRuntime) -> Result<(), Fail> {
             numbers: Numbers::Decimal,
             limit: case.limit,
         };
-        let made = presolve(alloc, program(alloc, case)?, &options)?;
+        let made = presolve(alloc, program(&rt, alloc, case)?, &options)?;
         check(&rt, case, &made);
     }
     Ok(())

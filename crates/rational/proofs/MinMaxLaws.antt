@@ -1,11 +1,12 @@
 -- Laws of the less and the greater of two numbers, and of the distance from 0.
-use Rattle.std.proofs.Common.{◌≡◌, pos, Bool, true, false, if◌then◌else◌, ◌⊎◌, inl, inr, [], ◌∷◌, sym, refl, ap, ◌∙◌, subst, true≢false}
-use Rattle.rational.specs.Ring.{ring, v, num, ◌:-◌, inv}
-use Rattle.rational.specs.Number.{Number, rational, neg_ℚ, zero_ℚ}
-use Rattle.rational.specs.Order.{◌≤ℚ◌, ≤ℚ_refl, ≤ℚ_trans, ≤ℚ-by, ≤ℚ_cases, <ℚ-≤ℚ}
+use Rattle.std.proofs.Common.{◌≡◌, pos, Bool, true, false, if◌then◌else◌, ◌⊎◌, inl, inr, [], ◌∷◌, sym, refl, ap, ap₂, ◌∙◌, subst, true≢false}
+use Rattle.rational.specs.Ring.{ring, v, num, ◌:+◌, ◌:-◌, ◌:*◌, inv}
+use Rattle.rational.specs.Number.{Number, rational, ◌+ℚ◌, ◌*ℚ◌, neg_ℚ, zero_ℚ}
+use Rattle.rational.specs.Order.{◌≤ℚ◌, ≤ℚ_refl, ≤ℚ_trans, ≤ℚ_antisym, ≤ℚ-by, ≤ℚ_cases, ≤ℚ-+ℚ, <ℚ-≤ℚ}
 use Rattle.rational.specs.Compare.{le_ℚ}
 use Rattle.rational.specs.MinMax.{min_ℚ, max_ℚ, abs_ℚ}
 use Rattle.rational.proofs.Comparisons.{le_ℚ-is}
+use Rattle.rational.proofs.Signs.{*ℚ_pos, *ℚ_pos_neg, *ℚ_neg}
 
 other : (p q : Number) → le_ℚ p q ≡ false → q ≤ℚ p
 other p q e = elim (≤ℚ_cases p q) [ inl h ↦ absurd (true≢false (sym ((le_ℚ-is p q).1 h) ∙ e)) | inr h ↦ <ℚ-≤ℚ h ]
@@ -69,3 +70,33 @@ neg_ℚ-≤-abs_ℚ q = elim (abs_ℚ_cases q) [ inl h ↦ subst (λ z. neg_ℚ 
 -- a distance is within r where the number and its negative are
 pub abs_ℚ-≤ : {q r : Number} → q ≤ℚ r → neg_ℚ q ≤ℚ r → abs_ℚ q ≤ℚ r
 abs_ℚ-≤ {q} {r} h k = elim (abs_ℚ_cases q) [ inl m ↦ subst (λ z. z ≤ℚ r) (sym m.0) h | inr m ↦ subst (λ z. z ≤ℚ r) (sym m.0) k ]
+
+-- the number itself where it isn't negative, and its negative where it isn't positive
+pub abs_ℚ-is : (q : Number) → zero_ℚ ≤ℚ q → abs_ℚ q ≡ q
+abs_ℚ-is q h = elim (abs_ℚ_cases q) [ inl m ↦ m.0 | inr m ↦ m.0 ∙ ap neg_ℚ (≤ℚ_antisym m.1 h) ∙ ring rational [] (inv (num (pos 0))) (num (pos 0)) refl ∙ ≤ℚ_antisym h m.1 ]
+
+pub abs_ℚ-neg : (q : Number) → q ≤ℚ zero_ℚ → abs_ℚ q ≡ neg_ℚ q
+abs_ℚ-neg q h = elim (abs_ℚ_cases q) [ inl m ↦ m.0 ∙ ≤ℚ_antisym h m.1 ∙ ring rational [] (num (pos 0)) (inv (num (pos 0))) refl ∙ ap neg_ℚ (≤ℚ_antisym m.1 h) | inr m ↦ m.0 ]
+
+pub abs_ℚ-+ℚ : (p q : Number) → abs_ℚ (p +ℚ q) ≤ℚ (abs_ℚ p +ℚ abs_ℚ q)
+abs_ℚ-+ℚ p q = abs_ℚ-≤ (≤ℚ-+ℚ (≤ℚ-abs_ℚ p) (≤ℚ-abs_ℚ q))
+    (subst (λ z. z ≤ℚ (abs_ℚ p +ℚ abs_ℚ q)) (ring rational (p ∷ q ∷ []) (inv (v 0) :+ inv (v 1)) (inv (v 0 :+ v 1)) refl) (≤ℚ-+ℚ (neg_ℚ-≤-abs_ℚ p) (neg_ℚ-≤-abs_ℚ q)))
+
+pub abs_ℚ-*ℚ : (p q : Number) → abs_ℚ (p *ℚ q) ≡ abs_ℚ p *ℚ abs_ℚ q
+abs_ℚ-*ℚ p q = by (abs_ℚ_cases p) (abs_ℚ_cases q)
+  where
+    by : ((abs_ℚ p ≡ p) × (zero_ℚ ≤ℚ p)) ⊎ ((abs_ℚ p ≡ neg_ℚ p) × (p ≤ℚ zero_ℚ)) → ((abs_ℚ q ≡ q) × (zero_ℚ ≤ℚ q)) ⊎ ((abs_ℚ q ≡ neg_ℚ q) × (q ≤ℚ zero_ℚ)) → abs_ℚ (p *ℚ q) ≡ abs_ℚ p *ℚ abs_ℚ q
+    by (inl a) (inl b) = abs_ℚ-is (p *ℚ q) (*ℚ_pos a.1 b.1) ∙ sym (ap₂ ◌*ℚ◌ a.0 b.0)
+    by (inl a) (inr b) = abs_ℚ-neg (p *ℚ q) (*ℚ_pos_neg a.1 b.1) ∙ ring rational (p ∷ q ∷ []) (inv (v 0 :* v 1)) (v 0 :* inv (v 1)) refl ∙ sym (ap₂ ◌*ℚ◌ a.0 b.0)
+    by (inr a) (inl b) = abs_ℚ-neg (p *ℚ q) (subst (λ z. z ≤ℚ zero_ℚ) (ring rational (p ∷ q ∷ []) (v 1 :* v 0) (v 0 :* v 1) refl) (*ℚ_pos_neg b.1 a.1)) ∙ ring rational (p ∷ q ∷ []) (inv (v 0 :* v 1)) (inv (v 0) :* v 1) refl ∙ sym (ap₂ ◌*ℚ◌ a.0 b.0)
+    by (inr a) (inr b) = abs_ℚ-is (p *ℚ q) (*ℚ_neg a.1 b.1) ∙ ring rational (p ∷ q ∷ []) (v 0 :* v 1) (inv (v 0) :* inv (v 1)) refl ∙ sym (ap₂ ◌*ℚ◌ a.0 b.0)
+
+-- one of the two, whichever it is
+pub min_ℚ_one : (p q : Number) → (min_ℚ p q ≡ p) ⊎ (min_ℚ p q ≡ q)
+min_ℚ_one p q = elim (min_ℚ_cases p q) [ inl h ↦ inl h.0 | inr h ↦ inr h.0 ]
+
+pub max_ℚ_one : (p q : Number) → (max_ℚ p q ≡ p) ⊎ (max_ℚ p q ≡ q)
+max_ℚ_one p q = elim (max_ℚ_cases p q) [ inl h ↦ inr h.0 | inr h ↦ inl h.0 ]
+
+pub abs_ℚ_one : (q : Number) → (abs_ℚ q ≡ q) ⊎ (abs_ℚ q ≡ neg_ℚ q)
+abs_ℚ_one q = elim (abs_ℚ_cases q) [ inl h ↦ inl h.0 | inr h ↦ inr h.0 ]

@@ -11,7 +11,8 @@ ghost use Rattle.rational.specs.Order.{◌≤ℚ◌, ◌<ℚ◌};
 ghost use Rattle.rational.specs.Compare.{le_ℚ, lt_ℚ, eq_ℚ, number_cmp};
 ghost use Rattle.rational.specs.Gcd.{gcd};
 ghost use Rattle.rational.specs.Lowest.{ratio, over_of, under_of};
-ghost use Rattle.rational.specs.Division.{inv_ℚ};
+ghost use Rattle.rational.specs.Division.{inv_ℚ, ◌/ℚ◌};
+ghost use Rattle.rational.specs.MinMax.{min_ℚ, max_ℚ, abs_ℚ};
 ghost use Rattle.rational.specs.Floor.{floor_of, ceil_of, IsWhole, is_whole};
 ghost use Rattle.rational.specs.Decimal.{HasPlaces};
 ghost use Rattle.rational.specs.Ends.{AtLeast, AtMost, meet_low, meet_high, over};
@@ -48,6 +49,36 @@ pub fn tests_decide_the_order()
     ensures below { (p q : Number) → IsTrue (lt_ℚ p q) ↔ (p <ℚ q) }
     ensures equal { (p q : Number) → IsTrue (eq_ℚ p q) ↔ (p ≡ q) }
     ensures compared { IsTotalOrder number_cmp }
+{}
+
+/// The less and the greater of two numbers are one of both, at most both and at least both. The
+/// distance from 0 is the number or its negative, and never below 0; that of a sum is at most the
+/// sum of the distances, that of a product is their product.
+pub fn least_and_greatest_of_two()
+    ensures less_one { (p q : Number) → (min_ℚ p q ≡ p) ⊎ (min_ℚ p q ≡ q) }
+    ensures less_left { (p q : Number) → min_ℚ p q ≤ℚ p }
+    ensures less_right { (p q : Number) → min_ℚ p q ≤ℚ q }
+    ensures greater_one { (p q : Number) → (max_ℚ p q ≡ p) ⊎ (max_ℚ p q ≡ q) }
+    ensures greater_left { (p q : Number) → p ≤ℚ max_ℚ p q }
+    ensures greater_right { (p q : Number) → q ≤ℚ max_ℚ p q }
+    ensures distance_one { (q : Number) → (abs_ℚ q ≡ q) ⊎ (abs_ℚ q ≡ neg_ℚ q) }
+    ensures distance_not_negative { (q : Number) → zero_ℚ ≤ℚ abs_ℚ q }
+    ensures distance_of_sum { (p q : Number) → abs_ℚ (p +ℚ q) ≤ℚ (abs_ℚ p +ℚ abs_ℚ q) }
+    ensures distance_of_product { (p q : Number) → abs_ℚ (p *ℚ q) ≡ abs_ℚ p *ℚ abs_ℚ q }
+{}
+
+/// A product of two numbers of one sign isn't negative, and of two signs not positive; it is 0 only
+/// where one of both is. A quotient by a positive number keeps the order, and one by a negative
+/// number turns it.
+pub fn signs_of_products_and_quotients()
+    ensures alike { (p q : Number) → zero_ℚ ≤ℚ p → zero_ℚ ≤ℚ q → zero_ℚ ≤ℚ (p *ℚ q) }
+    ensures both_below { (p q : Number) → p ≤ℚ zero_ℚ → q ≤ℚ zero_ℚ → zero_ℚ ≤ℚ (p *ℚ q) }
+    ensures unlike { (p q : Number) → zero_ℚ ≤ℚ p → q ≤ℚ zero_ℚ → (p *ℚ q) ≤ℚ zero_ℚ }
+    ensures no_product { (p q : Number) → p *ℚ q ≡ zero_ℚ → (p ≡ zero_ℚ) ⊎ (q ≡ zero_ℚ) }
+    ensures strict { (c p q : Number) → zero_ℚ <ℚ c → p <ℚ q → (c *ℚ p) <ℚ (c *ℚ q) }
+    ensures strict_turned { (c p q : Number) → c <ℚ zero_ℚ → p <ℚ q → (c *ℚ q) <ℚ (c *ℚ p) }
+    ensures quotients { (c p q : Number) → zero_ℚ <ℚ c → p ≤ℚ q → (p /ℚ c) ≤ℚ (q /ℚ c) }
+    ensures quotients_turned { (c p q : Number) → c <ℚ zero_ℚ → p ≤ℚ q → (q /ℚ c) ≤ℚ (p /ℚ c) }
 {}
 
 /// Each number has one numerator and one positive denominator with no common divisor.

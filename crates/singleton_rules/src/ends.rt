@@ -1,64 +1,13 @@
-//! Sides and bounds: their quotients, differences and limits.
+//! Tests of sides and bounds.
 
-ghost use Rattle.std.specs.Prelude.{◌≡◌, ◌≢◌, IfOk, IsOk, ◌↔◌};
-ghost use Rattle.rational.specs.Ends.{less as less_of, meet_high, meet_low, over as over_of};
-ghost use Rattle.rational.specs.Number.{zero_ℚ};
-ghost use Rattle.singleton_rules.specs.Sides.{LessFits, OverFits, is_in_order, holds_zero as holds_zero_of, is_fixed as is_fixed_at};
+ghost use Rattle.std.specs.Prelude.{◌≡◌};
+ghost use Rattle.singleton_rules.specs.Sides.{is_in_order, holds_zero as holds_zero_of, is_fixed as is_fixed_at};
 
+use fractions::Numbers;
 use fractions::ext::Ext;
 use fractions::frac::Frac;
 use fractions::whole::Whole;
-use fractions::{Numbers, Past};
 use number_texts::is_decimal;
-
-/// An end over a number. No end stays none.
-pub fn over(end: &Ext, divisor: &Frac) -> Result<Ext, Past>
-    requires { divisor.now ≢ zero_ℚ }
-    ensures value { IfOk result (λ r. r ≡ over_of end.now divisor.now) }
-    ensures fits { IsOk result ↔ OverFits end.now divisor.now }
-{
-    match end.number() {
-        None => Ok(Ext::none()),
-        Some(number) => Ok(Ext::at(number.div(divisor)?)),
-    }
-}
-
-/// An end less a number. No end stays none.
-pub fn less(end: &Ext, number: &Frac) -> Result<Ext, Past>
-    ensures value { IfOk result (λ r. r ≡ less_of end.now number.now) }
-    ensures fits { IsOk result ↔ LessFits end.now number.now }
-{
-    match end.number() {
-        None => Ok(Ext::none()),
-        Some(before) => Ok(Ext::at(before.sub(number)?)),
-    }
-}
-
-/// The greater of two lower ends.
-pub fn greater_lower(a: &Ext, b: &Ext) -> Ext
-    ensures { result ≡ meet_low a.now b.now }
-{
-    match a.number() {
-        None => *b,
-        Some(x) => match b.number() {
-            None => *a,
-            Some(y) => { if x.le(&y) { *b } else { *a } }
-        },
-    }
-}
-
-/// The less of two upper ends.
-pub fn lesser_upper(a: &Ext, b: &Ext) -> Ext
-    ensures { result ≡ meet_high a.now b.now }
-{
-    match a.number() {
-        None => *b,
-        Some(x) => match b.number() {
-            None => *a,
-            Some(y) => { if x.le(&y) { *a } else { *b } }
-        },
-    }
-}
 
 /// Whether a lower end is at most an upper one.
 pub fn in_order(lower: &Ext, upper: &Ext) -> bool

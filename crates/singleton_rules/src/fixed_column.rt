@@ -7,8 +7,9 @@ ghost use Rattle.singleton_rules.specs.Records.{Applies};
 ghost use Rattle.singleton_rules.specs.declared.instance.Instance.TheVariants.{FixedColumn};
 ghost use Rattle.sparse_problem.specs.Problems.{row_at, SidesAlone};
 
-use crate::ends::{can_write, can_write_end, less};
+use crate::ends::{can_write, can_write_end};
 use crate::instance::Refusal;
+use fractions::ends::less;
 use fractions::ext::Ext;
 use fractions::frac::Frac;
 use fractions::{Numbers, Past};

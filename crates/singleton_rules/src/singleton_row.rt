@@ -1,15 +1,16 @@
 //! K2: a row with one entry.
 
 ghost use Rattle.std.specs.Prelude.{◌≡◌, ◌≢◌, ◌↔◌, IfOk, IsOk, OnErr, true};
-ghost use Rattle.singleton_rules.specs.Sides.{OverFits};
+ghost use Rattle.fractions.specs.EndWords.{OverFits};
 ghost use Rattle.singleton_rules.specs.Singletons.{met_of, values_of};
 ghost use Rattle.rational.specs.Number.{zero_ℚ};
 ghost use Rattle.singleton_rules.specs.Enabled.{enabled};
 ghost use Rattle.singleton_rules.specs.Records.{Applies};
 ghost use Rattle.singleton_rules.specs.declared.instance.Instance.TheVariants.{SingletonRow};
 
-use crate::ends::{can_write_end, greater_lower, is_small, lesser_upper, over};
+use crate::ends::{can_write_end, is_small};
 use crate::instance::Refusal;
+use fractions::ends::{greater_lower, lesser_upper, over};
 use fractions::ext::Ext;
 use fractions::{Numbers, Past};
 use lp_model::Term;

@@ -1,3 +1,4 @@
 pub mod Losing
 pub mod Deleting
 pub mod Transposing
+mod Naming

@@ -3,3 +3,4 @@ pub mod Matrices
 pub mod Transposes
 pub mod Sparse
 pub mod Problems
+pub mod Kept

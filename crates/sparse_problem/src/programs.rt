@@ -1,8 +1,11 @@
 //! Problems of programs, and back.
 
-ghost use Rattle.std.specs.Prelude.{◌≡◌, ◌≤◌, ◌<◌, ◌^◌, ◌++◌, ◌∷◌, [], ℕ, length, IfOk, OnOk, IsTrue, true, IfSome};
+ghost use Rattle.std.specs.Prelude.{◌≡◌, ◌≤◌, ◌<◌, ◌^◌, ◌++◌, ◌∷◌, [], ℕ, length, IfOk, OnOk, IsTrue, true, false, IfSome, MatchOption};
 ghost use Rattle.sparse_problem.specs.Matrices.{Names};
 ghost use Rattle.sparse_problem.specs.Transposes.{terms_at};
+ghost use Rattle.sparse_problem.specs.Kept.{live_names};
+ghost use Rattle.sparse_problem.specs.Problems.{column_at, row_at};
+ghost use Rattle.lp_model.specs.Names.{names_of_columns, names_of_rows};
 
 use crate::matrix::{Line, Matrix};
 use crate::problem::{Bounds, Problem, Sides};
@@ -109,7 +112,13 @@ impl Problem {
 
     /// The program of the live rows and columns, with new ids in the same order. Names, sense, objective and constant are those of
     /// the program that the problem was made of.
-    pub fn to_program(&self, alloc: Global, original: &Program) -> Result<Program, AllocError> {
+    pub fn to_program(&self, alloc: Global, original: &Program) -> Result<Program, AllocError>
+        ensures rows { IfOk result (λ p. names_of_rows p.rows ≡ live_names (names_of_rows original.now.rows) self.now.matrix.rows) }
+        ensures columns { IfOk result (λ p. names_of_columns p.columns ≡ live_names (names_of_columns original.now.columns) self.now.matrix.columns) }
+        ensures sense { IfOk result (λ p. p.sense ≡ original.now.sense) }
+        ensures objective { IfOk result (λ p. p.objective ≡ original.now.objective) }
+        ensures constant { IfOk result (λ p. p.constant ≡ original.now.constant) }
+    {
         let objective = original.objective().copy(alloc)?;
         let rows = self.live_rows(alloc, original.rows())?;
         let ids = new_ids(alloc, self.matrix().rows())?;
@@ -124,7 +133,9 @@ impl Problem {
     }
 
     /// The live rows, with their present sides.
-    fn live_rows(&self, alloc: Global, originals: &[RowDef]) -> Result<Vec<RowDef>, AllocError> {
+    fn live_rows(&self, alloc: Global, originals: &[RowDef]) -> Result<Vec<RowDef>, AllocError>
+        ensures { IfOk result (λ rows. names_of_rows rows.items ≡ live_names (names_of_rows originals.now) self.now.matrix.rows) }
+    {
         let mut rows = Vec::new(alloc);
         for (i, original) in originals.iter().enumerate() {
             if let Some(sides) = self.live_sides(i) {
@@ -146,6 +157,7 @@ impl Problem {
         ids: &[u32],
     ) -> Result<Vec<ColumnDef>, AllocError>
         requires { length ids.now ≡ length self.now.matrix.rows }
+        ensures { IfOk result (λ columns. names_of_columns columns.items ≡ live_names (names_of_columns original.now.columns) self.now.matrix.columns) }
     {
         let sense = original.sense();
         let mut columns = Vec::new(alloc);
@@ -170,7 +182,9 @@ impl Problem {
     }
 
     /// The sides of a row, if it is live.
-    fn live_sides(&self, i: usize) -> Option<Sides> {
+    fn live_sides(&self, i: usize) -> Option<Sides>
+        ensures { MatchOption result ((row_at self.now i).live ≡ false) (λ _. (row_at self.now i).live ≡ true) }
+    {
         let rows = self.matrix().rows();
         if i < rows.len() && rows[i].live {
             Some(self.all_sides()[i])
@@ -181,7 +195,8 @@ impl Problem {
 
     /// The bounds of a column, if it is live.
     fn live_bounds(&self, j: usize) -> Option<Bounds>
-        ensures { IfSome result (λ _. j < length self.now.matrix.columns) }
+        ensures live { MatchOption result ((column_at self.now j).live ≡ false) (λ _. (column_at self.now j).live ≡ true) }
+        ensures within { IfSome result (λ _. j < length self.now.matrix.columns) }
     {
         let columns = self.matrix().columns();
         if j < columns.len() && columns[j].live {

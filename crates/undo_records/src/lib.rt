@@ -8,3 +8,6 @@ mod undo;
 pub use label::Label;
 pub use records::Records;
 pub use undo::Undo;
+
+#[cfg(test)]
+mod tests;

@@ -1,11 +1,11 @@
 //! The records of a whole run.
 
-ghost use Rattle.std.specs.Prelude.{◌≡◌};
+ghost use Rattle.std.specs.Prelude.{◌≡◌, map};
 
 use crate::label::Label;
 use crate::undo::Undo;
 use fractions::frac::Frac;
-use lp_model::Sense;
+use lp_model::{Labels, Name, Sense};
 use std::marker::Model;
 
 /// All that presolve wrote down: the original program's names, the offset, and the record of each reduction, first applied first.
@@ -83,5 +83,27 @@ impl Records {
         ensures { result.now ≡ self.now.undos }
     {
         self.undos.as_slice()
+    }
+}
+
+impl Labels for Records {
+    ghost column_names = { λ r. map (λ l. l.name) r.columns };
+
+    ghost row_names = { λ r. map (λ l. l.name) r.rows };
+
+    fn column_count(&self) -> usize {
+        self.columns().len()
+    }
+
+    fn row_count(&self) -> usize {
+        self.rows().len()
+    }
+
+    fn column_name(&self, id: usize) -> &Name {
+        &self.columns()[id].name
+    }
+
+    fn row_name(&self, id: usize) -> &Name {
+        &self.rows()[id].name
     }
 }

@@ -1,9 +1,12 @@
 use Rattle.std.proofs.Common.{sym, ◌∙◌}
-use Rattle.fractions.proofs.GcdSteps.{no_fives, gcd_divides, gcd_comm}
+use Rattle.fractions.proofs.GcdSteps.{no_fives, less_of_fives, gcd_divides, gcd_comm}
 use Rattle.fractions.proofs.divisor.odd_gcd.Goals as goal
 
-pub returns-then-divides_fives : goal.returns-then-divides_fives
-returns-then-divides_fives c = sym (no_fives c.args.a c.args.b 13 c.if-a-ne0.true (c.divides_fives.ensures c.if-divides_fives.true))
+pub returns-then-a-ne0 : goal.returns-then-a-ne0
+returns-then-a-ne0 c = sym (no_fives c.args.a c.args.b c.if-a-ne0.true (c.is_power_of_five.ensures c.if-is_power_of_five.true))
+
+pub returns-then-is_power_of_five-2 : goal.returns-then-is_power_of_five-2
+returns-then-is_power_of_five-2 c = c.min.ensures ∙ sym (less_of_fives c.args.a c.args.b (c.is_power_of_five-then-is_power_of_five.ensures c.if-is_power_of_five-2.true) (c.is_power_of_five.ensures c.if-is_power_of_five.true))
 
 pub returns-then-a-b-eq0 : goal.returns-then-a-b-eq0
 returns-then-a-b-eq0 c = sym (gcd_divides c.args.a c.args.b c.if-a-b-eq0.true)

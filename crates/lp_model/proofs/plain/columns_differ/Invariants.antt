@@ -1,6 +1,10 @@
-use Rattle.lp_model.specs.Meaning.{no_column, Differ}
-use Rattle.std.proofs.Common.{get_or}
+use Rattle.std.proofs.Common.{◌↔◌, length}
+use Rattle.lp_model.specs.Names.{Differ, names_of_columns}
 use Rattle.lp_model.proofs.plain.columns_differ.Given as goal
 
-abbrev pub invariant-loop-k : goal.invariant-loop-k
-invariant-loop-k l = Differ l.k (λ i. (get_or l.columns i no_column).name)
+-- the rest differs just where all do
+abbrev pub invariant-loop-first : goal.invariant-loop-first
+invariant-loop-first l = Differ (names_of_columns l.rest) ↔ Differ (names_of_columns l.fn.columns)
+
+abbrev pub decreases-loop-first : goal.decreases-loop-first
+decreases-loop-first l = length l.rest

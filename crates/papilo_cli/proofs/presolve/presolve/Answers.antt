@@ -1,16 +1,20 @@
-use Rattle.papilo_cli.proofs.Earlier.{fails_earlier, presolved_earlier}
+use Rattle.papilo_cli.specs.Ending.{dialect_of}
+use Rattle.papilo_cli.proofs.Earlier.{fails_earlier, presolved_earlier, program_read, gives_kept}
 use Rattle.papilo_cli.proofs.presolve.presolve.Goals as goal
 
 pub returns-in-Ok-write_both-clause-ends : goal.returns-in-Ok-write_both-clause-ends
-returns-in-Ok-write_both-clause-ends g c = presolved_earlier _ _ (g.F.Files.told c.args.files.now) (g.F.Files.told c.read.new.self) (g.F.Files.told c.write_both.new.files) c.read.ensures.kept (record {
-  outcome = c.in-Ok-reduce.ensures.0;
-  program = c.in-Ok-reduce.texts.program.items;
-  records = c.in-Ok-reduce.texts.records.items;
-  texts = c.in-Ok-reduce.ensures.1;
-  program_written = c.in-Ok-write_both.ensures.program;
-  records_written = c.in-Ok-write_both.ensures.records;
-  others = c.in-Ok-write_both.ensures.others;
-})
+returns-in-Ok-write_both-clause-ends g c =
+    let reduced = c.in-Ok-reduce.ensures in
+    presolved_earlier _ _ (g.F.Files.told c.args.files.now) (g.F.Files.told c.read.new.self) (g.F.Files.told c.write_both.new.files) c.read.ensures.kept (record {
+      outcome = reduced.0;
+      source = program_read _ _ _ c.in-Ok.text.items _ reduced.0.source (gives_kept (g.F.Files.told c.args.files.now) (g.F.Files.told c.read.new.self) _ _ c.read.ensures.kept c.in-Ok.ensures.bytes) c.dialect_of.ensures c.deref.ensures.value reduced.2;
+      program = c.in-Ok-reduce.texts.program.items;
+      records = c.in-Ok-reduce.texts.records.items;
+      texts = reduced.1;
+      program_written = c.in-Ok-write_both.ensures.program;
+      records_written = c.in-Ok-write_both.ensures.records;
+      others = c.in-Ok-write_both.ensures.others;
+    })
 
 pub returns-clause-ends : goal.returns-clause-ends
 returns-clause-ends g c = (
@@ -19,5 +23,6 @@ returns-clause-ends g c = (
   c.in-Ok-reduce.texts.records.items,
   c.in-Ok-reduce.texts.report.items,
   c.in-Ok-reduce.ensures.1,
+  program_read _ _ _ c.in-Ok.text.items _ c.in-Ok-reduce.ensures.0.source c.in-Ok.ensures.bytes c.dialect_of.ensures c.deref.ensures.value c.in-Ok-reduce.ensures.2,
   fails_earlier _ _ _ _ _ _ (g.F.Files.write_faults c.args.files.now) (g.F.Files.write_faults c.read.new.self) (g.F.Files.write_faults c.write_both.new.files) c.read.ensures.kept c.read.ensures.writes_stay c.in-Err.ensures.failed,
 )

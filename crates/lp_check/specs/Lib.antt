@@ -1,0 +1,3 @@
+pub mod Limits
+pub mod Deciding
+pub mod Summing

@@ -1,0 +1,54 @@
+//! The limits of one value.
+
+ghost use Rattle.std.specs.Prelude.{◌≡◌, ◌↔◌, IsTrue, Some, MatchOption};
+ghost use Rattle.rational.specs.Order.{◌<ℚ◌};
+ghost use Rattle.rational.specs.Ends.{AtLeast, AtMost};
+ghost use Rattle.rational.specs.Floor.{IsWhole};
+ghost use Rattle.lp_check.specs.Limits.{Keeps, Breaks};
+
+use crate::verdicts::Limit;
+use fractions::ext::Ext;
+use fractions::frac::Frac;
+
+/// The lower end, where a value is below it.
+fn end_above(lower: &Ext, value: &Frac) -> Option<Frac>
+    ensures { MatchOption result (AtLeast lower.now value.now) (λ e. (lower.now ≡ Some e) × (value.now <ℚ e)) }
+{
+    match lower.number() {
+        Some(end) if !end.le(value) => Some(end),
+        _ => None,
+    }
+}
+
+/// The upper end, where a value is above it.
+fn end_below(upper: &Ext, value: &Frac) -> Option<Frac>
+    ensures { MatchOption result (AtMost upper.now value.now) (λ e. (upper.now ≡ Some e) × (e <ℚ value.now)) }
+{
+    match upper.number() {
+        Some(end) if !value.le(&end) => Some(end),
+        _ => None,
+    }
+}
+
+/// Whether a value is whole.
+fn is_whole(value: &Frac) -> bool
+    ensures { IsTrue result ↔ IsWhole value.now }
+{
+    value.is_whole()
+}
+
+/// The first limit that a value breaks: below the lower end, above the upper end, not whole.
+pub fn broken_limit(lower: &Ext, upper: &Ext, whole: bool, value: &Frac) -> Option<Limit>
+    ensures { MatchOption result (Keeps lower.now upper.now whole value.now) (λ limit. Breaks lower.now upper.now whole value.now limit) }
+{
+    if let Some(end) = end_above(lower, value) {
+        return Some(Limit::Below(end));
+    }
+    if let Some(end) = end_below(upper, value) {
+        return Some(Limit::Above(end));
+    }
+    if whole && !is_whole(value) {
+        return Some(Limit::NotWhole);
+    }
+    None
+}

@@ -1,0 +1,10 @@
+pub mod Items
+pub mod Loop
+pub mod Faultless
+pub mod Headings
+pub mod Objective
+pub mod Places
+pub mod Names
+pub mod Entries
+pub mod Counts
+pub mod Senses

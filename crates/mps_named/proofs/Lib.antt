@@ -1,0 +1,10 @@
+pub mod SumsBack
+pub mod NumberRoom
+pub mod CardSense
+pub mod RangeRoom
+pub mod BoundRoom
+pub mod ProgramRoom
+pub mod Agreement
+pub mod RowAgreement
+pub mod ColumnAgreement
+pub mod OnceLaws

@@ -1,0 +1,27 @@
+use Rattle.std.proofs.Common.{rules}
+use Rattle.mps_laws.proofs.Names.{program_names_differ}
+use Rattle.mps_reader.proofs.Programs.{cards_in, parts_are, few_rows, program_as, writable_as}
+use Rattle.mps_reader.proofs.reading.read_mps.Goals as goal
+
+pub assemble-requires-clause-few : goal.assemble-requires-clause-few
+assemble-requires-clause-few c =
+    let are = parts_are c.args.dialect c.args.bytes.now c.in_ok-reader.reader c.parts_of-parts.result c.in_ok-reader.ensures c.parts_of-parts.ensures in
+    few_rows c.args.dialect c.args.bytes.now c.in_ok-reader.reader c.parts_of-parts.result c.in_ok-reader.ensures are c.requires
+
+pub assemble-requires-clause-differ : goal.assemble-requires-clause-differ
+assemble-requires-clause-differ c = (
+  c.args.dialect,
+  cards_in c.args.dialect c.args.bytes.now,
+  parts_are c.args.dialect c.args.bytes.now c.in_ok-reader.reader c.parts_of-parts.result c.in_ok-reader.ensures c.parts_of-parts.ensures,
+  program_names_differ c.args.dialect c.args.bytes.now c.in_ok-reader.ensures.sound,
+)
+
+pub returns-clause-read : goal.returns-clause-read
+returns-clause-read c =
+    let are = parts_are c.args.dialect c.args.bytes.now c.in_ok-reader.reader c.parts_of-parts.result c.in_ok-reader.ensures c.parts_of-parts.ensures in
+    (c.in_ok-reader.ensures.sound, program_as c.args.dialect c.args.bytes.now c.in_ok-reader.reader c.in_ok-program.program c.in_ok-reader.ensures (c.in_ok-program.ensures c.args.dialect (cards_in c.args.dialect c.args.bytes.now) are))
+
+pub returns-clause-writable : goal.returns-clause-writable
+returns-clause-writable c =
+    let are = parts_are c.args.dialect c.args.bytes.now c.in_ok-reader.reader c.parts_of-parts.result c.in_ok-reader.ensures c.parts_of-parts.ensures in
+    writable_as c.args.dialect c.args.bytes.now c.in_ok-reader.reader c.in_ok-program.program c.in_ok-reader.ensures (c.in_ok-program.ensures c.args.dialect (cards_in c.args.dialect c.args.bytes.now) are)

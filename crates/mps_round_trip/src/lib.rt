@@ -1,0 +1,26 @@
+//! The MPS text that is written of a program, read again. The functions here do nothing when they
+//! run: each states laws, and its check proves them.
+#![tactic(auto)]
+
+ghost use Rattle.std.specs.Prelude.{◌≡◌, None};
+ghost use Rattle.fractions.specs.declared.Numbers.{Numbers};
+ghost use Rattle.lp_model.specs.ProgramData.{ProgramData};
+ghost use Rattle.mps_profile.specs.Reading.{first_fault};
+ghost use Rattle.mps_profile.specs.Program.{program_of};
+ghost use Rattle.mps_writer.specs.MpsText.{mps_text};
+ghost use Rattle.mps_round_trip.specs.Formats.{free_format};
+ghost use Rattle.mps_round_trip.specs.Plain.{Plain, EntriesAscend};
+ghost use Rattle.mps_named.specs.Writable.{Writable};
+
+/// The text that is written of a program with plain names, whose numbers can be written, has no
+/// fault, and it is the text of this very program: each name, number, side and bound, the sense,
+/// the constant and the order of rows and columns are read as they were.
+pub fn written_texts_are_read_again()
+    ensures sound { (numbers : Numbers) (p : ProgramData) → Plain p → Writable numbers p → EntriesAscend p → first_fault (free_format numbers) (mps_text p) ≡ None }
+    ensures same { (numbers : Numbers) (p : ProgramData) → Plain p → Writable numbers p → EntriesAscend p → program_of (free_format numbers) (mps_text p) ≡ p }
+{}
+
+/// Two such programs that differ have texts that differ.
+pub fn texts_tell_programs_apart()
+    ensures { (numbers : Numbers) (p q : ProgramData) → Plain p → Writable numbers p → EntriesAscend p → Plain q → Writable numbers q → EntriesAscend q → mps_text p ≡ mps_text q → p ≡ q }
+{}

@@ -1,0 +1,4 @@
+mod Columns
+mod Firsts
+mod Growing
+mod Places

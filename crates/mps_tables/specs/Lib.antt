@@ -1,0 +1,5 @@
+pub mod Ranges
+pub mod Reads
+pub mod Slots
+pub mod Tables
+pub mod Writes

@@ -1,0 +1,8 @@
+use Rattle.point_text.proofs.GivenLaws.{given, missing}
+use Rattle.point_text.proofs.laws.values_are_given.Goals as goal
+
+pub returns-clause-given : goal.returns-clause-given
+returns-clause-given c = given
+
+pub returns-clause-missing : goal.returns-clause-missing
+returns-clause-missing c = missing

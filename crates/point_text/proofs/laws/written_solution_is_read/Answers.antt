@@ -1,0 +1,8 @@
+use Rattle.point_text.proofs.Again.{no_fault_again, point_again}
+use Rattle.point_text.proofs.laws.written_solution_is_read.Goals as goal
+
+pub returns-clause-fault : goal.returns-clause-fault
+returns-clause-fault c = no_fault_again
+
+pub returns-clause-point : goal.returns-clause-point
+returns-clause-point c = point_again

@@ -1,0 +1,54 @@
+-- The faults of lines, each by the lines before it, of which the nearest stands first.
+use Rattle.std.specs.Prelude.{ℕ, ◌||◌, Bool, true, false, List, [], ◌∷◌, Option, Some, None, Result, Ok, Err, codes, is_some, is_none, if◌then◌else◌}
+use Rattle.std.specs.Str.{bytes_eq}
+use Rattle.rational.specs.Number.{Number}
+use Rattle.fractions.specs.declared.Numbers.TheVariants.{Fractions}
+use Rattle.names.specs.Names.{place}
+use Rattle.number_texts.specs.Read.{read_of}
+use Rattle.number_texts.specs.declared.reading.ReadNumber.{ReadNumber}
+use Rattle.number_texts.specs.declared.reading.ReadNumber as reasons
+use Rattle.mps_profile.specs.Texts.{Text}
+use Rattle.point_text.specs.SolutionLines.{Line, Silent, Gives, Odd}
+use Rattle.point_text.specs.Values.{value_named}
+use Rattle.point_text.specs.declared.faults.SolFaultKind.{SolFaultKind}
+use Rattle.point_text.specs.declared.faults.SolFaultKind.TheVariants.{BadLine, UnknownName, TwiceNamed, NumberPast, BadNumber}
+
+abbrev pub number_of_kind : SolFaultKind → ℕ
+number_of_kind BadLine = 1
+number_of_kind UnknownName = 2
+number_of_kind TwiceNamed = 3
+number_of_kind NumberPast = 4
+number_of_kind BadNumber = 5
+
+-- no column has the name; the word of the duals names none
+abbrev pub is_unknown : List Text → Text → Bool
+is_unknown names name = bytes_eq name (codes "=duals=") || is_none (place name names)
+
+abbrev pub is_bad : Result Number ReadNumber → Bool
+is_bad (Ok value) = false
+is_bad (Err reasons.TheVariants.NotNumber) = true
+is_bad (Err reasons.TheVariants.NumberPast) = false
+
+abbrev pub is_past : Result Number ReadNumber → Bool
+is_past (Ok value) = false
+is_past (Err reasons.TheVariants.NotNumber) = false
+is_past (Err reasons.TheVariants.NumberPast) = true
+
+-- the number that was read, or the fault of its line
+abbrev pub number_result : Result Number ReadNumber → Result Number SolFaultKind
+number_result (Ok value) = Ok value
+number_result (Err reasons.TheVariants.NotNumber) = Err BadNumber
+number_result (Err reasons.TheVariants.NumberPast) = Err NumberPast
+
+-- the first fault of a table whose test holds
+abbrev pub first_of : List (Bool × SolFaultKind) → Option SolFaultKind
+first_of [] = None
+first_of ((holds, fault) ∷ more) = if holds then Some fault else first_of more
+
+-- the fault of a line: the first of the table, which is in the order of the numbers
+abbrev pub line_fault : List Text → List Line → Line → Option SolFaultKind
+line_fault names before Silent = None
+line_fault names before (Gives name number) = first_of (
+    (is_unknown names name, UnknownName) ∷ (is_some (value_named before name), TwiceNamed)
+    ∷ (is_past (read_of Fractions number), NumberPast) ∷ (is_bad (read_of Fractions number), BadNumber) ∷ [])
+line_fault names before Odd = Some BadLine
