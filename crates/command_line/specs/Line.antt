@@ -23,9 +23,13 @@ presolve_words = with_rule (with_rule (with_rule (new_app (codes "presolve")) (w
 unfoldable pub presolve_app : App
 presolve_app = with_rule (with_rule presolve_words (flag_rule (codes "fractions"))) (flag_rule (codes "fixed"))
 
+-- check IN SOL [--fixed]
+unfoldable pub check_app : App
+check_app = with_rule (with_rule (with_rule (new_app (codes "check")) (word_rule (codes "in"))) (word_rule (codes "sol"))) (flag_rule (codes "fixed"))
+
 -- the whole: one subcommand for each command
 unfoldable pub line_app : App
-line_app = with_subcommand (new_app (codes "papilo")) presolve_app.top
+line_app = with_subcommand (with_subcommand (new_app (codes "papilo")) presolve_app.top) check_app.top
 
 abbrev pub texts : List (String Global) → List Text
 texts words = map (λ word. string_bytes word) words
@@ -57,13 +61,21 @@ is_on (Some text) = bytes_eq text (codes "true")
 abbrev pub options_of : List Row → PresolveOptions
 options_of rows = record { fractions = is_on (first_of (codes "fractions") rows); fixed = is_on (first_of (codes "fixed") rows) }
 
+-- the names that check works on, and whether IN has the fixed format
+pub record CheckNames : Type 0 where
+  pub input : Text
+  pub solution : Text
+  pub fixed : Bool
+
 -- a command with its names
 pub data Request : Type 0 where
   Presolve : PresolveNames → Request
+  Check : CheckNames → Request
 
 -- the texts that a command writes go to names that differ
 abbrev pub HasTwoOutputs : Request → Type 0
 HasTwoOutputs (Presolve names) = names.output ≢ names.records
+HasTwoOutputs (Check names) = Unit {0}
 
 -- three names, of which OUT and REC differ
 abbrev pub presolve_names : Option Text → Option Text → Option Text → PresolveOptions → Option PresolveNames
@@ -74,10 +86,23 @@ presolve_names input output records options = None
 abbrev pub presolve_of : List Row → Option PresolveNames
 presolve_of rows = presolve_names (first_of (codes "in") rows) (first_of (codes "out") rows) (first_of (codes "rec") rows) (options_of rows)
 
+-- two names, and an option
+abbrev pub check_names : Option Text → Option Text → Bool → Option CheckNames
+check_names (Some input) (Some solution) fixed = Some (record { input = input; solution = solution; fixed = fixed })
+check_names input solution fixed = None
+
+abbrev pub check_of : List Row → Option CheckNames
+check_of rows = check_names (first_of (codes "in") rows) (first_of (codes "sol") rows) (is_on (first_of (codes "fixed") rows))
+
 -- by the name of the subcommand
+abbrev pub request_of : Text → List Row → Option Request
+request_of name rows =
+    if bytes_eq name (codes "presolve") then option_map Presolve (presolve_of rows)
+    else (if bytes_eq name (codes "check") then option_map Check (check_of rows) else None)
+
 abbrev pub selected_in : Option (Text × List Row) → Option Request
 selected_in None = None
-selected_in (Some (name, rows)) = if bytes_eq name (codes "presolve") then option_map Presolve (presolve_of rows) else None
+selected_in (Some (name, rows)) = request_of name rows
 
 -- what clap finds in the words
 abbrev pub selected : List Text → Option Request

@@ -1,11 +1,16 @@
 -- A request as its names.
-use Rattle.command_line.specs.Line.{PresolveNames, Request, Presolve}
+use Rattle.command_line.specs.Line.{PresolveNames, CheckNames, Request, Presolve, Check}
 use Rattle.command_line.specs.declared.reading.PresolveWords.{PresolveWords}
+use Rattle.command_line.specs.declared.reading.CheckWords.{CheckWords}
 use Rattle.command_line.specs.declared.reading.Request.TheVariants as words
 use Rattle.command_line.specs.declared.reading.Request as declared
 
 abbrev pub names_of : PresolveWords → PresolveNames
 names_of words = record { input = words.input.now; output = words.output.now; records = words.records.now; options = words.options }
 
+abbrev pub check_names_of : CheckWords → CheckNames
+check_names_of words = record { input = words.input.now; solution = words.solution.now; fixed = words.fixed }
+
 abbrev pub seen : declared.Request → Request
 seen (words.Presolve p) = Presolve (names_of p)
+seen (words.Check c) = Check (check_names_of c)

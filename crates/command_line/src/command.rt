@@ -2,7 +2,7 @@
 ghost use Rattle.std.specs.Prelude.{◌≡◌, ◌≢◌, [], Err, false, IfOk, OnOk, OnErr};
 ghost use Rattle.clap.specs.Words.{app_of, kind_of, rule_of, subcommand_rows_of};
 ghost use Rattle.clap.specs.declared.builder.command.Command.TheViews.{out-Command};
-ghost use Rattle.command_line.specs.Line.{faults, flag_rule, found_in, is_taken, line_app, presolve_app, presolve_words, texts, word_rule};
+ghost use Rattle.command_line.specs.Line.{check_app, faults, flag_rule, found_in, is_taken, line_app, presolve_app, presolve_words, texts, word_rule};
 
 use crate::Refusal;
 use clap::error::ErrorKind;
@@ -46,12 +46,26 @@ fn presolve<'a>(alloc: Global) -> Result<Command<'a>, AllocError>
         .arg(flag(alloc, "fixed"))
 }
 
+#[tactic(auto, unfolding(crate::specs::Line::check_app))]
+fn check<'a>(alloc: Global) -> Result<Command<'a>, AllocError>
+    ensures app { IfOk result (λ command. app_of command ≡ check_app) }
+    ensures local { IfOk result (λ command. (out-Command command).has_globals ≡ false) }
+{
+    Command::new(alloc, "check")
+        .arg(word(alloc, "in"))?
+        .arg(word(alloc, "sol"))?
+        .arg(flag(alloc, "fixed"))
+}
+
 #[tactic(auto, unfolding(crate::specs::Line::line_app))]
 fn line<'a>(alloc: Global) -> Result<Command<'a>, AllocError>
     ensures app { IfOk result (λ command. app_of command ≡ line_app) }
 {
     let presolve = presolve(alloc)?;
-    Command::new(alloc, "papilo").subcommand(presolve)
+    let check = check(alloc)?;
+    Command::new(alloc, "papilo")
+        .subcommand(presolve)?
+        .subcommand(check)
 }
 
 // What clap makes of the words.

@@ -7,4 +7,4 @@
 mod command;
 mod reading;
 
-pub use reading::{PresolveOptions, PresolveWords, Refusal, Request, read};
+pub use reading::{CheckWords, PresolveOptions, PresolveWords, Refusal, Request, read};

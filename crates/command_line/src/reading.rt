@@ -1,8 +1,8 @@
 // What the words ask for.
 ghost use Rattle.std.specs.Prelude.{◌≡◌, ◌≢◌, ◌⊎◌, IfSome, None, [], Some, Err, false, option_map, IfOk, OnOk};
 ghost use Rattle.clap.specs.Words.{first_of, found_of, rows_of, subcommand_rows_of};
-ghost use Rattle.command_line.specs.Line.{HasTwoOutputs, asked, faults, is_on, is_taken, options_of, presolve_of, selected, selected_in, texts};
-ghost use Rattle.command_line.specs.Seen.{names_of, seen};
+ghost use Rattle.command_line.specs.Line.{HasTwoOutputs, asked, check_of, faults, is_on, is_taken, options_of, presolve_of, request_of, selected, selected_in, texts};
+ghost use Rattle.command_line.specs.Seen.{check_names_of, names_of, seen};
 
 use crate::command::matches;
 use clap::ArgMatches;
@@ -26,10 +26,20 @@ pub struct PresolveWords<'a> {
     pub options: PresolveOptions,
 }
 
+/// The names that `check IN SOL` works on, and its option.
+#[derive(Clone, Copy, Debug)]
+pub struct CheckWords<'a> {
+    pub input: &'a str,
+    pub solution: &'a str,
+    /// IN has the fixed format.
+    pub fixed: bool,
+}
+
 /// A command with its words.
 #[derive(Clone, Copy, Debug)]
 pub enum Request<'a> {
     Presolve(PresolveWords<'a>),
+    Check(CheckWords<'a>),
 }
 
 /// Why there is no request.
@@ -88,11 +98,37 @@ fn presolve<'a>(found: &ArgMatches<'a>) -> Option<PresolveWords<'a>>
     }
 }
 
+// The names for `check`.
+fn check<'a>(found: &ArgMatches<'a>) -> Option<CheckWords<'a>>
+    ensures { option_map check_names_of result ≡ check_of (rows_of (found_of found.now)) }
+{
+    let input = value(found, "in")?;
+    let solution = value(found, "sol")?;
+    let fixed = is_given(found, "fixed");
+    Some(CheckWords {
+        input,
+        solution,
+        fixed,
+    })
+}
+
 // The command's name and what it was given.
 fn command<'m, 'a>(found: &'m ArgMatches<'a>) -> Option<(&'a str, &'m ArgMatches<'a>)>
     ensures { option_map (λ p. (p.0.now, rows_of (found_of p.1.now))) result ≡ subcommand_rows_of found.now }
 {
     found.subcommand()
+}
+
+// The command of this name, with its names.
+fn named_request<'a>(name: &str, given: &ArgMatches<'a>) -> Option<Request<'a>>
+    ensures named { option_map seen result ≡ request_of name.now (rows_of (found_of given.now)) }
+    ensures differ { IfSome result (λ request. HasTwoOutputs (seen request)) }
+{
+    match name {
+        "presolve" => Some(Request::Presolve(presolve(given)?)),
+        "check" => Some(Request::Check(check(given)?)),
+        _ => None,
+    }
 }
 
 // The command with its names.
@@ -101,10 +137,7 @@ fn selected_request<'a>(found: &ArgMatches<'a>) -> Option<Request<'a>>
     ensures differ { IfSome result (λ request. HasTwoOutputs (seen request)) }
 {
     let (name, given) = command(found)?;
-    match name {
-        "presolve" => Some(Request::Presolve(presolve(given)?)),
-        _ => None,
-    }
+    named_request(name, given)
 }
 
 /// The command that the words ask for; the first word is the program's own name.

@@ -1,5 +1,5 @@
 -- What holds since a read holds since before it: a read changes nothing that is told, and counts never fall.
-use Rattle.std.proofs.Common.{◌≡◌, ℕ, ◌<◌, ◌≤◌, ◌^◌, ◌-◌, List, ◌⊎◌, inl, inr, Some, None, arith, sym, subst}
+use Rattle.std.proofs.Common.{◌≡◌, ℕ, ◌≤◌, List, inl, inr, Some, None, arith, sym, subst}
 use Rattle.file_ports.specs.Ports.{Told, Rose, NeverFall, KeepsOthers, Gives, Written}
 use Rattle.papilo_cli.specs.Ending.{FailsBetween, IsPresolved, KeepsAllBut, Reads}
 use Rattle.command_line.specs.Line.{PresolveNames}

@@ -1,8 +1,8 @@
 -- How a run may end, and what each ending says of the files before and after it.
-use Rattle.std.specs.Prelude.{◌≡◌, ◌≢◌, ◌⊎◌, ℕ, List, [], ◌∷◌, ◌++◌, codes, Option, Some, None, if◌then◌else◌}
+use Rattle.std.specs.Prelude.{◌≡◌, ◌≢◌, ◌⊎◌, ℕ, List, [], ◌∷◌, ◌++◌, codes, Some, None, if◌then◌else◌}
 use Rattle.std.specs.Fmt.{decimal}
-use Rattle.file_ports.specs.Ports.{Told, Rose, IsLonger, KeepsOthers, Grown, GrownInPart, Written}
-use Rattle.command_line.specs.Line.{Request, PresolveNames, Presolve}
+use Rattle.file_ports.specs.Ports.{Told, Rose, IsLonger, KeepsOthers, Written}
+use Rattle.command_line.specs.Line.{PresolveNames}
 use Rattle.command_line.specs.declared.reading.PresolveOptions.{PresolveOptions}
 use Rattle.fractions.specs.declared.Numbers.{Numbers}
 use Rattle.fractions.specs.declared.Numbers.TheVariants.{Decimal, Fractions}
@@ -15,7 +15,7 @@ use Rattle.mps_reader.specs.declared.faults.MpsFault.{MpsFault}
 use Rattle.papilo_cli.specs.Texts.{Outcome, AreTexts, IsProgramOf}
 use Rattle.papilo_cli.specs.declared.presolve.TheConstants.{INPUT_LIMIT}
 use Rattle.papilo_cli.specs.declared.ending.Ending.{Ending}
-use Rattle.papilo_cli.specs.declared.ending.Ending.TheVariants.{Done, Usage, Refused, ReadFault, WriteFault, NoMemory}
+use Rattle.papilo_cli.specs.declared.ending.Ending.TheVariants.{Done, Usage, Refused, ReadFault, WriteFault, NoMemory, NoRoom, SolutionRefused, Violated}
 
 abbrev pub status_of : Ending → ℕ
 status_of (Done text) = 0
@@ -24,6 +24,9 @@ status_of (Refused line) = 2
 status_of ReadFault = 3
 status_of WriteFault = 4
 status_of NoMemory = 5
+status_of (NoRoom line) = 6
+status_of (SolutionRefused line) = 8
+status_of (Violated line) = 9
 
 abbrev pub text_of : Ending → List ℕ
 text_of (Done text) = text.items
@@ -32,6 +35,9 @@ text_of (Refused line) = line.items
 text_of ReadFault = codes "read fault" ++ 10 ∷ []
 text_of WriteFault = codes "write fault" ++ 10 ∷ []
 text_of NoMemory = codes "no memory" ++ 10 ∷ []
+text_of (NoRoom line) = line.items
+text_of (SolutionRefused line) = line.items
+text_of (Violated line) = line.items
 
 -- what files tell, and their counts of faults, at one moment; each by name
 pub record Moment : Type 0 where
@@ -75,12 +81,16 @@ pub record IsPresolved (names : PresolveNames) (printed : List ℕ) (old new : L
 abbrev pub fault_text : MpsFault → List ℕ
 fault_text fault = codes "error M" ++ (decimal (number_of_kind fault.kind) ++ (codes " line " ++ (decimal fault.line ++ 10 ∷ [])))
 
--- the first fault of the program's text; or the text is longer than is read
-abbrev pub SaysFault : PresolveNames → List ℕ → Moment → Moment → Type 0
-SaysFault names said before now =
-    ((fault : MpsFault) × Reads (before.told names.input) (λ text. first_fault (dialect_of names.options) text ≡ Some (fault.kind, fault.line)) × (said ≡ fault_text fault))
-    ⊎ (IsLonger (before.told names.input) INPUT_LIMIT × Rose (before.overlong INPUT_LIMIT names.input) (now.overlong INPUT_LIMIT names.input)
+-- what is said of a program's text by this name: its first fault; or that it is longer than is read
+abbrev pub SaysFaultOf : Dialect → List ℕ → List ℕ → Moment → Moment → Type 0
+SaysFaultOf dialect name said before now =
+    ((fault : MpsFault) × Reads (before.told name) (λ text. first_fault dialect text ≡ Some (fault.kind, fault.line)) × (said ≡ fault_text fault))
+    ⊎ (IsLonger (before.told name) INPUT_LIMIT × Rose (before.overlong INPUT_LIMIT name) (now.overlong INPUT_LIMIT name)
     × (said ≡ codes "error M17" ++ 10 ∷ []))
+
+-- what is said of IN's text
+abbrev pub SaysFault : PresolveNames → List ℕ → Moment → Moment → Type 0
+SaysFault names said before now = SaysFaultOf (dialect_of names.options) names.input said before now
 
 -- Of two writes one failed: the first, and all other names stand; or the second, and the first text was written.
 -- What was told before and is told now, and the counts of write faults before and now, are by name.
@@ -99,13 +109,6 @@ EndsPresolve names WriteFault before now = (outcome : Outcome) × (program recor
     × Reads (before.told names.input) (λ text. IsProgramOf (dialect_of names.options) text outcome.source)
     × FailsBetween names.output program names.records before.told now.told before.writes now.writes
 EndsPresolve names NoMemory before now = now.told ≡ before.told
-
--- what an ending says of what the words ask for; none where they are refused
-abbrev pub Ends : Option Request → Ending → Moment → Moment → Type 0
-Ends None ending before now = ((ending ≡ Usage) ⊎ (ending ≡ NoMemory)) × (now.told ≡ before.told)
-Ends (Some (Presolve names)) ending before now = EndsPresolve names ending before now
-
--- The sink took the text and the status is the ending's; or the sink failed, having taken a prefix, and the status is 4.
-abbrev pub Prints : ℕ → Ending → Option (List ℕ) → Option (List ℕ) → ℕ → ℕ → Type 0
-Prints status ending old new before now =
-    ((status ≡ status_of ending) × Grown old new (text_of ending)) ⊎ ((status ≡ 4) × GrownInPart old new (text_of ending) × Rose before now)
+EndsPresolve names (NoRoom line) before now = ⊥
+EndsPresolve names (SolutionRefused line) before now = ⊥
+EndsPresolve names (Violated line) before now = ⊥

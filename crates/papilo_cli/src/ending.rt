@@ -17,6 +17,12 @@ pub enum Ending {
     WriteFault,
     /// Memory was refused.
     NoMemory,
+    /// A sum has no room; the line that says which.
+    NoRoom(Vec<u8>),
+    /// The solution's text was refused; the line that says why.
+    SolutionRefused(Vec<u8>),
+    /// The point does not meet the program; the line that says where.
+    Violated(Vec<u8>),
 }
 
 impl Ending {
@@ -33,6 +39,9 @@ impl Ending {
             Ending::ReadFault => 3,
             Ending::WriteFault => 4,
             Ending::NoMemory => 5,
+            Ending::NoRoom(_) => 6,
+            Ending::SolutionRefused(_) => 8,
+            Ending::Violated(_) => 9,
         }
     }
 
@@ -47,6 +56,9 @@ impl Ending {
             Ending::ReadFault => b"read fault\n",
             Ending::WriteFault => b"write fault\n",
             Ending::NoMemory => b"no memory\n",
+            Ending::NoRoom(line) => line.as_slice(),
+            Ending::SolutionRefused(line) => line.as_slice(),
+            Ending::Violated(line) => line.as_slice(),
         }
     }
 }

@@ -16,8 +16,8 @@ use std::alloc::{AllocError, Global};
 /// The longest program that is read, in bytes.
 pub const INPUT_LIMIT: u64 = 67_108_864;
 
-// The line that names a fault of a program's text.
-fn fault_line(alloc: Global, fault: MpsFault) -> Result<Vec<u8>, AllocError>
+/// The line that names a fault of a program's text.
+pub fn fault_line(alloc: Global, fault: MpsFault) -> Result<Vec<u8>, AllocError>
     ensures { IfOk result (λ text. text.items ≡ fault_text fault) }
 {
     let number = fault.kind.number();
@@ -44,8 +44,8 @@ fn write_both<F: Files>(
     files.write(records, &texts.records)
 }
 
-// How IN is read.
-fn dialect_of(options: PresolveOptions) -> Dialect
+/// How a program is read.
+pub fn dialect_of(options: PresolveOptions) -> Dialect
     ensures { result ≡ dialect_of options }
 {
     Dialect {

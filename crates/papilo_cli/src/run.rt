@@ -2,9 +2,12 @@
 
 ghost use Rattle.std.specs.Prelude.{◌≡◌, ◌≢◌, ◌≤◌, ◌⊎◌, ℕ, List, None, Some};
 ghost use Rattle.file_ports.specs.Ports.{Rose, Grown};
-ghost use Rattle.command_line.specs.Line.{asked, texts, Presolve, PresolveNames};
-ghost use Rattle.papilo_cli.specs.Ending.{Ends, IsPresolved, KeepsAllBut, Prints, SaysFault};
+ghost use Rattle.command_line.specs.Line.{asked, texts, Check, CheckNames, Presolve, PresolveNames};
+ghost use Rattle.papilo_cli.specs.Ending.{IsPresolved, KeepsAllBut, SaysFault, SaysFaultOf};
+ghost use Rattle.papilo_cli.specs.Checked.{IsChecked, RefusesSolution, check_dialect};
+ghost use Rattle.papilo_cli.specs.Runs.{Ends, Prints};
 
+use crate::check::check;
 use crate::ending::Ending;
 use crate::presolve::presolve;
 use command_line::{Refusal, Request};
@@ -22,6 +25,7 @@ fn ending_of<F: Files>(alloc: Global, words: &[String], files: &mut F) -> Ending
         Ok(Request::Presolve(words)) => {
             presolve(alloc, &words, files).unwrap_or(Ending::NoMemory)
         }
+        Ok(Request::Check(words)) => check(alloc, &words, files).unwrap_or(Ending::NoMemory),
         Err(Refusal::Words) => Ending::Usage,
         Err(Refusal::NoMemory) => Ending::NoMemory,
     }
@@ -42,7 +46,7 @@ pub fn run<R, F: Files, S: Sink, G: Gate>(
         × Prints result e (S.taken out.old) (S.taken out.new) (S.faults out.old) (S.faults out.new) }
 
     // The same, answer by answer.
-    ensures known { result ≤ 5 }
+    ensures known { (result ≤ 6) ⊎ (result ≡ 8) ⊎ (result ≡ 9) }
     ensures usage { result ≡ 1 → asked (texts words.now) ≡ None }
     ensures read_fault { (names : PresolveNames) → asked (texts words.now) ≡ Some (Presolve names) → result ≡ 3
         → Rose (F.read_faults files.old names.input) (F.read_faults files.new names.input) }
@@ -58,6 +62,23 @@ pub fn run<R, F: Files, S: Sink, G: Gate>(
         (record { told = F.told files.old; reads = F.read_faults files.old; writes = F.write_faults files.old; overlong = F.overlong files.old })
         (record { told = F.told files.new; reads = F.read_faults files.new; writes = F.write_faults files.new; overlong = F.overlong files.new })
         × Grown (S.taken out.old) (S.taken out.new) said }
+    ensures checked { (names : CheckNames) → asked (texts words.now) ≡ Some (Check names) → (result ≡ 0) ⊎ (result ≡ 6) ⊎ (result ≡ 9)
+        → (printed : List ℕ) × IsChecked names result printed (F.told files.old) × Grown (S.taken out.old) (S.taken out.new) printed }
+    ensures refused_solution { (names : CheckNames) → asked (texts words.now) ≡ Some (Check names) → result ≡ 8
+        → (said : List ℕ) × RefusesSolution names said
+        (record { told = F.told files.old; reads = F.read_faults files.old; writes = F.write_faults files.old; overlong = F.overlong files.old })
+        (record { told = F.told files.new; reads = F.read_faults files.new; writes = F.write_faults files.new; overlong = F.overlong files.new })
+        × Grown (S.taken out.old) (S.taken out.new) said }
+    ensures refused_program { (names : CheckNames) → asked (texts words.now) ≡ Some (Check names) → result ≡ 2
+        → (said : List ℕ) × SaysFaultOf (check_dialect names) names.input said
+        (record { told = F.told files.old; reads = F.read_faults files.old; writes = F.write_faults files.old; overlong = F.overlong files.old })
+        (record { told = F.told files.new; reads = F.read_faults files.new; writes = F.write_faults files.new; overlong = F.overlong files.new })
+        × Grown (S.taken out.old) (S.taken out.new) said }
+    ensures unread { (names : CheckNames) → asked (texts words.now) ≡ Some (Check names) → result ≡ 3
+        → Rose (F.read_faults files.old names.input) (F.read_faults files.new names.input)
+        ⊎ Rose (F.read_faults files.old names.solution) (F.read_faults files.new names.solution) }
+    ensures unprinted { (names : CheckNames) → asked (texts words.now) ≡ Some (Check names) → result ≡ 4 → Rose (S.faults out.old) (S.faults out.new) }
+    ensures untouched { (names : CheckNames) → asked (texts words.now) ≡ Some (Check names) → F.told files.new ≡ F.told files.old }
     ensures others { (names : PresolveNames) → asked (texts words.now) ≡ Some (Presolve names)
         → KeepsAllBut (F.told files.old) (F.told files.new) names.output names.records }
     ensures quiet { result ≢ 0 → result ≢ 4 → F.told files.new ≡ F.told files.old }

@@ -219,6 +219,113 @@ const CASES: [Case<'static>; 12] = [
     },
 ];
 
+// A check: its words after the program's name, the texts that IN and SOL hold, the numbers of the reads that fail, and then the
+// status and the printed text.
+struct CheckCase<'a> {
+    words: &'a [&'a str],
+    input: &'a str,
+    solution: &'a str,
+    reads: &'a [u64],
+    status: u8,
+    printed: &'a str,
+}
+
+const CHECK: &[&str] = &["check", "IN", "SOL"];
+
+const CHECKS: [CheckCase<'static>; 11] = [
+    CheckCase {
+        words: CHECK,
+        input: SMALL,
+        solution: "x 3\ny 2\n",
+        reads: &[],
+        status: 0,
+        printed: "yes cost 7\n",
+    },
+    CheckCase {
+        words: CHECK,
+        input: SMALL,
+        solution: "x 3\ny 1\n",
+        reads: &[],
+        status: 9,
+        printed: "no row C2 value 4 below 5\n",
+    },
+    CheckCase {
+        words: CHECK,
+        input: SMALL,
+        solution: "x 3\ny -1/3\n",
+        reads: &[],
+        status: 9,
+        printed: "no column y value -1/3 below 0\n",
+    },
+    // The least 10^30 x at x = 10^30, and a row with that number.
+    CheckCase {
+        words: CHECK,
+        input: "ROWS\n N COST\nCOLUMNS\n x COST 1e30\nENDATA\n",
+        solution: "x 1e30\n",
+        reads: &[],
+        status: 6,
+        printed: "past cost\n",
+    },
+    CheckCase {
+        words: CHECK,
+        input: "ROWS\n N COST\n G C1\nCOLUMNS\n x C1 1e30\nENDATA\n",
+        solution: "x 1e30\n",
+        reads: &[],
+        status: 6,
+        printed: "past row C1\n",
+    },
+    CheckCase {
+        words: CHECK,
+        input: SMALL,
+        solution: "w 1\n",
+        reads: &[],
+        status: 8,
+        printed: "error S2 line 1\n",
+    },
+    // Both texts have a fault: IN's comes first.
+    CheckCase {
+        words: CHECK,
+        input: "ROWS\n N COST\nCOLUMNS\n",
+        solution: "w 1\n",
+        reads: &[],
+        status: 2,
+        printed: "error M6 line 4\n",
+    },
+    // Either read fails, before IN's fault is seen; and a name that is missing.
+    CheckCase {
+        words: CHECK,
+        input: "ROWS\n",
+        solution: "w 1\n",
+        reads: &[1],
+        status: 3,
+        printed: "read fault\n",
+    },
+    CheckCase {
+        words: CHECK,
+        input: "ROWS\n",
+        solution: "w 1\n",
+        reads: &[2],
+        status: 3,
+        printed: "read fault\n",
+    },
+    CheckCase {
+        words: &["check", "IN", "MISSING"],
+        input: SMALL,
+        solution: "x 3\ny 2\n",
+        reads: &[],
+        status: 3,
+        printed: "read fault\n",
+    },
+    CheckCase {
+        words: &["check", "IN"],
+        input: SMALL,
+        solution: "x 3\ny 2\n",
+        reads: &[],
+        status: 1,
+        printed: USAGE,
+    },
+];
+
 fn held(
     alloc: Global,
     name: &str,
@@ -265,6 +372,24 @@ fn each_status(rt: HostRuntime) -> Result<(), Fail> {
             files.bytes("REC"),
             case.records.map(|text| text.as_bytes())
         );
+    }
+    Ok(())
+}
+
+#[test]
+fn each_verdict(rt: HostRuntime) -> Result<(), Fail> {
+    let alloc = rt.alloc();
+    for case in &CHECKS {
+        let words = words_of(alloc, case.words)?;
+        let input = held(alloc, "IN", Some(case.input), None)?;
+        let solution = held(alloc, "SOL", Some(case.solution), None)?;
+        let held = [input, solution];
+        assert!(rt; names_differ(&held));
+        let mut files = MemFiles::new(alloc, &held, case.reads, &[])?;
+        let mut out = MemSink::new(alloc, 1000, &[])?;
+        let status = run(&rt, alloc, &words, &mut files, &mut out, &OpenGate);
+        assert_eq!(rt; status, case.status, "at {:?}", case.solution);
+        assert_eq!(rt; out.taken(), case.printed.as_bytes());
     }
     Ok(())
 }

@@ -1,4 +1,3 @@
-use Rattle.papilo_cli.specs.Ending.{dialect_of}
 use Rattle.papilo_cli.proofs.Earlier.{fails_earlier, presolved_earlier, program_read, gives_kept}
 use Rattle.papilo_cli.proofs.presolve.presolve.Goals as goal
 

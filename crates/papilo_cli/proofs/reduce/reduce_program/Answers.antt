@@ -1,4 +1,4 @@
-use Rattle.std.proofs.Common.{◌≡◌, refl}
+use Rattle.std.proofs.Common.{refl}
 use Rattle.papilo_cli.specs.Texts.{Outcome, Carries}
 use Rattle.papilo_cli.proofs.reduce.reduce_program.Goals as goal
 

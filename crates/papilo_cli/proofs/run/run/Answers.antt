@@ -1,0 +1,40 @@
+use Rattle.command_line.specs.Line.{asked, texts}
+use Rattle.papilo_cli.specs.Ending.{Moment}
+use Rattle.papilo_cli.proofs.Said.{presolve_refused, check_refused, solution_refused, verdict_printed}
+use Rattle.papilo_cli.proofs.run.run.Goals as goal
+
+pub returns-in-Ok-clause-refused_text : goal.returns-in-Ok-clause-refused_text
+returns-in-Ok-clause-refused_text g c = λ names.
+    let files = c.args.files.now in
+    let after = c.ending_of-ending.new.files in
+    let before : Moment = record { told = g.F.Files.told files; reads = g.F.Files.read_faults files; writes = g.F.Files.write_faults files; overlong = g.F.Files.overlong files } in
+    let now : Moment = record { told = g.F.Files.told after; reads = g.F.Files.read_faults after; writes = g.F.Files.write_faults after; overlong = g.F.Files.overlong after } in
+    presolve_refused (asked (texts c.args.words.now)) names c.ending_of-ending.result before now c.status.result c.text.result.now (g.S.Sink.taken c.args.out.now) (g.S.Sink.taken c.put.new.self)
+    c.ending_of-ending.ensures.ends c.status.ensures c.text.ensures c.in-Ok.ensures.grown
+
+pub returns-in-Ok-clause-refused_program : goal.returns-in-Ok-clause-refused_program
+returns-in-Ok-clause-refused_program g c = λ names.
+    let files = c.args.files.now in
+    let after = c.ending_of-ending.new.files in
+    let before : Moment = record { told = g.F.Files.told files; reads = g.F.Files.read_faults files; writes = g.F.Files.write_faults files; overlong = g.F.Files.overlong files } in
+    let now : Moment = record { told = g.F.Files.told after; reads = g.F.Files.read_faults after; writes = g.F.Files.write_faults after; overlong = g.F.Files.overlong after } in
+    check_refused (asked (texts c.args.words.now)) names c.ending_of-ending.result before now c.status.result c.text.result.now (g.S.Sink.taken c.args.out.now) (g.S.Sink.taken c.put.new.self)
+    c.ending_of-ending.ensures.ends c.status.ensures c.text.ensures c.in-Ok.ensures.grown
+
+pub returns-in-Ok-clause-refused_solution : goal.returns-in-Ok-clause-refused_solution
+returns-in-Ok-clause-refused_solution g c = λ names.
+    let files = c.args.files.now in
+    let after = c.ending_of-ending.new.files in
+    let before : Moment = record { told = g.F.Files.told files; reads = g.F.Files.read_faults files; writes = g.F.Files.write_faults files; overlong = g.F.Files.overlong files } in
+    let now : Moment = record { told = g.F.Files.told after; reads = g.F.Files.read_faults after; writes = g.F.Files.write_faults after; overlong = g.F.Files.overlong after } in
+    solution_refused (asked (texts c.args.words.now)) names c.ending_of-ending.result before now c.status.result c.text.result.now (g.S.Sink.taken c.args.out.now) (g.S.Sink.taken c.put.new.self)
+    c.ending_of-ending.ensures.ends c.status.ensures c.text.ensures c.in-Ok.ensures.grown
+
+pub returns-in-Ok-clause-checked : goal.returns-in-Ok-clause-checked
+returns-in-Ok-clause-checked g c = λ names.
+    let files = c.args.files.now in
+    let after = c.ending_of-ending.new.files in
+    let before : Moment = record { told = g.F.Files.told files; reads = g.F.Files.read_faults files; writes = g.F.Files.write_faults files; overlong = g.F.Files.overlong files } in
+    let now : Moment = record { told = g.F.Files.told after; reads = g.F.Files.read_faults after; writes = g.F.Files.write_faults after; overlong = g.F.Files.overlong after } in
+    verdict_printed (asked (texts c.args.words.now)) names c.ending_of-ending.result before now c.status.result c.text.result.now (g.S.Sink.taken c.args.out.now) (g.S.Sink.taken c.put.new.self)
+    c.ending_of-ending.ensures.ends c.status.ensures c.text.ensures c.in-Ok.ensures.grown

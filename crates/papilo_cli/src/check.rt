@@ -1,0 +1,98 @@
+//! The command `check IN SOL [--fixed]`.
+
+ghost use Rattle.std.specs.Prelude.{◌≡◌, ℕ, ◌≤◌, ◌⊎◌, length, option_map, IfOk, IfSome, OnErr, IsErrOf};
+ghost use Rattle.file_ports.specs.Ports.{Rose, NeverFall};
+ghost use Rattle.command_line.specs.Seen.{check_names_of};
+ghost use Rattle.papilo_cli.specs.Checked.{EndsCheck, Finds};
+
+use crate::ending::Ending;
+use crate::judging::judge;
+use crate::presolve::{INPUT_LIMIT, dialect_of};
+use command_line::{CheckWords, PresolveOptions};
+use file_ports::{Files, ReadErr};
+use std::alloc::{AllocError, Global};
+
+/// The longest solution that is read, in bytes.
+pub const SOLUTION_LIMIT: u64 = 1_073_741_824;
+
+/// Why a name's bytes were not read.
+#[derive(Clone, Copy)]
+enum Unread {
+    /// The read failed.
+    Failed,
+    /// There is no memory for the bytes.
+    NoMemory,
+}
+
+/// The bytes of a name; none where they are more than the limit.
+fn read_within<F: Files>(
+    alloc: Global,
+    name: &str,
+    limit: u64,
+    files: &mut F,
+) -> Result<Option<Vec<u8>>, Unread>
+    ensures found { IfOk result (λ found. Finds (F.told files.old name.now) limit (F.overlong files.old limit name.now) (F.overlong files.new limit name.now)
+        (option_map (λ bytes. bytes.items) found)) }
+    ensures most { IfOk result (λ found. IfSome found (λ bytes. length bytes.items ≤ limit)) }
+    ensures failed { IsErrOf result Unread.Failed → Rose (F.read_faults files.old name.now) (F.read_faults files.new name.now) }
+    ensures kept { F.told files.new ≡ F.told files.old }
+    ensures reads_stay { NeverFall (F.read_faults files.old) (F.read_faults files.new) }
+    ensures overlongs_stay { (most : ℕ) → NeverFall (F.overlong files.old most) (F.overlong files.new most) }
+{
+    match files.read(alloc, name, limit) {
+        Ok(bytes) => Ok(Some(bytes)),
+        Err(ReadErr::TooLong) => Ok(None),
+        Err(ReadErr::Failed) => Err(Unread::Failed),
+        Err(ReadErr::NoMemory) => Err(Unread::NoMemory),
+    }
+}
+
+/// The bytes of IN and of SOL; none of a name that holds more than is read.
+#[derive(Drop)]
+struct BothTexts {
+    input: Option<Vec<u8>>,
+    solution: Option<Vec<u8>>,
+}
+
+/// Reads IN, then SOL.
+fn read_both<F: Files>(
+    alloc: Global,
+    input: &str,
+    solution: &str,
+    files: &mut F,
+) -> Result<BothTexts, Unread>
+    ensures input { IfOk result (λ both. Finds (F.told files.old input.now) INPUT_LIMIT (F.overlong files.old INPUT_LIMIT input.now) (F.overlong files.new INPUT_LIMIT input.now)
+        (option_map (λ bytes. bytes.items) both.input)) }
+    ensures solution { IfOk result (λ both. Finds (F.told files.old solution.now) SOLUTION_LIMIT (F.overlong files.old SOLUTION_LIMIT solution.now) (F.overlong files.new SOLUTION_LIMIT solution.now)
+        (option_map (λ bytes. bytes.items) both.solution)) }
+    ensures most { IfOk result (λ both. IfSome both.input (λ bytes. length bytes.items ≤ INPUT_LIMIT)) }
+    ensures failed { IsErrOf result Unread.Failed → Rose (F.read_faults files.old input.now) (F.read_faults files.new input.now)
+        ⊎ Rose (F.read_faults files.old solution.now) (F.read_faults files.new solution.now) }
+    ensures kept { F.told files.new ≡ F.told files.old }
+{
+    let input = read_within(alloc, input, INPUT_LIMIT, files)?;
+    let solution = read_within(alloc, solution, SOLUTION_LIMIT, files)?;
+    Ok(BothTexts { input, solution })
+}
+
+/// Reads a program and a solution, and says whether the solution's point meets the program. No file is written.
+pub fn check<F: Files>(
+    alloc: Global,
+    words: &CheckWords<'_>,
+    files: &mut F,
+) -> Result<Ending, AllocError>
+    ensures ends { IfOk result (λ e. EndsCheck (check_names_of words.now) e
+        (record { told = F.told files.old; reads = F.read_faults files.old; writes = F.write_faults files.old; overlong = F.overlong files.old })
+        (record { told = F.told files.new; reads = F.read_faults files.new; writes = F.write_faults files.new; overlong = F.overlong files.new })) }
+    ensures no_memory { OnErr result (F.told files.new ≡ F.told files.old) }
+{
+    let dialect = dialect_of(PresolveOptions {
+        fractions: true,
+        fixed: words.fixed,
+    });
+    match read_both(alloc, words.input, words.solution, files) {
+        Ok(BothTexts { input, solution }) => judge(alloc, input, solution, dialect),
+        Err(Unread::Failed) => Ok(Ending::ReadFault),
+        Err(Unread::NoMemory) => Err(AllocError),
+    }
+}
