@@ -1,8 +1,7 @@
 //! The numbers of the reductions, on values worked by hand.
 
-use crate::ends::{are_crossed, best_place, down, met_lower, met_upper, side_less, sides_over, up};
+use crate::ends::{are_crossed, best_place, down, sides_over, up};
 use crate::undo::{came_from_row, undo_fixed};
-use fractions::Past;
 use fractions::ext::Ext;
 use fractions::frac::Frac;
 use fractions::whole::Whole;
@@ -73,25 +72,6 @@ fn divides_sides(rt: HostRuntime) -> Result<(), Fail> {
     Ok(())
 }
 
-/// Two ends, the greater one where they are lower ends, and the less one where they are upper ends.
-const TWO_ENDS: [(End, End, End, End); 5] = [
-    (Some((2, 1)), Some((3, 1)), Some((3, 1)), Some((2, 1))),
-    (Some((-1, 3)), Some((-1, 2)), Some((-1, 3)), Some((-1, 2))),
-    (None, Some((3, 1)), Some((3, 1)), Some((3, 1))),
-    (Some((3, 1)), None, Some((3, 1)), Some((3, 1))),
-    (None, None, None, None),
-];
-
-#[test]
-fn meets_ends(rt: HostRuntime) {
-    for (a, b, greater, less) in TWO_ENDS {
-        let a = end(&rt, a);
-        let b = end(&rt, b);
-        assert!(rt; met_lower(&a, &b).is_same(&end(&rt, greater)));
-        assert!(rt; met_upper(&a, &b).is_same(&end(&rt, less)));
-    }
-}
-
 /// A column's old bounds, its value and its reduced cost, and whether a deleted row holds it.
 const HELD: [(End, End, Quotient, Quotient, bool); 7] = [
     (Some((0, 1)), None, (2, 1), (3, 1), true),
@@ -112,25 +92,6 @@ fn tells_what_holds_a_column(rt: HostRuntime) {
         let reduced_cost = number(&rt, reduced_cost);
         assert!(rt; came_from_row(&lower, &upper, &value, &reduced_cost) == from_row);
     }
-}
-
-/// A side, what a fixed column gives to its row, and the side without it.
-const SIDES: [(End, Quotient, End); 4] = [
-    (Some((5, 1)), (3, 1), Some((2, 1))),
-    (Some((1, 3)), (1, 2), Some((-1, 6))),
-    (Some((0, 1)), (-7, 2), Some((7, 2))),
-    (None, (3, 1), None),
-];
-
-#[test]
-fn takes_a_fixed_column_from_sides(rt: HostRuntime) -> Result<(), Fail> {
-    for (side, given, left) in SIDES {
-        let left_by = side_less(&end(&rt, side), &number(&rt, given))?;
-        assert!(rt; left_by.is_same(&end(&rt, left)));
-    }
-    let largest = Ext::at(Frac::whole(Whole::new(i128::MAX)));
-    assert!(rt; matches!(side_less(&largest, &number(&rt, (-1, 1))), Err(Past)));
-    Ok(())
 }
 
 #[test]

@@ -6,9 +6,10 @@
 
 ghost use Rattle.std.specs.Prelude.{◌≡◌, ◌≤◌, IfOk};
 
+use crate::ids::Ids;
 use crate::proposal::Proposal;
 use fractions::Numbers;
-use singleton_rules::{Instance, Refusal, Rule, apply, is_enabled, scan};
+use singleton_rules::{Refusal, Rule, apply, is_enabled, scan};
 use sparse_problem::Problem;
 use std::alloc::{AllocError, Global};
 use undo_records::Undo;
@@ -20,62 +21,6 @@ pub enum End {
     Fixpoint { skipped: u64 },
     /// As many instances were applied as allowed.
     LimitReached,
-}
-
-/// Ids of rows and columns.
-#[derive(Drop)]
-struct Ids {
-    rows: Vec<u32>,
-    columns: Vec<u32>,
-}
-
-impl Ids {
-    fn new(alloc: Global) -> Ids {
-        Ids {
-            rows: Vec::new(alloc),
-            columns: Vec::new(alloc),
-        }
-    }
-
-    /// Those below two numbers.
-    fn below(alloc: Global, rows: u32, columns: u32) -> Result<Ids, AllocError> {
-        Ok(Ids {
-            rows: (0..rows).collect(alloc)?,
-            columns: (0..columns).collect(alloc)?,
-        })
-    }
-
-    /// Adds what an instance is at.
-    fn add_instance(&mut self, instance: Instance) -> Result<(), AllocError> {
-        match instance {
-            Instance::EmptyRow { row } => self.rows.push(row)?,
-            Instance::SingletonRow { row } => self.rows.push(row)?,
-            Instance::FixedColumn { column } => self.columns.push(column)?,
-        }
-        Ok(())
-    }
-
-    /// Adds what an applied instance changed and left live.
-    fn add_changed(&mut self, undo: &Undo) -> Result<(), AllocError> {
-        match undo {
-            Undo::EmptyRow { .. } => {}
-            Undo::SingletonRow { column, .. } => self.columns.push(*column)?,
-            Undo::FixedColumn { entries, .. } => {
-                for term in entries.as_slice() {
-                    self.rows.push(term.id)?;
-                }
-            }
-        }
-        Ok(())
-    }
-
-    /// Puts each kind into ascending order, every id once.
-    fn sort(&mut self) {
-        self.rows.sort_unstable();
-        self.rows.dedup();
-        self.columns.sort_unstable();
-        self.columns.dedup();
-    }
 }
 
 /// A problem being reduced.
@@ -154,19 +99,9 @@ impl Run {
     /// The enabled instances in instance order.
     fn proposals(&self, alloc: Global) -> Result<Vec<Proposal>, AllocError> {
         let mut all = Vec::new(alloc);
-        self.add_proposals(alloc, Rule::EmptyRow, self.found.rows.as_slice(), &mut all)?;
-        self.add_proposals(
-            alloc,
-            Rule::SingletonRow,
-            self.found.rows.as_slice(),
-            &mut all,
-        )?;
-        self.add_proposals(
-            alloc,
-            Rule::FixedColumn,
-            self.found.columns.as_slice(),
-            &mut all,
-        )?;
+        self.add_proposals(alloc, Rule::EmptyRow, self.found.rows(), &mut all)?;
+        self.add_proposals(alloc, Rule::SingletonRow, self.found.rows(), &mut all)?;
+        self.add_proposals(alloc, Rule::FixedColumn, self.found.columns(), &mut all)?;
         Ok(all)
     }
 
@@ -204,7 +139,7 @@ impl Run {
         self.undos.reserve(1)?;
         match apply(&mut self.problem, alloc, instance, self.numbers) {
             Ok(undo) => {
-                next.add_changed(&undo)?;
+                next.add_changed(&self.problem, &undo)?;
                 self.undos.push(undo)?;
                 Ok(false)
             }

@@ -7,7 +7,8 @@ use Rattle.lp_model.specs.declared.program.Sense.{Sense}
 use Rattle.undo_records.specs.Postsolve.{Postsolve}
 use Rattle.undo_records.specs.declared.label.Label.{Label}
 use Rattle.undo_records.specs.declared.undo.Undo.{Undo}
-use Rattle.record_file.specs.Words.{sense_word, live_word, rule_word, field_words}
+use Rattle.record_file.specs.Words.{sense_word, live_word}
+use Rattle.record_file.specs.Fields.{rule_word, field_words}
 
 -- a line: its first word, and its other words
 pub record Line : Type 0 where

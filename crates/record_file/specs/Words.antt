@@ -6,8 +6,10 @@ use Rattle.rational.specs.Lowest.{over_of, under_of}
 use Rattle.lp_model.specs.declared.program.Sense.{Sense}
 use Rattle.lp_model.specs.declared.program.Sense.TheVariants.{Min, Max}
 use Rattle.lp_model.specs.declared.terms.Term.{Term}
-use Rattle.undo_records.specs.declared.undo.Undo.{Undo}
-use Rattle.undo_records.specs.declared.undo.Undo.TheVariants.{EmptyRow, SingletonRow, FixedColumn}
+use Rattle.undo_records.specs.declared.side.Side.{Side}
+use Rattle.undo_records.specs.declared.side.Side.TheVariants.{Lower, Upper}
+use Rattle.undo_records.specs.declared.side.RowFate.{RowFate}
+use Rattle.undo_records.specs.declared.side.RowFate.TheVariants.{Kept, Dropped}
 
 -- n, or n/d in lowest terms
 abbrev pub ratio_word : Number → List ℕ
@@ -25,6 +27,25 @@ abbrev pub sense_word : Sense → List ℕ
 sense_word Min = codes "min"
 sense_word Max = codes "max"
 
+-- a side of a row
+abbrev pub letter_word : Side → List ℕ
+letter_word Lower = codes "L"
+letter_word Upper = codes "U"
+
+-- a bound of a column: which one it is, and its number
+abbrev pub side_word : Side → List ℕ
+side_word Lower = codes "lower"
+side_word Upper = codes "upper"
+
+abbrev pub bound_word : Side → Option Number → List ℕ
+bound_word Lower b = lower_word b
+bound_word Upper b = upper_word b
+
+-- what became of a row
+abbrev pub fate_word : RowFate → List ℕ
+fate_word Kept = codes "keep"
+fate_word Dropped = codes "drop"
+
 -- a label: whether it is live, and its name
 abbrev pub live_word : Bool → List ℕ
 live_word true = codes "live"
@@ -38,15 +59,3 @@ pair_words (t ∷ ts) = decimal t.id ∷ ratio_word t.value ∷ pair_words ts
 -- how many pairs there are, and the pairs
 abbrev pub list_words : List Term → List (List ℕ)
 list_words ts = decimal (length ts) ∷ pair_words ts
-
--- the rule of a reduction
-abbrev pub rule_word : Undo → List ℕ
-rule_word (EmptyRow row) = codes "K1"
-rule_word (SingletonRow row column value lower upper) = codes "K2"
-rule_word (FixedColumn column value cost entries) = codes "K3"
-
--- what its record holds
-abbrev pub field_words : Undo → List (List ℕ)
-field_words (EmptyRow row) = decimal row ∷ []
-field_words (SingletonRow row column value lower upper) = decimal row ∷ decimal column ∷ ratio_word value ∷ lower_word lower ∷ upper_word upper ∷ []
-field_words (FixedColumn column value cost entries) = decimal column ∷ ratio_word value ∷ ratio_word cost ∷ list_words entries

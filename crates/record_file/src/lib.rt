@@ -1,6 +1,7 @@
 //! The text of presolve's records, version 1.
 #![tactic(auto)]
 
+mod fields;
 mod sections;
 #[cfg(test)]
 mod tests;

@@ -1,11 +1,10 @@
 //! The sections of the record text.
 
 ghost use Rattle.std.specs.Prelude.{◌≡◌, ◌++◌, OnOk};
-ghost use Rattle.record_file.specs.Words.{rule_word, field_words};
-ghost use Rattle.record_file.specs.Onto.{words_onto};
 ghost use Rattle.record_file.specs.RecordText.{line_text, lines_text, header_lines, label_line, label_lines, offset_line, undo_line, undo_lines};
 
-use crate::words::{push_count, push_id, push_lower, push_ratio, push_terms, push_upper};
+use crate::fields::{push_fields, rule_name};
+use crate::words::push_count;
 use fractions::frac::Frac;
 use lp_model::Sense;
 use std::alloc::AllocError;
@@ -58,49 +57,12 @@ pub fn push_offset(out: &mut Vec<u8>, offset: &Frac) -> Result<(), AllocError>
     out.extend_from_slice(b"\n")
 }
 
-/// Appends the words of a record.
-fn push_fields(out: &mut Vec<u8>, undo: &Undo) -> Result<(), AllocError>
-    ensures { OnOk result (out.new.items ≡ words_onto (out.old.items ++ rule_word undo.now) (field_words undo.now)) }
-{
-    match undo {
-        Undo::EmptyRow { row } => {
-            out.extend_from_slice(b"K1")?;
-            push_id(out, *row)
-        }
-        Undo::SingletonRow {
-            row,
-            column,
-            value,
-            lower,
-            upper,
-        } => {
-            out.extend_from_slice(b"K2")?;
-            push_id(out, *row)?;
-            push_id(out, *column)?;
-            push_ratio(out, value)?;
-            push_lower(out, *lower)?;
-            push_upper(out, *upper)
-        }
-        Undo::FixedColumn {
-            column,
-            value,
-            cost,
-            entries,
-        } => {
-            out.extend_from_slice(b"K3")?;
-            push_id(out, *column)?;
-            push_ratio(out, value)?;
-            push_ratio(out, cost)?;
-            push_terms(out, entries.as_slice())
-        }
-    }
-}
-
 /// Appends a record's line.
 #[tactic(auto, using(crate::proofs::OntoLaws::line_onto_is))]
 fn push_undo(out: &mut Vec<u8>, undo: &Undo) -> Result<(), AllocError>
     ensures { OnOk result (out.new.items ≡ out.old.items ++ line_text (undo_line undo.now)) }
 {
+    out.extend_from_slice(rule_name(undo))?;
     push_fields(out, undo)?;
     out.extend_from_slice(b"\n")
 }

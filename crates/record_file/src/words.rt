@@ -1,8 +1,8 @@
 //! The words of a line, each behind a space.
 
-ghost use Rattle.std.specs.Prelude.{◌≡◌, ◌++◌, ◌∷◌, OnOk};
+ghost use Rattle.std.specs.Prelude.{◌≡◌, ◌++◌, ◌∷◌, [], map, OnOk};
 ghost use Rattle.std.specs.Fmt.{decimal};
-ghost use Rattle.record_file.specs.Words.{ratio_word, lower_word, upper_word, list_words};
+ghost use Rattle.record_file.specs.Words.{ratio_word, lower_word, upper_word, letter_word, side_word, bound_word, fate_word, list_words};
 ghost use Rattle.record_file.specs.Onto.{words_onto};
 
 use fractions::ext::Ext;
@@ -10,6 +10,7 @@ use fractions::frac::Frac;
 use itoa::Buffer;
 use lp_model::Term;
 use std::alloc::AllocError;
+use undo_records::{RowFate, Side};
 
 /// Appends a natural number.
 fn push_natural(out: &mut Vec<u8>, number: u128) -> Result<(), AllocError>
@@ -39,6 +40,18 @@ pub fn push_id(out: &mut Vec<u8>, id: u32) -> Result<(), AllocError>
     push_natural(out, id as u128)
 }
 
+/// Appends ids.
+pub fn push_ids(out: &mut Vec<u8>, ids: &[u32]) -> Result<(), AllocError>
+    ensures { OnOk result (out.new.items ≡ words_onto out.old.items (map decimal ids.now)) }
+{
+    let mut rest = ids;
+    while let [id, after @ ..] = rest {
+        push_id(out, *id)?;
+        rest = after;
+    }
+    Ok(())
+}
+
 /// Appends a number as `n` or `n/d`.
 pub fn push_ratio(out: &mut Vec<u8>, number: &Frac) -> Result<(), AllocError>
     ensures { OnOk result (out.new.items ≡ out.old.items ++ 32 ∷ ratio_word number.now) }
@@ -56,8 +69,20 @@ pub fn push_ratio(out: &mut Vec<u8>, number: &Frac) -> Result<(), AllocError>
     Ok(())
 }
 
+/// Appends numbers.
+pub fn push_ratios(out: &mut Vec<u8>, numbers: &[Frac]) -> Result<(), AllocError>
+    ensures { OnOk result (out.new.items ≡ words_onto out.old.items (map ratio_word numbers.now)) }
+{
+    let mut rest = numbers;
+    while let [number, after @ ..] = rest {
+        push_ratio(out, number)?;
+        rest = after;
+    }
+    Ok(())
+}
+
 /// Appends a lower bound.
-pub fn push_lower(out: &mut Vec<u8>, bound: Ext) -> Result<(), AllocError>
+fn push_lower(out: &mut Vec<u8>, bound: Ext) -> Result<(), AllocError>
     ensures { OnOk result (out.new.items ≡ out.old.items ++ 32 ∷ lower_word bound) }
 {
     match bound.number() {
@@ -67,12 +92,56 @@ pub fn push_lower(out: &mut Vec<u8>, bound: Ext) -> Result<(), AllocError>
 }
 
 /// Appends an upper bound.
-pub fn push_upper(out: &mut Vec<u8>, bound: Ext) -> Result<(), AllocError>
+fn push_upper(out: &mut Vec<u8>, bound: Ext) -> Result<(), AllocError>
     ensures { OnOk result (out.new.items ≡ out.old.items ++ 32 ∷ upper_word bound) }
 {
     match bound.number() {
         None => out.extend_from_slice(b" inf"),
         Some(number) => push_ratio(out, &number),
+    }
+}
+
+/// Appends two bounds, the lower one first.
+pub fn push_bounds(out: &mut Vec<u8>, lower: Ext, upper: Ext) -> Result<(), AllocError>
+    ensures { OnOk result (out.new.items ≡ words_onto out.old.items (lower_word lower ∷ upper_word upper ∷ [])) }
+{
+    push_lower(out, lower)?;
+    push_upper(out, upper)
+}
+
+/// Appends which of two bounds one is, and the bound.
+pub fn push_bound(out: &mut Vec<u8>, side: Side, bound: Ext) -> Result<(), AllocError>
+    ensures { OnOk result (out.new.items ≡ words_onto out.old.items (side_word side ∷ bound_word side bound ∷ [])) }
+{
+    match side {
+        Side::Lower => {
+            out.extend_from_slice(b" lower")?;
+            push_lower(out, bound)
+        }
+        Side::Upper => {
+            out.extend_from_slice(b" upper")?;
+            push_upper(out, bound)
+        }
+    }
+}
+
+/// Appends a side of a row.
+pub fn push_side(out: &mut Vec<u8>, side: Side) -> Result<(), AllocError>
+    ensures { OnOk result (out.new.items ≡ out.old.items ++ 32 ∷ letter_word side) }
+{
+    match side {
+        Side::Lower => out.extend_from_slice(b" L"),
+        Side::Upper => out.extend_from_slice(b" U"),
+    }
+}
+
+/// Appends what became of a row.
+pub fn push_fate(out: &mut Vec<u8>, fate: RowFate) -> Result<(), AllocError>
+    ensures { OnOk result (out.new.items ≡ out.old.items ++ 32 ∷ fate_word fate) }
+{
+    match fate {
+        RowFate::Kept => out.extend_from_slice(b" keep"),
+        RowFate::Dropped => out.extend_from_slice(b" drop"),
     }
 }
 

@@ -1,1 +1,4 @@
+pub mod Lift
 pub mod Postsolve
+pub mod Room
+pub mod Sound

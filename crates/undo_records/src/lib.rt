@@ -1,12 +1,19 @@
 //! What presolve writes down as it reduces a program, so that a solution of the reduced program can be brought back.
+//!
+//! `specs/` says what undoing makes of a point, when its numbers have room, and what is asked of a record. [`laws`] states what holds of them.
 #![tactic(auto)]
 
 mod label;
+pub mod laws;
 mod records;
+mod side;
+mod sound;
 mod undo;
 
 pub use label::Label;
 pub use records::Records;
+pub use side::{RowFate, Side};
+pub use sound::can_undo;
 pub use undo::Undo;
 
 #[cfg(test)]

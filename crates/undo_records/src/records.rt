@@ -1,8 +1,10 @@
 //! The records of a whole run.
 
-ghost use Rattle.std.specs.Prelude.{◌≡◌, map};
+ghost use Rattle.std.specs.Prelude.{◌≡◌, ◌↔◌, All, IsTrue, length, map};
+ghost use Rattle.undo_records.specs.Sound.{CanUndo};
 
 use crate::label::Label;
+use crate::sound::can_undo;
 use crate::undo::Undo;
 use fractions::frac::Frac;
 use lp_model::{Labels, Name, Sense};
@@ -84,6 +86,25 @@ impl Records {
     {
         self.undos.as_slice()
     }
+
+    /// Whether each record can be undone: ids within the columns, and numbers to divide by that aren't 0.
+    pub fn can_lift(&self) -> bool
+        ensures { IsTrue result ↔ All (CanUndo (length self.now.columns)) self.now.undos }
+    {
+        can_undo_all(self.undos(), self.columns().len())
+    }
+}
+
+/// Whether each of these records can be undone in a program of so many columns.
+fn can_undo_all(undos: &[Undo], columns: usize) -> bool
+    ensures { IsTrue result ↔ All (CanUndo columns) undos.now }
+{
+    for undo in undos {
+        if !can_undo(undo, columns) {
+            return false;
+        }
+    }
+    true
 }
 
 impl Labels for Records {

@@ -1,5 +1,6 @@
 //! The record of one reduction.
 
+use crate::side::{RowFate, Side};
 use fractions::ext::Ext;
 use fractions::frac::Frac;
 use lp_model::Terms;
@@ -36,5 +37,161 @@ pub enum Undo {
         cost: Frac,
         /// Its entries, by row id.
         entries: Terms,
+    },
+    /// K4: the bounds of a whole column were rounded inwards.
+    RoundBounds {
+        /// The column.
+        column: u32,
+    },
+    /// K5: a row that each point within the bounds meets was deleted.
+    RedundantRow {
+        /// The row.
+        row: u32,
+    },
+    /// K6: a side that each point within the bounds meets became infinite.
+    RedundantSide {
+        /// The row.
+        row: u32,
+    },
+    /// K7: a row that its columns meet only at one end of their bounds was deleted, and they were fixed there.
+    ForcingRow {
+        /// The row.
+        row: u32,
+        /// The side that is the row's greatest or least value.
+        side: Side,
+        /// Its entries, by column id.
+        entries: Terms,
+    },
+    /// K8: a bound was replaced by a better one that follows from a row and its other columns' bounds.
+    TightenBound {
+        /// The row.
+        row: u32,
+        /// The column.
+        column: u32,
+        /// The bound that was replaced.
+        side: Side,
+        /// That bound before.
+        bound: Ext,
+        /// The row's entries by column id, the column's own among them.
+        entries: Terms,
+    },
+    /// K9: an entry of a whole column and the one finite side of its row were brought nearer to 0 alike.
+    TightenCoefficient {
+        /// The row.
+        row: u32,
+        /// The column.
+        column: u32,
+    },
+    /// K10: a column that does no good in any row was fixed at the bound where it costs least.
+    DualFix {
+        /// The column.
+        column: u32,
+    },
+    /// K11: a column that another one does better than was fixed at its lower bound.
+    Dominated {
+        /// A row that has both columns.
+        row: u32,
+        /// The better column.
+        better: u32,
+        /// The column that was fixed.
+        column: u32,
+    },
+    /// K12: an equation of two columns was solved for one of them; the row and that column were deleted.
+    Doubleton {
+        /// The row.
+        row: u32,
+        /// The column that was deleted.
+        column: u32,
+        /// The column that was kept.
+        kept: u32,
+        /// The row's entry at the deleted column.
+        value: Frac,
+        /// The row's entry at the kept column.
+        kept_value: Frac,
+        /// What the row is equal to: both its sides.
+        equal: Frac,
+        /// The kept column's lower bound before.
+        lower: Ext,
+        /// The kept column's upper bound before.
+        upper: Ext,
+        /// The deleted column's cost, minimizing.
+        cost: Frac,
+        /// The deleted column's other entries, by row id.
+        entries: Terms,
+    },
+    /// K13: a column with one entry, whose bounds follow from its row, was deleted with the row.
+    FreeSingleton {
+        /// The column.
+        column: u32,
+        /// The row.
+        row: u32,
+        /// The one entry.
+        value: Frac,
+        /// The side at which the row stands.
+        at: Frac,
+        /// The column's cost over its entry, minimizing.
+        price: Frac,
+        /// The row's other entries, by column id.
+        entries: Terms,
+    },
+    /// K14: a column with one entry was deleted, and its row's sides took up its bounds.
+    SlackSingleton {
+        /// The column.
+        column: u32,
+        /// The row.
+        row: u32,
+        /// The one entry.
+        value: Frac,
+        /// The column's cost over its entry, minimizing.
+        price: Frac,
+        /// The row's lower side before.
+        lower_side: Ext,
+        /// The row's upper side before.
+        upper_side: Ext,
+        /// The column's lower bound.
+        lower: Ext,
+        /// The column's upper bound.
+        upper: Ext,
+        /// Whether the row was kept.
+        fate: RowFate,
+        /// The row's other entries, by column id.
+        entries: Terms,
+    },
+    /// K15: a row that is a multiple of another was deleted, and the other one's sides were met with its sides over the factor.
+    ParallelRows {
+        /// The row that was deleted.
+        row: u32,
+        /// The row that was kept.
+        kept: u32,
+        /// The deleted row is the kept one times this.
+        factor: Frac,
+        /// The kept row's lower side before.
+        lower: Ext,
+        /// The kept row's upper side before.
+        upper: Ext,
+        /// The kept row's entries, by column id.
+        entries: Terms,
+    },
+    /// K16: a column that is a multiple of another was merged into it and deleted.
+    ParallelColumns {
+        /// The column that was deleted.
+        column: u32,
+        /// The column that was kept.
+        kept: u32,
+        /// The deleted column is the kept one times this.
+        factor: Frac,
+        /// The deleted column's lower bound.
+        lower: Ext,
+        /// The deleted column's upper bound.
+        upper: Ext,
+        /// The kept column's lower bound before.
+        kept_lower: Ext,
+        /// The kept column's upper bound before.
+        kept_upper: Ext,
+    },
+    /// K17: a column without entries was fixed where it costs least.
+    EmptyColumn {
+        /// The column.
+        column: u32,
     },
 }

@@ -1,0 +1,7 @@
+use Rattle.std.proofs.Common.{drop}
+use Rattle.lp_model.specs.Vectors.{vector_of}
+use Rattle.postsolve_primal.proofs.Summing.{Summed}
+use Rattle.postsolve_primal.proofs.sums.sum_of_terms.Given as goal
+
+abbrev pub invariant-loop-term : goal.invariant-loop-term
+invariant-loop-term l = Summed l.terms (vector_of l.point) l.sum (drop l.term-index l.terms)

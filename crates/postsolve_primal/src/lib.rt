@@ -1,0 +1,16 @@
+//! Brings a point of the reduced program back to the original one: the records are undone last first.
+//!
+//! What undoing makes of a point, and when its numbers have room, is defined in the specs of `undo_records`.
+#![tactic(auto)]
+
+mod buffer;
+mod ends;
+mod lifting;
+mod sums;
+mod undo;
+
+pub use buffer::PointBuf;
+pub use lifting::{Stop, lift};
+
+#[cfg(test)]
+mod tests;

@@ -1,0 +1,518 @@
+//! Records undone by hand.
+
+use crate::{PointBuf, Stop, lift};
+use fractions::ext::Ext;
+use fractions::frac::Frac;
+use fractions::whole::Whole;
+use lp_model::{Name, Point, Sense, Term, Terms};
+use std::alloc::{AllocError, Global};
+use std::process::Abort;
+use std::test::Fail;
+use undo_records::{Label, Records, RowFate, Side, Undo};
+
+/// A numerator over a denominator.
+type Number = (i128, u128);
+
+/// A number at the id of a column.
+type Entry = (u32, Number);
+
+/// A lower and an upper end.
+type Ends = (Option<Number>, Option<Number>);
+
+/// A record that changes the point, of a program of three columns. It deletes the first one; the kept one is the second.
+enum Change {
+    Fixed {
+        value: Number,
+    },
+    Solved {
+        value: Number,
+        kept_value: Number,
+        equal: Number,
+    },
+    Free {
+        value: Number,
+        at: Number,
+        entries: &'static [Entry],
+    },
+    Slack {
+        value: Number,
+        sides: Ends,
+        bounds: Ends,
+        fate: RowFate,
+        entries: &'static [Entry],
+    },
+    Merged {
+        factor: Number,
+        bounds: Ends,
+        kept_bounds: Ends,
+    },
+}
+
+/// What undoing the changes, the last one first, makes of a point.
+struct Case {
+    changes: &'static [Change],
+    before: [Number; 3],
+    after: Result<[Number; 3], usize>,
+}
+
+const ZERO: Number = (0, 1);
+
+const ONE: Number = (1, 1);
+
+/// 2^127 - 1, the greatest whole number that has room.
+const MOST: Number = (i128::MAX, 1);
+
+const CASES: [Case; 18] = [
+    Case {
+        changes: &[Change::Fixed { value: (-7, 2) }],
+        before: [ZERO, (3, 1), (4, 1)],
+        after: Ok([(-7, 2), (3, 1), (4, 1)]),
+    },
+    // 2 x + 4 y = 6 with y = 3/2: a quotient of 0
+    Case {
+        changes: &[Change::Solved {
+            value: (2, 1),
+            kept_value: (4, 1),
+            equal: (6, 1),
+        }],
+        before: [ZERO, (3, 2), ZERO],
+        after: Ok([ZERO, (3, 2), ZERO]),
+    },
+    // -3 x + 2 y = 1 with y = -2: x = 5 / -3
+    Case {
+        changes: &[Change::Solved {
+            value: (-3, 1),
+            kept_value: (2, 1),
+            equal: ONE,
+        }],
+        before: [ZERO, (-2, 1), ONE],
+        after: Ok([(-5, 3), (-2, 1), ONE]),
+    },
+    // 10^10 times 10^30 has no room
+    Case {
+        changes: &[Change::Solved {
+            value: ONE,
+            kept_value: (10_000_000_000, 1),
+            equal: ZERO,
+        }],
+        before: [ZERO, (1_000_000_000_000_000_000_000_000_000_000, 1), ZERO],
+        after: Err(1),
+    },
+    // -2 x + 3 y - z = 10 with y = 1, z = 1: x = (10 - 2) / -2
+    Case {
+        changes: &[Change::Free {
+            value: (-2, 1),
+            at: (10, 1),
+            entries: &[(1, (3, 1)), (2, (-1, 1))],
+        }],
+        before: [ZERO, ONE, ONE],
+        after: Ok([(-4, 1), ONE, ONE]),
+    },
+    // the sum of the terms has no room, though the side less that sum would have
+    Case {
+        changes: &[Change::Free {
+            value: ONE,
+            at: MOST,
+            entries: &[(1, ONE), (2, ONE)],
+        }],
+        before: [ZERO, MOST, MOST],
+        after: Err(1),
+    },
+    // 4 <= 2 x + y <= 6 with y = 1: from 3/2 to 5/2, and x <= 2
+    Case {
+        changes: &[Change::Slack {
+            value: (2, 1),
+            sides: (Some((4, 1)), Some((6, 1))),
+            bounds: (Some(ZERO), Some((2, 1))),
+            fate: RowFate::Kept,
+            entries: &[(1, ONE)],
+        }],
+        before: [ZERO, ONE, ZERO],
+        after: Ok([(3, 2), ONE, ZERO]),
+    },
+    // the same with -2 x: from -5/2 to -3/2, and x >= -2
+    Case {
+        changes: &[Change::Slack {
+            value: (-2, 1),
+            sides: (Some((4, 1)), Some((6, 1))),
+            bounds: (Some((-2, 1)), None),
+            fate: RowFate::Kept,
+            entries: &[(1, ONE)],
+        }],
+        before: [ZERO, ONE, ZERO],
+        after: Ok([(-3, 2), ONE, ZERO]),
+    },
+    // 4 <= x + y with y = 1, and x has no bounds
+    Case {
+        changes: &[Change::Slack {
+            value: ONE,
+            sides: (Some((4, 1)), None),
+            bounds: (None, None),
+            fate: RowFate::Dropped,
+            entries: &[(1, ONE)],
+        }],
+        before: [ZERO, ONE, ZERO],
+        after: Ok([(3, 1), ONE, ZERO]),
+    },
+    // -x + y >= 4 with y = 1: x <= -3
+    Case {
+        changes: &[Change::Slack {
+            value: (-1, 1),
+            sides: (Some((4, 1)), None),
+            bounds: (None, None),
+            fate: RowFate::Dropped,
+            entries: &[(1, ONE)],
+        }],
+        before: [ZERO, ONE, ZERO],
+        after: Ok([(-3, 1), ONE, ZERO]),
+    },
+    // 0 is within all ends
+    Case {
+        changes: &[Change::Slack {
+            value: ONE,
+            sides: (None, Some((4, 1))),
+            bounds: (Some((-1, 1)), None),
+            fate: RowFate::Dropped,
+            entries: &[],
+        }],
+        before: [(9, 1), ONE, ZERO],
+        after: Ok([ZERO, ONE, ZERO]),
+    },
+    // y - x = -5 with x >= 0 and 0 <= y <= 3
+    Case {
+        changes: &[Change::Merged {
+            factor: (-1, 1),
+            bounds: (Some(ZERO), None),
+            kept_bounds: (Some(ZERO), Some((3, 1))),
+        }],
+        before: [ZERO, (-5, 1), ONE],
+        after: Ok([(5, 1), ZERO, ONE]),
+    },
+    // y + 2 x = 9 with x <= 4 and y <= 3: x is at least 3
+    Case {
+        changes: &[Change::Merged {
+            factor: (2, 1),
+            bounds: (None, Some((4, 1))),
+            kept_bounds: (None, Some((3, 1))),
+        }],
+        before: [ZERO, (9, 1), ZERO],
+        after: Ok([(3, 1), (3, 1), ZERO]),
+    },
+    // y - 2 x = -6 with -1 <= x <= 1 and no bounds of y: x = 0
+    Case {
+        changes: &[Change::Merged {
+            factor: (-2, 1),
+            bounds: (Some((-1, 1)), Some(ONE)),
+            kept_bounds: (None, None),
+        }],
+        before: [ZERO, (-6, 1), ZERO],
+        after: Ok([ZERO, (-6, 1), ZERO]),
+    },
+    // the last record first: y = 5, then x = 5 - 1
+    Case {
+        changes: &[
+            Change::Solved {
+                value: ONE,
+                kept_value: ONE,
+                equal: (5, 1),
+            },
+            Change::Fixed { value: (8, 1) },
+        ],
+        before: [ZERO, ONE, ZERO],
+        after: Ok([(4, 1), ONE, ZERO]),
+    },
+    // the first of three records alone has no room
+    Case {
+        changes: &[
+            Change::Solved {
+                value: ONE,
+                kept_value: (2, 1),
+                equal: ZERO,
+            },
+            Change::Fixed { value: ONE },
+            Change::Fixed { value: ONE },
+        ],
+        before: [ZERO, MOST, ZERO],
+        after: Err(1),
+    },
+    // both have none, and the second is undone first
+    Case {
+        changes: &[
+            Change::Solved {
+                value: ONE,
+                kept_value: (2, 1),
+                equal: ZERO,
+            },
+            Change::Solved {
+                value: ONE,
+                kept_value: (2, 1),
+                equal: ZERO,
+            },
+        ],
+        before: [ZERO, MOST, ZERO],
+        after: Err(2),
+    },
+    Case {
+        changes: &[],
+        before: [ONE, ZERO, ZERO],
+        after: Ok([ONE, ZERO, ZERO]),
+    },
+];
+
+/// The number, and 0 where it has no meaning.
+fn number((n, d): Number) -> Frac {
+    if n == i128::MIN || d == 0 || d > i128::MAX as u128 {
+        return Frac::zero();
+    }
+    Frac::ratio_of(Whole::new(n), d)
+}
+
+fn end_at(end: Option<Number>) -> Ext {
+    match end {
+        None => Ext::none(),
+        Some(end) => Ext::at(number(end)),
+    }
+}
+
+fn terms(alloc: Global, entries: &[Entry]) -> Result<Terms, AllocError> {
+    let mut terms = Vec::new(alloc);
+    for (id, value) in entries {
+        terms.push(Term {
+            id: *id,
+            value: number(*value),
+        })?;
+    }
+    Ok(Terms::new(terms))
+}
+
+/// The parts of a record that undoing does not read are 1, or nothing.
+fn fixed(alloc: Global, value: Number) -> Undo {
+    Undo::FixedColumn {
+        column: 0,
+        value: number(value),
+        cost: Frac::one(),
+        entries: Terms::empty(alloc),
+    }
+}
+
+fn solved(alloc: Global, value: Number, kept_value: Number, equal: Number) -> Undo {
+    Undo::Doubleton {
+        row: 0,
+        column: 0,
+        kept: 1,
+        value: number(value),
+        kept_value: number(kept_value),
+        equal: number(equal),
+        lower: Ext::none(),
+        upper: Ext::none(),
+        cost: Frac::one(),
+        entries: Terms::empty(alloc),
+    }
+}
+
+fn free(alloc: Global, value: Number, at: Number, entries: &[Entry]) -> Result<Undo, AllocError> {
+    Ok(Undo::FreeSingleton {
+        column: 0,
+        row: 0,
+        value: number(value),
+        at: number(at),
+        price: Frac::one(),
+        entries: terms(alloc, entries)?,
+    })
+}
+
+fn slack(
+    alloc: Global,
+    value: Number,
+    sides: Ends,
+    bounds: Ends,
+    fate: RowFate,
+    entries: &[Entry],
+) -> Result<Undo, AllocError> {
+    Ok(Undo::SlackSingleton {
+        column: 0,
+        row: 0,
+        value: number(value),
+        price: Frac::one(),
+        lower_side: end_at(sides.0),
+        upper_side: end_at(sides.1),
+        lower: end_at(bounds.0),
+        upper: end_at(bounds.1),
+        fate,
+        entries: terms(alloc, entries)?,
+    })
+}
+
+fn merged(factor: Number, bounds: Ends, kept_bounds: Ends) -> Undo {
+    Undo::ParallelColumns {
+        column: 0,
+        kept: 1,
+        factor: number(factor),
+        lower: end_at(bounds.0),
+        upper: end_at(bounds.1),
+        kept_lower: end_at(kept_bounds.0),
+        kept_upper: end_at(kept_bounds.1),
+    }
+}
+
+fn recorded(alloc: Global, change: &Change) -> Result<Undo, AllocError> {
+    match change {
+        Change::Fixed { value } => Ok(fixed(alloc, *value)),
+        Change::Solved {
+            value,
+            kept_value,
+            equal,
+        } => Ok(solved(alloc, *value, *kept_value, *equal)),
+        Change::Free { value, at, entries } => free(alloc, *value, *at, entries),
+        Change::Slack {
+            value,
+            sides,
+            bounds,
+            fate,
+            entries,
+        } => slack(alloc, *value, *sides, *bounds, *fate, entries),
+        Change::Merged {
+            factor,
+            bounds,
+            kept_bounds,
+        } => Ok(merged(*factor, *bounds, *kept_bounds)),
+    }
+}
+
+/// Records of three columns, of which these are live.
+fn records(alloc: Global, live: [bool; 3], undos: Vec<Undo>) -> Result<Records, AllocError> {
+    const NAMES: [&[u8]; 3] = [b"x", b"y", b"z"];
+    let mut columns = Vec::new(alloc);
+    for (name, live) in NAMES.iter().zip(live) {
+        columns.push(Label {
+            name: Name::from_slice(alloc, name)?,
+            live,
+        })?;
+    }
+    let rows = Vec::new(alloc);
+    Ok(Records::new(Sense::Min, columns, rows, Frac::zero(), undos))
+}
+
+fn point(alloc: Global, numbers: &[Number]) -> Result<Point, AllocError> {
+    let mut values = Vec::new(alloc);
+    for each in numbers {
+        values.push(number(*each))?;
+    }
+    Ok(Point::new(values))
+}
+
+/// Whether the point has these numbers.
+fn is_at(buffer: &PointBuf, numbers: &[Number; 3]) -> bool {
+    let mut same = buffer.as_slice().len() == 3;
+    for (value, wanted) in buffer.as_slice().iter().zip(numbers) {
+        same = same && value.is_same(&number(*wanted));
+    }
+    same
+}
+
+/// Lifts a point of three live columns, and compares.
+fn check(
+    rt: &impl Abort,
+    alloc: Global,
+    undos: Vec<Undo>,
+    before: &[Number; 3],
+    after: &Result<[Number; 3], usize>,
+) -> Result<(), AllocError> {
+    let records = records(alloc, [true; 3], undos)?;
+    let mut buffer = PointBuf::new(alloc, &records, &point(alloc, before)?)?;
+    assert!(rt; is_at(&buffer, before));
+    assert!(rt; records.can_lift());
+    match (lift(&records, &mut buffer), after) {
+        (Ok(()), Ok(wanted)) => assert!(rt; is_at(&buffer, wanted)),
+        (made, Err(at)) => assert!(rt; made == Err(Stop { at: *at })),
+        (Err(_), Ok(_)) => assert!(rt; false),
+    }
+    Ok(())
+}
+
+#[test]
+fn changes_are_undone(rt: HostRuntime) -> Result<(), Fail> {
+    let alloc = rt.alloc();
+    for case in &CASES {
+        let mut undos = Vec::new(alloc);
+        for change in case.changes {
+            undos.push(recorded(alloc, change)?)?;
+        }
+        check(&rt, alloc, undos, &case.before, &case.after)?;
+    }
+    Ok(())
+}
+
+/// Records of rows alone, of which none changes the point.
+fn of_rows(alloc: Global) -> [Undo; 6] {
+    [
+        Undo::EmptyRow { row: 0 },
+        Undo::SingletonRow {
+            row: 0,
+            column: 0,
+            value: Frac::one(),
+            lower: Ext::none(),
+            upper: Ext::none(),
+        },
+        Undo::RedundantRow { row: 0 },
+        Undo::RedundantSide { row: 0 },
+        Undo::ForcingRow {
+            row: 0,
+            side: Side::Upper,
+            entries: Terms::empty(alloc),
+        },
+        Undo::ParallelRows {
+            row: 0,
+            kept: 1,
+            factor: Frac::one(),
+            lower: Ext::none(),
+            upper: Ext::none(),
+            entries: Terms::empty(alloc),
+        },
+    ]
+}
+
+/// Records of bounds and entries, of which none changes the point.
+fn of_bounds(alloc: Global) -> [Undo; 6] {
+    [
+        Undo::RoundBounds { column: 0 },
+        Undo::TightenBound {
+            row: 0,
+            column: 0,
+            side: Side::Lower,
+            bound: Ext::none(),
+            entries: Terms::empty(alloc),
+        },
+        Undo::TightenCoefficient { row: 0, column: 0 },
+        Undo::DualFix { column: 0 },
+        Undo::Dominated {
+            row: 0,
+            better: 0,
+            column: 1,
+        },
+        Undo::EmptyColumn { column: 0 },
+    ]
+}
+
+#[test]
+fn other_records_leave_the_point(rt: HostRuntime) -> Result<(), Fail> {
+    let alloc = rt.alloc();
+    let before = [(1, 2), (-3, 1), (4, 1)];
+    for undos in [of_rows(alloc), of_bounds(alloc)] {
+        let undos = Vec::from_array(alloc, undos)?;
+        check(&rt, alloc, undos, &before, &Ok(before))?;
+    }
+    Ok(())
+}
+
+#[test]
+fn a_reduced_point_has_its_place(rt: HostRuntime) -> Result<(), Fail> {
+    let alloc = rt.alloc();
+    let records = records(alloc, [true, false, true], Vec::new(alloc))?;
+    let reduced = point(alloc, &[(7, 1), (8, 3)])?;
+    let buffer = PointBuf::new(alloc, &records, &reduced)?;
+    assert!(rt; is_at(&buffer, &[(7, 1), ZERO, (8, 3)]));
+    let lifted = buffer.into_point();
+    assert_eq!(rt; lifted.as_slice().len(), 3);
+    Ok(())
+}

@@ -1,0 +1,3 @@
+pub mod NearLaws
+pub mod SoundRecords
+pub mod UndoneRows

@@ -1,0 +1,33 @@
+//! What holds of all records. The functions do nothing when they run: each states laws, and its check proves them.
+
+ghost use Rattle.std.specs.Prelude.{◌≡◌, ◌≢◌, ℕ, List, Option, Some};
+ghost use Rattle.rational.specs.Number.{Number, zero_ℚ, ◌+ℚ◌, ◌*ℚ◌};
+ghost use Rattle.rational.specs.Order.{◌≤ℚ◌};
+ghost use Rattle.rational.specs.Ends.{Between};
+ghost use Rattle.rational.specs.MinMax.{abs_ℚ};
+ghost use Rattle.lp_model.specs.declared.terms.Term.{Term};
+ghost use Rattle.lp_model.specs.Sparse.{sparse_total};
+ghost use Rattle.lp_model.specs.Vectors.{Vector};
+ghost use Rattle.undo_records.specs.Lift.{near, undone};
+ghost use Rattle.undo_records.specs.Sound.{CanUndo, IsSound};
+ghost use Rattle.undo_records.specs.declared.undo.Undo.{Undo};
+ghost use Rattle.undo_records.specs.declared.undo.Undo.TheVariants.{Doubleton, FreeSingleton, ParallelColumns};
+
+/// A sound record can be undone.
+pub fn sound_records_can_be_undone()
+    ensures { (m n : ℕ) (u : Undo) → IsSound m n u → CanUndo n u }
+{}
+
+/// What undoing brings back: the equation of two columns holds again, the row of a free column stands at its side, and the merged
+/// number is the kept column's plus the factor times the other one's.
+pub fn undoing_brings_rows_back()
+    ensures doubleton { (i j k : ℕ) (a b r c : Number) (l h : Option Number) (ts : List Term) (x : Vector) → a ≢ zero_ℚ → k ≢ j → a *ℚ undone (Doubleton i j k a b r l h c ts) x j +ℚ b *ℚ undone (Doubleton i j k a b r l h c ts) x k ≡ r }
+    ensures free { (i j : ℕ) (a s t : Number) (ts : List Term) (x : Vector) → a ≢ zero_ℚ → a *ℚ undone (FreeSingleton j i a s t ts) x j +ℚ sparse_total ts x ≡ s }
+    ensures merged { (j k : ℕ) (s : Number) (l h p q : Option Number) (x : Vector) → j ≢ k → undone (ParallelColumns j k s l h p q) x k +ℚ s *ℚ undone (ParallelColumns j k s l h p q) x j ≡ x k }
+{}
+
+/// The number between two ends that is nearest to 0 is between them, where they are in order, and no number between them is nearer.
+pub fn near_numbers_are_nearest()
+    ensures between { (lo hi : Option Number) → ((a b : Number) → lo ≡ Some a → hi ≡ Some b → a ≤ℚ b) → Between lo hi (near lo hi) }
+    ensures nearest { (lo hi : Option Number) (x : Number) → Between lo hi x → abs_ℚ (near lo hi) ≤ℚ abs_ℚ x }
+{}
