@@ -27,9 +27,21 @@ presolve_app = with_rule (with_rule presolve_words (flag_rule (codes "fractions"
 unfoldable pub check_app : App
 check_app = with_rule (with_rule (with_rule (new_app (codes "check")) (word_rule (codes "in"))) (word_rule (codes "sol"))) (flag_rule (codes "fixed"))
 
+-- postsolve OUT REC SOL
+unfoldable pub postsolve_words : App
+postsolve_words = with_rule (with_rule (with_rule (new_app (codes "postsolve")) (word_rule (codes "out"))) (word_rule (codes "rec"))) (word_rule (codes "sol"))
+
+-- postsolve OUT REC SOL RESULT
+unfoldable pub postsolve_app : App
+postsolve_app = with_rule postsolve_words (word_rule (codes "result"))
+
+-- presolve and check
+unfoldable pub first_app : App
+first_app = with_subcommand (with_subcommand (new_app (codes "papilo")) presolve_app.top) check_app.top
+
 -- the whole: one subcommand for each command
 unfoldable pub line_app : App
-line_app = with_subcommand (with_subcommand (new_app (codes "papilo")) presolve_app.top) check_app.top
+line_app = with_subcommand first_app postsolve_app.top
 
 abbrev pub texts : List (String Global) → List Text
 texts words = map (λ word. string_bytes word) words
@@ -67,15 +79,24 @@ pub record CheckNames : Type 0 where
   pub solution : Text
   pub fixed : Bool
 
+-- the names that postsolve works on
+pub record PostsolveNames : Type 0 where
+  pub program : Text
+  pub records : Text
+  pub solution : Text
+  pub result : Text
+
 -- a command with its names
 pub data Request : Type 0 where
   Presolve : PresolveNames → Request
   Check : CheckNames → Request
+  Postsolve : PostsolveNames → Request
 
 -- the texts that a command writes go to names that differ
 abbrev pub HasTwoOutputs : Request → Type 0
 HasTwoOutputs (Presolve names) = names.output ≢ names.records
 HasTwoOutputs (Check names) = Unit {0}
+HasTwoOutputs (Postsolve names) = Unit {0}
 
 -- three names, of which OUT and REC differ
 abbrev pub presolve_names : Option Text → Option Text → Option Text → PresolveOptions → Option PresolveNames
@@ -94,11 +115,21 @@ check_names input solution fixed = None
 abbrev pub check_of : List Row → Option CheckNames
 check_of rows = check_names (first_of (codes "in") rows) (first_of (codes "sol") rows) (is_on (first_of (codes "fixed") rows))
 
+-- four names
+abbrev pub postsolve_names : Option Text → Option Text → Option Text → Option Text → Option PostsolveNames
+postsolve_names (Some program) (Some records) (Some solution) (Some result) =
+    Some (record { program = program; records = records; solution = solution; result = result })
+postsolve_names program records solution result = None
+
+abbrev pub postsolve_of : List Row → Option PostsolveNames
+postsolve_of rows = postsolve_names (first_of (codes "out") rows) (first_of (codes "rec") rows) (first_of (codes "sol") rows) (first_of (codes "result") rows)
+
 -- by the name of the subcommand
 abbrev pub request_of : Text → List Row → Option Request
 request_of name rows =
     if bytes_eq name (codes "presolve") then option_map Presolve (presolve_of rows)
-    else (if bytes_eq name (codes "check") then option_map Check (check_of rows) else None)
+    else (if bytes_eq name (codes "check") then option_map Check (check_of rows)
+    else (if bytes_eq name (codes "postsolve") then option_map Postsolve (postsolve_of rows) else None))
 
 abbrev pub selected_in : Option (Text × List Row) → Option Request
 selected_in None = None

@@ -1,7 +1,8 @@
 -- A request as its names.
-use Rattle.command_line.specs.Line.{PresolveNames, CheckNames, Request, Presolve, Check}
+use Rattle.command_line.specs.Line.{PresolveNames, CheckNames, PostsolveNames, Request, Presolve, Check, Postsolve}
 use Rattle.command_line.specs.declared.reading.PresolveWords.{PresolveWords}
 use Rattle.command_line.specs.declared.reading.CheckWords.{CheckWords}
+use Rattle.command_line.specs.declared.reading.PostsolveWords.{PostsolveWords}
 use Rattle.command_line.specs.declared.reading.Request.TheVariants as words
 use Rattle.command_line.specs.declared.reading.Request as declared
 
@@ -11,6 +12,10 @@ names_of words = record { input = words.input.now; output = words.output.now; re
 abbrev pub check_names_of : CheckWords → CheckNames
 check_names_of words = record { input = words.input.now; solution = words.solution.now; fixed = words.fixed }
 
+abbrev pub postsolve_names_of : PostsolveWords → PostsolveNames
+postsolve_names_of words = record { program = words.program.now; records = words.records.now; solution = words.solution.now; result = words.result.now }
+
 abbrev pub seen : declared.Request → Request
 seen (words.Presolve p) = Presolve (names_of p)
 seen (words.Check c) = Check (check_names_of c)
+seen (words.Postsolve p) = Postsolve (postsolve_names_of p)

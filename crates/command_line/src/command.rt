@@ -2,7 +2,7 @@
 ghost use Rattle.std.specs.Prelude.{◌≡◌, ◌≢◌, [], Err, false, IfOk, OnOk, OnErr};
 ghost use Rattle.clap.specs.Words.{app_of, kind_of, rule_of, subcommand_rows_of};
 ghost use Rattle.clap.specs.declared.builder.command.Command.TheViews.{out-Command};
-ghost use Rattle.command_line.specs.Line.{check_app, faults, flag_rule, found_in, is_taken, line_app, presolve_app, presolve_words, texts, word_rule};
+ghost use Rattle.command_line.specs.Line.{check_app, faults, first_app, flag_rule, found_in, is_taken, line_app, postsolve_app, postsolve_words, presolve_app, presolve_words, texts, word_rule};
 
 use crate::Refusal;
 use clap::error::ErrorKind;
@@ -57,15 +57,43 @@ fn check<'a>(alloc: Global) -> Result<Command<'a>, AllocError>
         .arg(flag(alloc, "fixed"))
 }
 
-#[tactic(auto, unfolding(crate::specs::Line::line_app))]
-fn line<'a>(alloc: Global) -> Result<Command<'a>, AllocError>
-    ensures app { IfOk result (λ command. app_of command ≡ line_app) }
+#[tactic(auto, unfolding(crate::specs::Line::postsolve_words))]
+fn postsolve_words<'a>(alloc: Global) -> Result<Command<'a>, AllocError>
+    ensures app { IfOk result (λ command. app_of command ≡ postsolve_words) }
+    ensures local { IfOk result (λ command. (out-Command command).has_globals ≡ false) }
+{
+    Command::new(alloc, "postsolve")
+        .arg(word(alloc, "out"))?
+        .arg(word(alloc, "rec"))?
+        .arg(word(alloc, "sol"))
+}
+
+#[tactic(auto, unfolding(crate::specs::Line::postsolve_app))]
+fn postsolve<'a>(alloc: Global) -> Result<Command<'a>, AllocError>
+    ensures app { IfOk result (λ command. app_of command ≡ postsolve_app) }
+    ensures local { IfOk result (λ command. (out-Command command).has_globals ≡ false) }
+{
+    postsolve_words(alloc)?.arg(word(alloc, "result"))
+}
+
+#[tactic(auto, unfolding(crate::specs::Line::first_app))]
+fn first<'a>(alloc: Global) -> Result<Command<'a>, AllocError>
+    ensures app { IfOk result (λ command. app_of command ≡ first_app) }
+    ensures local { IfOk result (λ command. (out-Command command).has_globals ≡ false) }
 {
     let presolve = presolve(alloc)?;
     let check = check(alloc)?;
     Command::new(alloc, "papilo")
         .subcommand(presolve)?
         .subcommand(check)
+}
+
+#[tactic(auto, unfolding(crate::specs::Line::line_app))]
+fn line<'a>(alloc: Global) -> Result<Command<'a>, AllocError>
+    ensures app { IfOk result (λ command. app_of command ≡ line_app) }
+{
+    let postsolve = postsolve(alloc)?;
+    first(alloc)?.subcommand(postsolve)
 }
 
 // What clap makes of the words.

@@ -7,4 +7,6 @@
 mod command;
 mod reading;
 
-pub use reading::{CheckWords, PresolveOptions, PresolveWords, Refusal, Request, read};
+pub use reading::{
+    CheckWords, PostsolveWords, PresolveOptions, PresolveWords, Refusal, Request, read,
+};

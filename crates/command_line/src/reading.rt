@@ -1,8 +1,8 @@
 // What the words ask for.
 ghost use Rattle.std.specs.Prelude.{◌≡◌, ◌≢◌, ◌⊎◌, IfSome, None, [], Some, Err, false, option_map, IfOk, OnOk};
 ghost use Rattle.clap.specs.Words.{first_of, found_of, rows_of, subcommand_rows_of};
-ghost use Rattle.command_line.specs.Line.{HasTwoOutputs, asked, check_of, faults, is_on, is_taken, options_of, presolve_of, request_of, selected, selected_in, texts};
-ghost use Rattle.command_line.specs.Seen.{check_names_of, names_of, seen};
+ghost use Rattle.command_line.specs.Line.{HasTwoOutputs, asked, check_of, faults, is_on, is_taken, options_of, postsolve_of, presolve_of, request_of, selected, selected_in, texts};
+ghost use Rattle.command_line.specs.Seen.{check_names_of, names_of, postsolve_names_of, seen};
 
 use crate::command::matches;
 use clap::ArgMatches;
@@ -35,11 +35,21 @@ pub struct CheckWords<'a> {
     pub fixed: bool,
 }
 
+/// The names that `postsolve OUT REC SOL RESULT` works on.
+#[derive(Clone, Copy, Debug)]
+pub struct PostsolveWords<'a> {
+    pub program: &'a str,
+    pub records: &'a str,
+    pub solution: &'a str,
+    pub result: &'a str,
+}
+
 /// A command with its words.
 #[derive(Clone, Copy, Debug)]
 pub enum Request<'a> {
     Presolve(PresolveWords<'a>),
     Check(CheckWords<'a>),
+    Postsolve(PostsolveWords<'a>),
 }
 
 /// Why there is no request.
@@ -112,6 +122,22 @@ fn check<'a>(found: &ArgMatches<'a>) -> Option<CheckWords<'a>>
     })
 }
 
+// The names for `postsolve`.
+fn postsolve<'a>(found: &ArgMatches<'a>) -> Option<PostsolveWords<'a>>
+    ensures { option_map postsolve_names_of result ≡ postsolve_of (rows_of (found_of found.now)) }
+{
+    let program = value(found, "out")?;
+    let records = value(found, "rec")?;
+    let solution = value(found, "sol")?;
+    let result = value(found, "result")?;
+    Some(PostsolveWords {
+        program,
+        records,
+        solution,
+        result,
+    })
+}
+
 // The command's name and what it was given.
 fn command<'m, 'a>(found: &'m ArgMatches<'a>) -> Option<(&'a str, &'m ArgMatches<'a>)>
     ensures { option_map (λ p. (p.0.now, rows_of (found_of p.1.now))) result ≡ subcommand_rows_of found.now }
@@ -127,6 +153,7 @@ fn named_request<'a>(name: &str, given: &ArgMatches<'a>) -> Option<Request<'a>>
     match name {
         "presolve" => Some(Request::Presolve(presolve(given)?)),
         "check" => Some(Request::Check(check(given)?)),
+        "postsolve" => Some(Request::Postsolve(postsolve(given)?)),
         _ => None,
     }
 }

@@ -10,3 +10,4 @@ pub mod Names
 pub mod Meaning
 pub mod Violations
 pub mod Room
+pub mod Writable

@@ -7,6 +7,7 @@ ghost use Rattle.mps_profile.specs.Items.{Item, item_of, is_awaited, progress_of
 ghost use Rattle.mps_profile.specs.Rows.{row_names, row_kinds, is_free};
 ghost use Rattle.mps_profile.specs.Columns.{column_names};
 ghost use Rattle.mps_profile.specs.Reading.{first_fault, lines_read, is_ended, line_fault};
+ghost use Rattle.mps_profile.specs.Program.{program_of};
 ghost use Rattle.mps_profile.specs.declared.dialect.Dialect.{Dialect};
 ghost use Rattle.mps_profile.specs.declared.dialect.Format.{Format};
 ghost use Rattle.mps_profile.specs.declared.progress.Progress.{Progress};
@@ -34,11 +35,13 @@ pub fn sound_texts_have_sound_cards()
     ensures { (dialect : Dialect) (text : List ℕ) → first_fault dialect text ≡ None → IsFaultless dialect (cards_of dialect.format (lines_read dialect text)) }
 {}
 
-/// A text has no more rows and no more columns than lines.
+/// A text has no more rows and no more columns than lines, and neither has its program.
 pub fn rows_and_columns_have_lines()
     ensures cards { (format : Format) (lines : List Text) → length (cards_of format lines) ≤ length lines }
     ensures rows { (format : Format) (lines : List Text) → length (row_names (cards_of format lines)) ≤ length lines }
     ensures columns { (format : Format) (lines : List Text) → length (column_names (cards_of format lines)) ≤ length lines }
+    ensures program_rows { (dialect : Dialect) (text : List ℕ) → length (program_of dialect text).rows ≤ length (lines_read dialect text) }
+    ensures program_columns { (dialect : Dialect) (text : List ℕ) → length (program_of dialect text).columns ≤ length (lines_read dialect text) }
 {}
 
 /// A text without a fault comes to ENDATA, it has an N row, and OBJSENSE has told its sense.

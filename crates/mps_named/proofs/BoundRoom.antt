@@ -27,7 +27,7 @@ use Rattle.mps_profile.specs.declared.bounds.Valued.{Valued}
 use Rattle.mps_profile.specs.declared.bounds.Valued as valued
 use Rattle.mps_profile.specs.declared.bounds.Bare.{Bare}
 use Rattle.mps_profile.specs.declared.bounds.Bare as bare
-use Rattle.mps_named.specs.Writable.{WritableNumber, IsNear, WritableBound}
+use Rattle.lp_model.specs.Writable.{WritableNumber, IsNear, WritableBound}
 use Rattle.mps_named.proofs.NumberRoom.{none, one, on-number}
 
 -- ---- numbers that are near

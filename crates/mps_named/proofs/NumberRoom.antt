@@ -23,7 +23,7 @@ use Rattle.mps_profile.specs.declared.dialect.Format.TheVariants.{Free, Fixed}
 use Rattle.mps_profile.specs.declared.dialect.Dialect.{Dialect}
 use Rattle.mps_profile.specs.Numerals.{number_in, number_on}
 use Rattle.mps_profile.specs.Rows.{value_in}
-use Rattle.mps_named.specs.Writable.{WritableNumber}
+use Rattle.lp_model.specs.Writable.{WritableNumber}
 use Rattle.mps_named.proofs.SumsBack.{smaller, negative-Fits}
 
 -- ---- what the test of numbers that are taken says

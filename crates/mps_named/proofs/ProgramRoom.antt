@@ -16,7 +16,7 @@ use Rattle.mps_profile.specs.Program.{objective_place, row_id, row_defs_at, row_
 use Rattle.mps_profile.specs.declared.dialect.Dialect.{Dialect}
 use Rattle.mps_profile.specs.declared.progress.Told.{Told}
 use Rattle.mps_laws.specs.Faultless.{IsFaultless}
-use Rattle.mps_named.specs.Writable.{WritableNumber, WritableSides, WritableRow, WritableColumn, Writable}
+use Rattle.lp_model.specs.Writable.{WritableNumber, WritableSides, WritableRow, WritableColumn, Writable}
 use Rattle.mps_named.proofs.NumberRoom.{negative}
 use Rattle.mps_named.proofs.RangeRoom.{pairs-number, chosen, or_zero, right_side-number, range-room, sides-room}
 use Rattle.mps_named.proofs.BoundRoom.{upper_bound-fits, lower_bound-fits}

@@ -23,7 +23,7 @@ use Rattle.mps_profile.specs.declared.row_kinds.Interval.{Interval}
 use Rattle.mps_profile.specs.declared.row_kinds.RowKind.{RowKind}
 use Rattle.mps_profile.specs.declared.row_kinds.RowKind.TheVariants.{Free, AtMost, AtLeast, Equal}
 use Rattle.mps_laws.specs.Faultless.{IsFaultless}
-use Rattle.mps_named.specs.Writable.{WritableNumber, WritablePair, WritableSides}
+use Rattle.lp_model.specs.Writable.{WritableNumber, WritablePair, WritableSides}
 use Rattle.mps_named.proofs.SumsBack.{sum-turned, sum-back, sum-Fits}
 use Rattle.mps_named.proofs.NumberRoom.{from_test, has_room, negative, none, on-number, value-number}
 use Rattle.mps_named.proofs.CardSense.{sound}

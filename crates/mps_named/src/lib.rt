@@ -19,7 +19,7 @@ ghost use Rattle.mps_profile.specs.declared.progress.Told.{Told};
 ghost use Rattle.mps_laws.specs.Faultless.{IsFaultless};
 ghost use Rattle.mps_named.specs.Named.{side_named, number_named, RowIsNamed, ColumnIsNamed};
 ghost use Rattle.mps_named.specs.Once.{entries_naming, sides_naming, ranges_naming, first_number};
-ghost use Rattle.mps_named.specs.Writable.{WritableNumber, Writable};
+ghost use Rattle.lp_model.specs.Writable.{WritableNumber, Writable};
 
 /// Where a sum has room, so has the sum of the two numbers the other way round, the sum itself is
 /// in range, and so is each step back from it to a number in range.

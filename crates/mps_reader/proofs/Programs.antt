@@ -9,9 +9,10 @@ use Rattle.mps_profile.specs.Rows.{row_names}
 use Rattle.mps_profile.specs.Program.{program_in, program_of}
 use Rattle.mps_profile.specs.declared.dialect.Dialect.{Dialect}
 use Rattle.mps_profile.specs.declared.progress.Progress.{Progress}
-use Rattle.mps_laws.proofs.Counts.{rows_per_line}
+use Rattle.mps_laws.proofs.Counts.{rows_per_line, program_rows_per_line, program_columns_per_line}
+use Rattle.mps_laws.proofs.Entries.{columns_ascend}
 use Rattle.mps_laws.proofs.Faultless.{faultless}
-use Rattle.mps_named.specs.Writable.{Writable}
+use Rattle.lp_model.specs.Writable.{Writable, EntriesAscend}
 use Rattle.mps_named.proofs.ProgramRoom.{program-fits}
 use Rattle.mps_tables.specs.Tables.{Holds}
 use Rattle.mps_assembly.specs.Assembled.{AreOf}
@@ -48,3 +49,18 @@ pub writable_as : (dialect : Dialect) (text : List ℕ) (reader : Reader) (progr
 writable_as dialect text reader program read is =
     let P : ProgramData → Type 0 = λ p. Writable dialect.numbers p in
     subst P (sym is) (program-fits dialect reader.progress.sense (cards_in dialect text) (faultless dialect text read.sound))
+
+-- the program has as many rows and columns as the text lines, at most
+pub few_as : (dialect : Dialect) (text : List ℕ) (reader : Reader) (program : ProgramData) → HasRead dialect text reader
+    → program ≡ program_in dialect reader.progress.sense (cards_in dialect text) → length text < 2 ^ 32
+    → (length program.rows < 2 ^ 32) × (length program.columns < 2 ^ 32)
+few_as dialect text reader program read is short =
+    let same = program_as dialect text reader program read is in
+    let rows = program_rows_per_line dialect text in
+    let columns = program_columns_per_line dialect text in
+    let P : ProgramData → Type 0 = λ p. (length p.rows < 2 ^ 32) × (length p.columns < 2 ^ 32) in
+    subst P (sym same) (omega (arith, rows, read.few, short), omega (arith, columns, read.few, short))
+
+pub ascends_as : (dialect : Dialect) (text : List ℕ) (reader : Reader) (program : ProgramData) → HasRead dialect text reader
+    → program ≡ program_in dialect reader.progress.sense (cards_in dialect text) → EntriesAscend program
+ascends_as dialect text reader program read is = subst EntriesAscend (sym is) (columns_ascend dialect reader.progress.sense (cards_in dialect text))

@@ -2,7 +2,7 @@
 
 ghost use Rattle.std.specs.Prelude.{◌≡◌, ◌<◌, ◌^◌, List, length, IfOk};
 ghost use Rattle.mps_profile.specs.Cards.{Card};
-ghost use Rattle.mps_named.specs.Writable.{Writable};
+ghost use Rattle.lp_model.specs.Writable.{Writable, EntriesAscend};
 ghost use Rattle.mps_tables.specs.Tables.{Holds};
 ghost use Rattle.mps_assembly.specs.Assembled.{AreOf};
 ghost use Rattle.mps_reader.specs.Reading.{IsRead, AreLines};
@@ -80,6 +80,8 @@ pub fn read_mps(alloc: Global, bytes: &[u8], dialect: Dialect) -> Result<Program
     requires { length bytes.now < 2 ^ 32 }
     ensures read { IsRead dialect bytes.now result }
     ensures writable { IfOk result (λ program. Writable dialect.numbers program) }
+    ensures few { IfOk result (λ program. (length program.rows < 2 ^ 32) × (length program.columns < 2 ^ 32)) }
+    ensures ascends { IfOk result (λ program. EntriesAscend program) }
 {
     let reader = read_lines(alloc, bytes, dialect)?;
     let parts = parts_of(&reader.tables);

@@ -34,14 +34,14 @@ use Rattle.mps_profile.specs.declared.faults.MpsFaultKind as faults
 use Rattle.mps_writer.specs.Sections.{is_below_zero}
 use Rattle.mps_laws.specs.Faultless.{IsFaultless}
 use Rattle.mps_laws.specs.Names.{IsNumbered}
-use Rattle.mps_round_trip.specs.Formats.{free_format}
-use Rattle.mps_named.specs.Writable.{WritableBound}
-use Rattle.mps_round_trip.proofs.Written.{WrittenCard, valued_written, bare_written, lower_written, upper_written, ends_written, bounds_by, bounds_written, onto}
-use Rattle.mps_round_trip.proofs.Segments.{onto_append, all_append}
-use Rattle.mps_round_trip.proofs.Places.{next_place}
-use Rattle.mps_round_trip.proofs.Numerals.{limit_read}
-use Rattle.mps_round_trip.proofs.EntryCards.{same_cond}
-use Rattle.mps_round_trip.proofs.ColumnCards.{get_push}
+use Rattle.mps_written_lines.specs.Formats.{free_format}
+use Rattle.lp_model.specs.Writable.{WritableBound}
+use Rattle.mps_written_lines.specs.Written.{WrittenCard, valued_written, bare_written, lower_written, upper_written, ends_written, bounds_by, bounds_written, onto}
+use Rattle.mps_written_cards.proofs.Segments.{onto_append, all_append}
+use Rattle.mps_written_cards.proofs.Places.{next_place}
+use Rattle.mps_written_cards.proofs.Numerals.{limit_read}
+use Rattle.mps_written_cards.proofs.EntryCards.{same_cond}
+use Rattle.mps_written_cards.proofs.ColumnCards.{get_push}
 
 -- a card of BOUNDS, and what it sets
 pub record Setting : Type 0 where

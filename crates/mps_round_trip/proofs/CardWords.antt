@@ -22,14 +22,15 @@ use Rattle.mps_profile.specs.declared.faults.MpsFaultKind.TheVariants.{FieldCoun
 use Rattle.mps_writer.specs.declared.rows.RowType.{RowType}
 use Rattle.mps_writer.specs.declared.rows.RowType.TheVariants.{Equal, AtMost, AtLeast}
 use Rattle.mps_writer.specs.Sections.{type_by, type_word, is_below_zero}
-use Rattle.mps_round_trip.specs.Plain.{IsWord}
-use Rattle.mps_round_trip.specs.Plain.{IsRowName}
-use Rattle.mps_round_trip.proofs.Written.{WrittenCard, row_written, objective_written, marks, entry_written, all_terms, columns_written, side_written, side_by, range_written, range_by, valued_written, bare_written, valued_word, bare_word, lower_written, upper_written, ends_written, bounds_by}
-use Rattle.mps_round_trip.proofs.Segments.{all_append}
-use Rattle.mps_round_trip.proofs.Reading.{IsCardOf, card_kind}
-use Rattle.mps_round_trip.proofs.Numerals.{IsRead}
-use Rattle.mps_round_trip.proofs.EntryCards.{Told}
-use Rattle.mps_round_trip.proofs.SideCards.{IsReadIn}
+use Rattle.mps_written_lines.specs.Words.{IsWord}
+use Rattle.mps_written_lines.specs.Words.{IsRowName}
+use Rattle.mps_written_lines.specs.Written.{WrittenCard, row_written, objective_written, marks, entry_written, all_terms, columns_written, side_written, side_by, range_written, range_by, valued_written, bare_written, valued_word, bare_word, lower_written, upper_written, ends_written, bounds_by}
+use Rattle.mps_written_cards.proofs.Segments.{all_append}
+use Rattle.mps_written_lines.specs.AreCards.{IsCardOf}
+use Rattle.mps_written_lines.proofs.Reading.{card_kind}
+use Rattle.mps_written_cards.proofs.Numerals.{IsRead}
+use Rattle.mps_written_cards.proofs.EntryCards.{Told}
+use Rattle.mps_written_cards.proofs.SideCards.{IsReadIn}
 use Rattle.mps_round_trip.proofs.RangeCards.{WidthIn}
 
 -- ---- the words of each card

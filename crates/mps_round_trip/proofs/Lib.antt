@@ -1,21 +1,8 @@
-mod Arithmetic
 mod BoundCards
 mod CardWords
-mod ColumnCards
-mod EntryCards
-mod Joining
-mod Lines
-mod Numerals
-mod Places
 mod Program
 mod RangeCards
-mod Reading
 mod Ready
-mod Round
-mod RowCards
+pub mod Round
 mod Said
-mod Segments
-mod SideCards
-mod Terms
-mod Texts
-mod Written
+pub mod Widths

@@ -29,18 +29,18 @@ use Rattle.mps_profile.specs.declared.row_kinds.RowKind.{RowKind}
 use Rattle.mps_profile.specs.declared.row_kinds.RowKind as kinds
 use Rattle.mps_writer.specs.declared.rows.RowType.TheVariants.{Equal, AtLeast}
 use Rattle.mps_writer.specs.Sections.{type_by, right_side_by}
-use Rattle.mps_round_trip.specs.Formats.{free_format}
-use Rattle.mps_named.specs.Writable.{WritableSides, WritableRow}
-use Rattle.mps_round_trip.proofs.Written.{all_rows, objective_row, all_terms, written_cards}
-use Rattle.mps_round_trip.proofs.Reading.{told_of}
-use Rattle.mps_round_trip.proofs.RowCards.{kind_by, kind_of}
-use Rattle.mps_round_trip.proofs.EntryCards.{latest}
-use Rattle.mps_round_trip.proofs.ColumnCards.{told, whole_of}
-use Rattle.mps_round_trip.proofs.Arithmetic.{neg_neg, or_zero}
-use Rattle.mps_round_trip.proofs.SideCards.{side_told}
+use Rattle.mps_written_lines.specs.Formats.{free_format}
+use Rattle.lp_model.specs.Writable.{WritableSides, WritableRow}
+use Rattle.mps_written_lines.specs.Written.{all_rows, objective_row, all_terms, written_cards}
+use Rattle.mps_written_lines.proofs.Reading.{told_of}
+use Rattle.mps_written_cards.proofs.RowCards.{kind_by, kind_of}
+use Rattle.mps_written_cards.proofs.EntryCards.{latest}
+use Rattle.mps_written_cards.proofs.ColumnCards.{told, whole_of}
+use Rattle.mps_written_cards.proofs.Arithmetic.{neg_neg, or_zero}
+use Rattle.mps_written_cards.proofs.SideCards.{side_told}
 use Rattle.mps_round_trip.proofs.RangeCards.{interval, interval_by, range_told}
 use Rattle.mps_round_trip.proofs.BoundCards.{lower_told, upper_told, lower_is, upper_is}
-use Rattle.mps_round_trip.proofs.Terms.{cost_is, entry_is, written_kinds, terms_are}
+use Rattle.mps_written_cards.proofs.Terms.{cost_is, entry_is, written_kinds, terms_are}
 use Rattle.mps_round_trip.proofs.Ready.{Ready}
 use Rattle.mps_round_trip.proofs.Said.{Says}
 

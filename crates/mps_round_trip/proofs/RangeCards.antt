@@ -33,15 +33,15 @@ use Rattle.mps_writer.specs.declared.rows.RowType.TheVariants.{Equal, AtLeast}
 use Rattle.mps_writer.specs.Sections.{right_side_by, type_by}
 use Rattle.mps_laws.specs.Faultless.{IsFaultless}
 use Rattle.mps_laws.specs.Names.{IsNumbered}
-use Rattle.mps_round_trip.specs.Formats.{free_format}
-use Rattle.mps_round_trip.proofs.Written.{range_written, range_by, ranges_written, onto}
-use Rattle.mps_round_trip.proofs.Segments.{onto_append}
-use Rattle.mps_round_trip.proofs.Places.{next_place}
-use Rattle.mps_round_trip.proofs.Numerals.{IsRead}
-use Rattle.mps_round_trip.proofs.Arithmetic.{or_zero, width_magnitude, sum_back, not_past}
-use Rattle.mps_round_trip.proofs.RowCards.{kind_by, kind_of}
-use Rattle.mps_round_trip.proofs.ColumnCards.{get_push}
-use Rattle.mps_round_trip.proofs.SideCards.{side_told}
+use Rattle.mps_written_lines.specs.Formats.{free_format}
+use Rattle.mps_written_lines.specs.Written.{range_written, range_by, ranges_written, onto}
+use Rattle.mps_written_cards.proofs.Segments.{onto_append}
+use Rattle.mps_written_cards.proofs.Places.{next_place}
+use Rattle.mps_written_cards.proofs.Numerals.{IsRead}
+use Rattle.mps_written_cards.proofs.Arithmetic.{or_zero, width_magnitude, sum_back, not_past}
+use Rattle.mps_written_cards.proofs.RowCards.{kind_by, kind_of}
+use Rattle.mps_written_cards.proofs.ColumnCards.{get_push}
+use Rattle.mps_written_cards.proofs.SideCards.{side_told}
 
 abbrev pub interval : Number → Number → Interval
 interval l u = record { lower = l; upper = u }

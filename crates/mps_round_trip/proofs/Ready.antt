@@ -17,14 +17,15 @@ use Rattle.lp_model.specs.Names.{names_of_rows, names_of_columns}
 use Rattle.lp_model.specs.Sparse.{Ascends}
 use Rattle.mps_writer.specs.Sections.{right_side_by}
 use Rattle.mps_laws.specs.Names.{IsNumbered}
-use Rattle.mps_round_trip.specs.Plain.{IsWord}
-use Rattle.mps_round_trip.specs.Plain.{IsRowName, Plain, EntriesAscend}
-use Rattle.mps_named.specs.Writable.{WritableNumber, WritableBound, WritableSides, WritableRow, WritableColumn, Writable}
-use Rattle.mps_round_trip.proofs.Written.{all_rows, moved, all_terms}
-use Rattle.mps_round_trip.proofs.Places.{numbered}
-use Rattle.mps_round_trip.proofs.Numerals.{readable, negated_readable, taken_of}
-use Rattle.mps_round_trip.proofs.EntryCards.{Told}
-use Rattle.mps_round_trip.proofs.SideCards.{IsReadIn}
+use Rattle.mps_written_lines.specs.Words.{IsWord}
+use Rattle.mps_written_lines.specs.Words.{IsRowName}
+use Rattle.mps_round_trip.specs.Plain.{Plain}
+use Rattle.lp_model.specs.Writable.{WritableNumber, WritableBound, WritableSides, WritableRow, WritableColumn, Writable, EntriesAscend}
+use Rattle.mps_written_lines.specs.Written.{all_rows, moved, all_terms}
+use Rattle.mps_written_cards.proofs.Places.{numbered}
+use Rattle.mps_written_cards.proofs.Numerals.{readable, negated_readable, taken_of}
+use Rattle.mps_written_cards.proofs.EntryCards.{Told}
+use Rattle.mps_written_cards.proofs.SideCards.{IsReadIn}
 use Rattle.mps_round_trip.proofs.RangeCards.{WidthIn}
 use Rattle.mps_round_trip.proofs.BoundCards.{ReadBound}
 

@@ -23,18 +23,20 @@ use Rattle.mps_profile.specs.declared.sections.Section.{Section}
 use Rattle.mps_profile.specs.declared.sections.Section.TheVariants.{Rows, Columns, Rhs, Ranges, Bounds, Endata}
 use Rattle.mps_writer.specs.MpsText.{mps_text}
 use Rattle.mps_writer.specs.Sections.{right_side_by}
-use Rattle.mps_round_trip.specs.Plain.{IsWord}
-use Rattle.mps_round_trip.proofs.Written.{IsLine}
-use Rattle.mps_round_trip.specs.Formats.{free_format}
-use Rattle.mps_round_trip.specs.Plain.{IsRowName, Plain, EntriesAscend}
-use Rattle.mps_named.specs.Writable.{Writable}
-use Rattle.mps_round_trip.proofs.Written.{WrittenCard, all_rows, row_written, rows_written, columns_written, sides_written, ranges_written, bounds_written, row_cards, written_cards, line, sense_lines, section_lines, written_lines}
-use Rattle.mps_round_trip.proofs.Segments.{all_append, all_map, all_flat}
-use Rattle.mps_round_trip.proofs.Lines.{lines_again, spaced_line}
-use Rattle.mps_round_trip.proofs.Texts.{text_lines}
-use Rattle.mps_round_trip.proofs.Reading.{IsCardOf, AreCards, Reads, at, told_of, lines_reads}
-use Rattle.mps_round_trip.proofs.RowCards.{kinds_said}
-use Rattle.mps_round_trip.proofs.SideCards.{IsReadIn}
+use Rattle.mps_written_lines.specs.Words.{IsWord}
+use Rattle.mps_written_lines.specs.Written.{IsLine}
+use Rattle.mps_written_lines.specs.Formats.{free_format}
+use Rattle.mps_written_lines.specs.Words.{IsRowName}
+use Rattle.mps_round_trip.specs.Plain.{Plain}
+use Rattle.lp_model.specs.Writable.{Writable, EntriesAscend}
+use Rattle.mps_written_lines.specs.Written.{WrittenCard, all_rows, row_written, rows_written, columns_written, sides_written, ranges_written, bounds_written, row_cards, written_cards, line, sense_lines, section_lines, written_lines}
+use Rattle.mps_written_cards.proofs.Segments.{all_append, all_map, all_flat}
+use Rattle.mps_written_lines.proofs.Lines.{lines_again, spaced_line}
+use Rattle.mps_written_lines.proofs.Texts.{text_lines}
+use Rattle.mps_written_lines.specs.AreCards.{IsCardOf, AreCards}
+use Rattle.mps_written_lines.proofs.Reading.{Reads, at, told_of, lines_reads}
+use Rattle.mps_written_cards.proofs.RowCards.{kinds_said}
+use Rattle.mps_written_cards.proofs.SideCards.{IsReadIn}
 use Rattle.mps_round_trip.proofs.RangeCards.{WidthIn}
 use Rattle.mps_round_trip.proofs.CardWords.{row_read, objective_read, columns_read, side_read, sides_all, range_read, ranges_all, valued_read, bare_read, bounds_all}
 use Rattle.mps_round_trip.proofs.Ready.{Ready, ready, both}

@@ -18,17 +18,17 @@ use Rattle.mps_profile.specs.declared.dialect.Dialect.{Dialect}
 use Rattle.mps_profile.specs.declared.row_kinds.RowKind as kinds
 use Rattle.mps_laws.specs.Faultless.{IsFaultless}
 use Rattle.mps_writer.specs.Sections.{right_side_by}
-use Rattle.mps_round_trip.specs.Plain.{IsWord}
-use Rattle.mps_round_trip.specs.Formats.{free_format}
-use Rattle.mps_round_trip.proofs.Written.{WrittenCard, all_rows, objective_row, all_terms, row_written, rows_written, marks, columns_written, sides_written, ranges_written, bounds_written, row_cards, column_cards, side_cards, range_cards, written_cards}
-use Rattle.mps_round_trip.proofs.Segments.{OfRows, OfColumns, OfSides, OfRanges, OfBounds, kept_rows, kept_columns, kept_sides, kept_ranges, kept_bounds, all_any, all_map, all_flat}
-use Rattle.mps_round_trip.proofs.RowCards.{names_said, kinds_said, rows_sound}
-use Rattle.mps_round_trip.proofs.EntryCards.{Told}
-use Rattle.mps_round_trip.proofs.ColumnCards.{told, whole_of, Columned, columns_run}
-use Rattle.mps_round_trip.proofs.SideCards.{IsReadIn, side_told, Sided, sides_run}
+use Rattle.mps_written_lines.specs.Words.{IsWord}
+use Rattle.mps_written_lines.specs.Formats.{free_format}
+use Rattle.mps_written_lines.specs.Written.{WrittenCard, all_rows, objective_row, all_terms, row_written, rows_written, marks, columns_written, sides_written, ranges_written, bounds_written, row_cards, column_cards, side_cards, range_cards, written_cards}
+use Rattle.mps_written_cards.proofs.Segments.{OfRows, OfColumns, OfSides, OfRanges, OfBounds, kept_rows, kept_columns, kept_sides, kept_ranges, kept_bounds, all_any, all_map, all_flat}
+use Rattle.mps_written_cards.proofs.RowCards.{names_said, kinds_said, rows_sound}
+use Rattle.mps_written_cards.proofs.EntryCards.{Told}
+use Rattle.mps_written_cards.proofs.ColumnCards.{told, whole_of, Columned, columns_run}
+use Rattle.mps_written_cards.proofs.SideCards.{IsReadIn, side_told, Sided, sides_run}
 use Rattle.mps_round_trip.proofs.RangeCards.{WidthIn, range_told, Ranged, ranges_run}
 use Rattle.mps_round_trip.proofs.BoundCards.{lower_told, upper_told, Bounded, bounds_run}
-use Rattle.mps_round_trip.proofs.Terms.{written_kinds}
+use Rattle.mps_written_cards.proofs.Terms.{written_kinds}
 use Rattle.mps_round_trip.proofs.CardWords.{ReadColumn, columns_all, sides_all, ranges_all, bounds_all}
 use Rattle.mps_round_trip.proofs.Ready.{Ready}
 

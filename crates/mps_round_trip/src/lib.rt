@@ -7,10 +7,10 @@ ghost use Rattle.fractions.specs.declared.Numbers.{Numbers};
 ghost use Rattle.lp_model.specs.ProgramData.{ProgramData};
 ghost use Rattle.mps_profile.specs.Reading.{first_fault};
 ghost use Rattle.mps_profile.specs.Program.{program_of};
-ghost use Rattle.mps_writer.specs.MpsText.{mps_text};
-ghost use Rattle.mps_round_trip.specs.Formats.{free_format};
-ghost use Rattle.mps_round_trip.specs.Plain.{Plain, EntriesAscend};
-ghost use Rattle.mps_named.specs.Writable.{Writable};
+ghost use Rattle.mps_writer.specs.MpsText.{mps_text, WidthsFit};
+ghost use Rattle.mps_written_lines.specs.Formats.{free_format};
+ghost use Rattle.mps_round_trip.specs.Plain.{Plain};
+ghost use Rattle.lp_model.specs.Writable.{Writable, EntriesAscend};
 
 /// The text that is written of a program with plain names, whose numbers can be written, has no
 /// fault, and it is the text of this very program: each name, number, side and bound, the sense,
@@ -18,6 +18,12 @@ ghost use Rattle.mps_named.specs.Writable.{Writable};
 pub fn written_texts_are_read_again()
     ensures sound { (numbers : Numbers) (p : ProgramData) → Plain p → Writable numbers p → EntriesAscend p → first_fault (free_format numbers) (mps_text p) ≡ None }
     ensures same { (numbers : Numbers) (p : ProgramData) → Plain p → Writable numbers p → EntriesAscend p → program_of (free_format numbers) (mps_text p) ≡ p }
+{}
+
+/// The widths of the rows of a program that can be written have room, so that its text fails for
+/// want of memory alone.
+pub fn writable_programs_have_room()
+    ensures { (numbers : Numbers) (p : ProgramData) → Writable numbers p → WidthsFit p.rows }
 {}
 
 /// Two such programs that differ have texts that differ.

@@ -1,2 +1,2 @@
-pub mod Earlier
-pub mod Said
+mod Quiet
+mod Said

@@ -1,97 +1,30 @@
--- What an ending says, by its status.
-use Rattle.std.proofs.Common.{◌≡◌, ℕ, List, ◌⊎◌, inl, inr, Option, Some, sym, ◌∙◌, subst, arith}
-use Rattle.file_ports.specs.Ports.{Told, Gives, Grown}
-use Rattle.command_line.specs.Line.{CheckNames, PresolveNames, Request, Presolve, Check}
-use Rattle.lp_model.specs.ProgramData.{ProgramData}
-use Rattle.papilo_cli.specs.Texts.{IsProgramOf}
-use Rattle.papilo_cli.specs.Ending.{Moment, Reads, SaysFault, SaysFaultOf, EndsPresolve, status_of, text_of}
-use Rattle.papilo_cli.specs.Checked.{EndsCheck, Finds, IsChecked, RefusesSolution, SaysCheck, SaysSolution, check_dialect}
+-- What a run printed, by what was asked for and by its status.
+use Rattle.std.proofs.Common.{◌≡◌, ℕ, List, ◌⊎◌, Option, Some, sym, ◌∙◌, subst}
+use Rattle.file_ports.specs.Ports.{Grown}
+use Rattle.command_line.specs.Line.{CheckNames, PostsolveNames, PresolveNames, Request, Presolve, Check, Postsolve}
+use Rattle.endings.specs.Ending.{status_of, text_of}
+use Rattle.endings.specs.Moments.{Moment}
+use Rattle.endings.specs.ProgramTexts.{SaysFaultOf}
+use Rattle.endings.specs.declared.reads.TheConstants.{INPUT_LIMIT}
+use Rattle.endings.specs.declared.ending.Ending.{Ending}
+use Rattle.presolve_command.specs.Presolved.{EndsPresolve, IsPresolved, SaysFault}
+use Rattle.presolve_command.proofs.Said.{presolve_done, presolve_fault}
+use Rattle.check_command.specs.Checked.{EndsCheck, IsChecked, RefusesSolution, check_dialect}
+use Rattle.check_command.proofs.Said.{check_fault, check_verdict, solution_fault}
+use Rattle.postsolve_command.specs.Given.{reduced_dialect}
+use Rattle.postsolve_command.specs.Postsolved.{EndsPostsolve, IsPostsolved, IsStopped, RefusesPoint, RefusesRecords}
+use Rattle.postsolve_command.specs.declared.given.TheConstants.{PROGRAM_LIMIT}
+use Rattle.postsolve_command.proofs.Said.{postsolve_done, program_fault, lift_stopped, records_fault, point_fault}
 use Rattle.papilo_cli.specs.Runs.{Ends}
-use Rattle.papilo_cli.specs.declared.check.TheConstants.{SOLUTION_LIMIT}
-use Rattle.papilo_cli.specs.declared.ending.Ending.{Ending}
-use Rattle.papilo_cli.specs.declared.ending.Ending.TheVariants.{Done, Usage, Refused, ReadFault, WriteFault, NoMemory, NoRoom, SolutionRefused, Violated}
-
-pub found_gives : (told : Told) (limit before now : ℕ) (found : Option (List ℕ)) (bytes : List ℕ) → found ≡ Some bytes → Finds told limit before now found → Gives told bytes
-found_gives told limit before now found bytes is h = (subst (λ f. Finds told limit before now f) is h).0
-
--- what is said of the solution is said of both texts
-pub solution_said : (names : CheckNames) (before now : Moment) (program : ProgramData) (ending : Ending)
-    → Reads (before.told names.input) (λ text. IsProgramOf (check_dialect names) text program)
-    → SaysSolution program (before.told names.solution) (before.overlong SOLUTION_LIMIT names.solution) (now.overlong SOLUTION_LIMIT names.solution) ending
-    → SaysCheck names ending before now
-solution_said names before now program (Done text) read h = (program, read, h)
-solution_said names before now program Usage read h = h
-solution_said names before now program (Refused line) read h = absurd h
-solution_said names before now program ReadFault read h = absurd h
-solution_said names before now program WriteFault read h = h
-solution_said names before now program NoMemory read h = absurd h
-solution_said names before now program (NoRoom line) read h = (program, read, h)
-solution_said names before now program (SolutionRefused line) read h = (program, read, h)
-solution_said names before now program (Violated line) read h = (program, read, h)
-
-presolve_fault : (names : PresolveNames) (ending : Ending) (before now : Moment) (old new : Option (List ℕ)) → EndsPresolve names ending before now → status_of ending ≡ 2
-    → Grown old new (text_of ending) → (said : List ℕ) × SaysFault names said before now × Grown old new said
-presolve_fault names (Done text) before now old new ends is grown = absurd (omega arith)
-presolve_fault names Usage before now old new ends is grown = absurd ends
-presolve_fault names (Refused line) before now old new ends is grown = (line.items, ends.0, grown)
-presolve_fault names ReadFault before now old new ends is grown = absurd (omega arith)
-presolve_fault names WriteFault before now old new ends is grown = absurd (omega arith)
-presolve_fault names NoMemory before now old new ends is grown = absurd (omega arith)
-presolve_fault names (NoRoom line) before now old new ends is grown = absurd ends
-presolve_fault names (SolutionRefused line) before now old new ends is grown = absurd ends
-presolve_fault names (Violated line) before now old new ends is grown = absurd ends
-
-check_fault : (names : CheckNames) (ending : Ending) (before now : Moment) (old new : Option (List ℕ)) → EndsCheck names ending before now → status_of ending ≡ 2
-    → Grown old new (text_of ending) → (said : List ℕ) × SaysFaultOf (check_dialect names) names.input said before now × Grown old new said
-check_fault names (Done text) before now old new ends is grown = absurd (omega arith)
-check_fault names Usage before now old new ends is grown = absurd ends.0
-check_fault names (Refused line) before now old new ends is grown = (line.items, ends.0, grown)
-check_fault names ReadFault before now old new ends is grown = absurd (omega arith)
-check_fault names WriteFault before now old new ends is grown = absurd ends.0
-check_fault names NoMemory before now old new ends is grown = absurd (omega arith)
-check_fault names (NoRoom line) before now old new ends is grown = absurd (omega arith)
-check_fault names (SolutionRefused line) before now old new ends is grown = absurd (omega arith)
-check_fault names (Violated line) before now old new ends is grown = absurd (omega arith)
-
-solution_fault : (names : CheckNames) (ending : Ending) (before now : Moment) (old new : Option (List ℕ)) → EndsCheck names ending before now → status_of ending ≡ 8
-    → Grown old new (text_of ending) → (said : List ℕ) × RefusesSolution names said before now × Grown old new said
-solution_fault names (Done text) before now old new ends is grown = absurd (omega arith)
-solution_fault names Usage before now old new ends is grown = absurd ends.0
-solution_fault names (Refused line) before now old new ends is grown = absurd (omega arith)
-solution_fault names ReadFault before now old new ends is grown = absurd (omega arith)
-solution_fault names WriteFault before now old new ends is grown = absurd ends.0
-solution_fault names NoMemory before now old new ends is grown = absurd (omega arith)
-solution_fault names (NoRoom line) before now old new ends is grown = absurd (omega arith)
-solution_fault names (SolutionRefused line) before now old new ends is grown = (line.items, ends.0, grown)
-solution_fault names (Violated line) before now old new ends is grown = absurd (omega arith)
-
--- a verdict's status, of an ending with another one
-other_status : {A : Type 0} (k status : ℕ) → k ≡ status → (k ≡ 0 → ⊥) → (k ≡ 6 → ⊥) → (k ≡ 9 → ⊥) → (status ≡ 0) ⊎ (status ≡ 6) ⊎ (status ≡ 9) → A
-other_status k status is zero six nine (inl e) = absurd (zero (is ∙ e))
-other_status k status is zero six nine (inr (inl e)) = absurd (six (is ∙ e))
-other_status k status is zero six nine (inr (inr e)) = absurd (nine (is ∙ e))
-
-judged : (names : CheckNames) (k status : ℕ) (text : List ℕ) (told : List ℕ → Told) (old new : Option (List ℕ)) → k ≡ status → IsChecked names k text told → Grown old new text
-    → (printed : List ℕ) × IsChecked names status printed told × Grown old new printed
-judged names k status text told old new is h grown = (text, subst (λ n. IsChecked names n text told) is h, grown)
-
-check_verdict : (names : CheckNames) (ending : Ending) (before now : Moment) (status : ℕ) (old new : Option (List ℕ)) → EndsCheck names ending before now → status_of ending ≡ status
-    → (status ≡ 0) ⊎ (status ≡ 6) ⊎ (status ≡ 9) → Grown old new (text_of ending) → (printed : List ℕ) × IsChecked names status printed before.told × Grown old new printed
-check_verdict names (Done text) before now status old new ends is which grown = judged names 0 status text.items before.told old new is ends.0 grown
-check_verdict names Usage before now status old new ends is which grown = absurd ends.0
-check_verdict names (Refused line) before now status old new ends is which grown = other_status 2 status is (λ e. omega arith) (λ e. omega arith) (λ e. omega arith) which
-check_verdict names ReadFault before now status old new ends is which grown = other_status 3 status is (λ e. omega arith) (λ e. omega arith) (λ e. omega arith) which
-check_verdict names WriteFault before now status old new ends is which grown = absurd ends.0
-check_verdict names NoMemory before now status old new ends is which grown = other_status 5 status is (λ e. omega arith) (λ e. omega arith) (λ e. omega arith) which
-check_verdict names (NoRoom line) before now status old new ends is which grown = judged names 6 status line.items before.told old new is ends.0 grown
-check_verdict names (SolutionRefused line) before now status old new ends is which grown = other_status 8 status is (λ e. omega arith) (λ e. omega arith) (λ e. omega arith) which
-check_verdict names (Violated line) before now status old new ends is which grown = judged names 9 status line.items before.told old new is ends.0 grown
 
 of_presolve : (asked : Option Request) (names : PresolveNames) (ending : Ending) (before now : Moment) → asked ≡ Some (Presolve names) → Ends asked ending before now → EndsPresolve names ending before now
 of_presolve asked names ending before now is ends = subst (λ a. Ends a ending before now) is ends
 
 of_check : (asked : Option Request) (names : CheckNames) (ending : Ending) (before now : Moment) → asked ≡ Some (Check names) → Ends asked ending before now → EndsCheck names ending before now
 of_check asked names ending before now is ends = subst (λ a. Ends a ending before now) is ends
+
+of_postsolve : (asked : Option Request) (names : PostsolveNames) (ending : Ending) (before now : Moment) → asked ≡ Some (Postsolve names) → Ends asked ending before now → EndsPostsolve names ending before now
+of_postsolve asked names ending before now is ends = subst (λ a. Ends a ending before now) is ends
 
 -- the same of a run that printed a text and answered a status
 pub presolve_refused : (asked : Option Request) (names : PresolveNames) (ending : Ending) (before now : Moment) (status : ℕ) (text : List ℕ) (old new : Option (List ℕ))
@@ -102,7 +35,7 @@ presolve_refused asked names ending before now status text old new ends answers 
 
 pub check_refused : (asked : Option Request) (names : CheckNames) (ending : Ending) (before now : Moment) (status : ℕ) (text : List ℕ) (old new : Option (List ℕ))
     → Ends asked ending before now → status ≡ status_of ending → text ≡ text_of ending → Grown old new text → asked ≡ Some (Check names) → status ≡ 2
-    → (said : List ℕ) × SaysFaultOf (check_dialect names) names.input said before now × Grown old new said
+    → (said : List ℕ) × SaysFaultOf INPUT_LIMIT (check_dialect names) names.input said before now × Grown old new said
 check_refused asked names ending before now status text old new ends answers prints grown is two =
     check_fault names ending before now old new (of_check asked names ending before now is ends) (sym answers ∙ two) (subst (Grown old new) prints grown)
 
@@ -117,3 +50,39 @@ pub verdict_printed : (asked : Option Request) (names : CheckNames) (ending : En
     → (status ≡ 0) ⊎ (status ≡ 6) ⊎ (status ≡ 9) → (printed : List ℕ) × IsChecked names status printed before.told × Grown old new printed
 verdict_printed asked names ending before now status text old new ends answers prints grown is which =
     check_verdict names ending before now status old new (of_check asked names ending before now is ends) (sym answers) which (subst (Grown old new) prints grown)
+
+pub postsolve_printed : (asked : Option Request) (names : PostsolveNames) (ending : Ending) (before now : Moment) (status : ℕ) (text : List ℕ) (old new : Option (List ℕ))
+    → Ends asked ending before now → status ≡ status_of ending → text ≡ text_of ending → Grown old new text → asked ≡ Some (Postsolve names) → status ≡ 0
+    → (said : List ℕ) × IsPostsolved names said before.told now.told × Grown old new said
+postsolve_printed asked names ending before now status text old new ends answers prints grown is at =
+    postsolve_done names ending before now old new (of_postsolve asked names ending before now is ends) (sym answers ∙ at) (subst (Grown old new) prints grown)
+
+pub postsolve_stopped : (asked : Option Request) (names : PostsolveNames) (ending : Ending) (before now : Moment) (status : ℕ) (text : List ℕ) (old new : Option (List ℕ))
+    → Ends asked ending before now → status ≡ status_of ending → text ≡ text_of ending → Grown old new text → asked ≡ Some (Postsolve names) → status ≡ 6
+    → (said : List ℕ) × IsStopped names said before.told × Grown old new said
+postsolve_stopped asked names ending before now status text old new ends answers prints grown is at =
+    lift_stopped names ending before now old new (of_postsolve asked names ending before now is ends) (sym answers ∙ at) (subst (Grown old new) prints grown)
+
+pub records_refused : (asked : Option Request) (names : PostsolveNames) (ending : Ending) (before now : Moment) (status : ℕ) (text : List ℕ) (old new : Option (List ℕ))
+    → Ends asked ending before now → status ≡ status_of ending → text ≡ text_of ending → Grown old new text → asked ≡ Some (Postsolve names) → status ≡ 7
+    → (said : List ℕ) × RefusesRecords names said before now × Grown old new said
+records_refused asked names ending before now status text old new ends answers prints grown is at =
+    records_fault names ending before now old new (of_postsolve asked names ending before now is ends) (sym answers ∙ at) (subst (Grown old new) prints grown)
+
+pub point_refused : (asked : Option Request) (names : PostsolveNames) (ending : Ending) (before now : Moment) (status : ℕ) (text : List ℕ) (old new : Option (List ℕ))
+    → Ends asked ending before now → status ≡ status_of ending → text ≡ text_of ending → Grown old new text → asked ≡ Some (Postsolve names) → status ≡ 8
+    → (said : List ℕ) × RefusesPoint names said before now × Grown old new said
+point_refused asked names ending before now status text old new ends answers prints grown is at =
+    point_fault names ending before now old new (of_postsolve asked names ending before now is ends) (sym answers ∙ at) (subst (Grown old new) prints grown)
+
+pub reduced_refused : (asked : Option Request) (names : PostsolveNames) (ending : Ending) (before now : Moment) (status : ℕ) (text : List ℕ) (old new : Option (List ℕ))
+    → Ends asked ending before now → status ≡ status_of ending → text ≡ text_of ending → Grown old new text → asked ≡ Some (Postsolve names) → status ≡ 2
+    → (said : List ℕ) × SaysFaultOf PROGRAM_LIMIT reduced_dialect names.program said before now × Grown old new said
+reduced_refused asked names ending before now status text old new ends answers prints grown is at =
+    program_fault names ending before now old new (of_postsolve asked names ending before now is ends) (sym answers ∙ at) (subst (Grown old new) prints grown)
+
+pub presolve_printed : (asked : Option Request) (names : PresolveNames) (ending : Ending) (before now : Moment) (status : ℕ) (text : List ℕ) (old new : Option (List ℕ))
+    → Ends asked ending before now → status ≡ status_of ending → text ≡ text_of ending → Grown old new text → asked ≡ Some (Presolve names) → status ≡ 0
+    → (printed : List ℕ) × IsPresolved names printed before.told now.told × Grown old new printed
+presolve_printed asked names ending before now status text old new ends answers prints grown is at =
+    presolve_done names ending before now old new (of_presolve asked names ending before now is ends) (sym answers ∙ at) (subst (Grown old new) prints grown)

@@ -1,14 +1,7 @@
 //! An exact presolver for linear and mixed-integer programs in the MPS format.
 #![tactic(auto)]
 
-mod check;
-mod ending;
-mod judging;
-mod presolve;
-mod reduce;
-mod report;
 mod run;
-mod verdict_text;
 
 use file_ports::{HostFiles, HostOut};
 use run::run;

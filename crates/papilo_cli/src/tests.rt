@@ -326,6 +326,230 @@ const CHECKS: [CheckCase<'static>; 11] = [
     },
 ];
 
+// What is left of x + 10^10 y = 0 once x is taken out by that row.
+const LARGE: &str = "ROWS\n N COST\nCOLUMNS\n y COST 1\nENDATA\n";
+
+const LARGE_RECORDS: &str = "papilo-records 1
+sense min
+duals no
+columns 2
+gone x
+live y
+rows 1
+gone C1
+offset 0
+records 1
+K12 0 0 1 1 10000000000 0 -inf inf 0 0
+end
+";
+
+// The small program's records, with z in the place of y.
+const OTHER_RECORDS: &str = "papilo-records 1
+sense min
+duals no
+columns 2
+gone x
+live z
+rows 2
+gone C1
+gone C2
+offset 3
+records 3
+K2 0 0 1 0 inf
+K3 0 3 1 1 1 1
+K2 1 1 1 0 inf
+end
+";
+
+// A postsolve: its words after the program's name, the texts that OUT, REC and SOL hold, the numbers of the reads and writes that
+// fail, and then the status, the printed text, and what RESULT holds (None: missing, or not told).
+struct PostsolveCase<'a> {
+    words: &'a [&'a str],
+    program: &'a str,
+    records: &'a str,
+    solution: &'a str,
+    reads: &'a [u64],
+    writes: &'a [u64],
+    status: u8,
+    printed: &'a str,
+    result: Option<&'a str>,
+}
+
+const POSTSOLVE: &[&str] = &["postsolve", "OUT", "REC", "SOL", "RESULT"];
+
+const LIFTS: [PostsolveCase<'static>; 15] = [
+    PostsolveCase {
+        words: POSTSOLVE,
+        program: SMALL_REDUCED,
+        records: SMALL_RECORDS,
+        solution: "y 2\n",
+        reads: &[],
+        writes: &[],
+        status: 0,
+        printed: "columns 1 -> 2\n",
+        result: Some("x 3\ny 2\n"),
+    },
+    // A column without a line is 0.
+    PostsolveCase {
+        words: POSTSOLVE,
+        program: SMALL_REDUCED,
+        records: SMALL_RECORDS,
+        solution: "",
+        reads: &[],
+        writes: &[],
+        status: 0,
+        printed: "columns 1 -> 2\n",
+        result: Some("x 3\ny 0\n"),
+    },
+    // Neither rows nor columns.
+    PostsolveCase {
+        words: POSTSOLVE,
+        program: "ROWS\n N COST\nCOLUMNS\nENDATA\n",
+        records: "papilo-records 1\nsense min\nduals no\ncolumns 0\nrows 0\noffset 0\nrecords 0\nend\n",
+        solution: "",
+        reads: &[],
+        writes: &[],
+        status: 0,
+        printed: "columns 0 -> 0\n",
+        result: Some(""),
+    },
+    // Undoing the record needs 10^40.
+    PostsolveCase {
+        words: POSTSOLVE,
+        program: LARGE,
+        records: LARGE_RECORDS,
+        solution: "y 1e30\n",
+        reads: &[],
+        writes: &[],
+        status: 6,
+        printed: "past record 1\n",
+        result: None,
+    },
+    // Each fault stands before those behind it: of OUT, of REC, names that do not match, of SOL, no room.
+    PostsolveCase {
+        words: POSTSOLVE,
+        program: "ROWS\n N COST\nCOLUMNS\n",
+        records: "papilo-records 1\nsense min\nduals no\ncolumns 2\ngone x\nlive y\nrows 2\ngone C1\ngone C2\noffset 3\nrecords 3\n",
+        solution: "w 1\n",
+        reads: &[],
+        writes: &[],
+        status: 2,
+        printed: "error M6 line 4\n",
+        result: None,
+    },
+    PostsolveCase {
+        words: POSTSOLVE,
+        program: SMALL_REDUCED,
+        records: "papilo-records 1\nsense min\nduals no\ncolumns 2\ngone x\nlive y\nrows 2\ngone C1\ngone C2\noffset 3\nrecords 3\n",
+        solution: "w 1\n",
+        reads: &[],
+        writes: &[],
+        status: 7,
+        printed: "error F4 line 12\n",
+        result: None,
+    },
+    PostsolveCase {
+        words: POSTSOLVE,
+        program: SMALL_REDUCED,
+        records: "papilo-records 1\nsense min\nduals no\ncolumns 2\ngone x\nlive y\nrows 2\ngone C1\ngone C2\noffset 3\nrecords 3\nK2 0 0 1 0 inf\nK3 0 3 1 1 1 1\nK3 0 3 1 1 1 1\nK2 1 1 1 0 inf\nend\n",
+        solution: "w 1\n",
+        reads: &[],
+        writes: &[],
+        status: 7,
+        printed: "error F3 line 14\n",
+        result: None,
+    },
+    PostsolveCase {
+        words: POSTSOLVE,
+        program: SMALL_REDUCED,
+        records: OTHER_RECORDS,
+        solution: "w 1\n",
+        reads: &[],
+        writes: &[],
+        status: 7,
+        printed: "error F5\n",
+        result: None,
+    },
+    PostsolveCase {
+        words: POSTSOLVE,
+        program: SMALL_REDUCED,
+        records: SMALL_RECORDS,
+        solution: "z 1\n",
+        reads: &[],
+        writes: &[],
+        status: 8,
+        printed: "error S2 line 1\n",
+        result: None,
+    },
+    PostsolveCase {
+        words: POSTSOLVE,
+        program: LARGE,
+        records: LARGE_RECORDS,
+        solution: "y 1e30\ny 1e30\n",
+        reads: &[],
+        writes: &[],
+        status: 8,
+        printed: "error S3 line 2\n",
+        result: None,
+    },
+    // Each read fails, before any fault is seen; and the write.
+    PostsolveCase {
+        words: POSTSOLVE,
+        program: "ROWS\n N COST\nCOLUMNS\n",
+        records: "papilo-records 1\nsense min\nduals no\ncolumns 2\ngone x\nlive y\nrows 2\ngone C1\ngone C2\noffset 3\nrecords 3\n",
+        solution: "w 1\n",
+        reads: &[1],
+        writes: &[],
+        status: 3,
+        printed: "read fault\n",
+        result: None,
+    },
+    PostsolveCase {
+        words: POSTSOLVE,
+        program: "ROWS\n N COST\nCOLUMNS\n",
+        records: "papilo-records 1\nsense min\nduals no\ncolumns 2\ngone x\nlive y\nrows 2\ngone C1\ngone C2\noffset 3\nrecords 3\n",
+        solution: "w 1\n",
+        reads: &[2],
+        writes: &[],
+        status: 3,
+        printed: "read fault\n",
+        result: None,
+    },
+    PostsolveCase {
+        words: POSTSOLVE,
+        program: "ROWS\n N COST\nCOLUMNS\n",
+        records: "papilo-records 1\nsense min\nduals no\ncolumns 2\ngone x\nlive y\nrows 2\ngone C1\ngone C2\noffset 3\nrecords 3\n",
+        solution: "w 1\n",
+        reads: &[3],
+        writes: &[],
+        status: 3,
+        printed: "read fault\n",
+        result: None,
+    },
+    PostsolveCase {
+        words: POSTSOLVE,
+        program: SMALL_REDUCED,
+        records: SMALL_RECORDS,
+        solution: "y 2\n",
+        reads: &[],
+        writes: &[1],
+        status: 4,
+        printed: "write fault\n",
+        result: None,
+    },
+    PostsolveCase {
+        words: &["postsolve", "OUT", "REC", "SOL"],
+        program: SMALL_REDUCED,
+        records: SMALL_RECORDS,
+        solution: "y 2\n",
+        reads: &[],
+        writes: &[],
+        status: 1,
+        printed: USAGE,
+        result: None,
+    },
+];
+
 fn held(
     alloc: Global,
     name: &str,
@@ -390,6 +614,30 @@ fn each_verdict(rt: HostRuntime) -> Result<(), Fail> {
         let status = run(&rt, alloc, &words, &mut files, &mut out, &OpenGate);
         assert_eq!(rt; status, case.status, "at {:?}", case.solution);
         assert_eq!(rt; out.taken(), case.printed.as_bytes());
+    }
+    Ok(())
+}
+
+#[test]
+fn each_lift(rt: HostRuntime) -> Result<(), Fail> {
+    let alloc = rt.alloc();
+    for case in &LIFTS {
+        let words = words_of(alloc, case.words)?;
+        let program = held(alloc, "OUT", Some(case.program), None)?;
+        let records = held(alloc, "REC", Some(case.records), None)?;
+        let solution = held(alloc, "SOL", Some(case.solution), None)?;
+        let result = held(alloc, "RESULT", None, Some(1000))?;
+        let held = [program, records, solution, result];
+        assert!(rt; names_differ(&held));
+        let mut files = MemFiles::new(alloc, &held, case.reads, case.writes)?;
+        let mut out = MemSink::new(alloc, 1000, &[])?;
+        let status = run(&rt, alloc, &words, &mut files, &mut out, &OpenGate);
+        assert_eq!(rt; status, case.status, "at {:?}", case.solution);
+        assert_eq!(rt; out.taken(), case.printed.as_bytes());
+        assert_eq!(rt;
+            files.bytes("RESULT"),
+            case.result.map(|text| text.as_bytes())
+        );
     }
     Ok(())
 }

@@ -44,11 +44,11 @@ fn undo_all(undos: &[Undo], point: &mut [Frac]) -> Result<(), Stop>
 /// [`Stop`] exactly where a number that undoing computes is past the range, with the first record, from the last on, that has one.
 pub fn lift(records: &Records, point: &mut PointBuf) -> Result<(), Stop>
     requires size { length point.old ≡ length records.now.columns }
-    requires records { All (CanUndo (length records.now.columns)) records.now.undos }
     ensures size { length point.new ≡ length point.old }
     ensures lifted { OnOk result (vector_of point.new ≡ lift_of records.now.undos (vector_of point.old)) }
     ensures fits { IsOk result ↔ LiftFits records.now.undos (vector_of point.old) }
     ensures stopped { IfErr result (λ stop. StopsAt records.now.undos (vector_of point.old) stop.at) }
 {
+    records.can_lift();
     undo_all(records.undos(), point.values.as_mut_slice())
 }

@@ -19,12 +19,16 @@ type Entry = (u32, Number);
 /// A lower and an upper end.
 type Ends = (Option<Number>, Option<Number>);
 
-/// A record that changes the point, of a program of three columns. It deletes the first one; the kept one is the second.
+/// A record that changes the point, of a program of three columns. The kept column is the second one, and where no column is said
+/// the first one is deleted.
 enum Change {
     Fixed {
+        column: u32,
         value: Number,
     },
     Solved {
+        row: u32,
+        column: u32,
         value: Number,
         kept_value: Number,
         equal: Number,
@@ -48,8 +52,10 @@ enum Change {
     },
 }
 
-/// What undoing the changes, the last one first, makes of a point.
+/// What undoing the changes, the last one first, makes of a point. A deleted column has 0 before.
 struct Case {
+    columns: [bool; 3],
+    rows: [bool; 2],
     changes: &'static [Change],
     before: [Number; 3],
     after: Result<[Number; 3], usize>,
@@ -64,13 +70,22 @@ const MOST: Number = (i128::MAX, 1);
 
 const CASES: [Case; 18] = [
     Case {
-        changes: &[Change::Fixed { value: (-7, 2) }],
+        columns: [false, true, true],
+        rows: [true; 2],
+        changes: &[Change::Fixed {
+            column: 0,
+            value: (-7, 2),
+        }],
         before: [ZERO, (3, 1), (4, 1)],
         after: Ok([(-7, 2), (3, 1), (4, 1)]),
     },
     // 2 x + 4 y = 6 with y = 3/2: a quotient of 0
     Case {
+        columns: [false, true, true],
+        rows: [false, true],
         changes: &[Change::Solved {
+            row: 0,
+            column: 0,
             value: (2, 1),
             kept_value: (4, 1),
             equal: (6, 1),
@@ -80,7 +95,11 @@ const CASES: [Case; 18] = [
     },
     // -3 x + 2 y = 1 with y = -2: x = 5 / -3
     Case {
+        columns: [false, true, true],
+        rows: [false, true],
         changes: &[Change::Solved {
+            row: 0,
+            column: 0,
             value: (-3, 1),
             kept_value: (2, 1),
             equal: ONE,
@@ -90,7 +109,11 @@ const CASES: [Case; 18] = [
     },
     // 10^10 times 10^30 has no room
     Case {
+        columns: [false, true, true],
+        rows: [false, true],
         changes: &[Change::Solved {
+            row: 0,
+            column: 0,
             value: ONE,
             kept_value: (10_000_000_000, 1),
             equal: ZERO,
@@ -100,6 +123,8 @@ const CASES: [Case; 18] = [
     },
     // -2 x + 3 y - z = 10 with y = 1, z = 1: x = (10 - 2) / -2
     Case {
+        columns: [false, true, true],
+        rows: [false, true],
         changes: &[Change::Free {
             value: (-2, 1),
             at: (10, 1),
@@ -110,6 +135,8 @@ const CASES: [Case; 18] = [
     },
     // the sum of the terms has no room, though the side less that sum would have
     Case {
+        columns: [false, true, true],
+        rows: [false, true],
         changes: &[Change::Free {
             value: ONE,
             at: MOST,
@@ -120,6 +147,8 @@ const CASES: [Case; 18] = [
     },
     // 4 <= 2 x + y <= 6 with y = 1: from 3/2 to 5/2, and x <= 2
     Case {
+        columns: [false, true, true],
+        rows: [true; 2],
         changes: &[Change::Slack {
             value: (2, 1),
             sides: (Some((4, 1)), Some((6, 1))),
@@ -132,6 +161,8 @@ const CASES: [Case; 18] = [
     },
     // the same with -2 x: from -5/2 to -3/2, and x >= -2
     Case {
+        columns: [false, true, true],
+        rows: [true; 2],
         changes: &[Change::Slack {
             value: (-2, 1),
             sides: (Some((4, 1)), Some((6, 1))),
@@ -144,6 +175,8 @@ const CASES: [Case; 18] = [
     },
     // 4 <= x + y with y = 1, and x has no bounds
     Case {
+        columns: [false, true, true],
+        rows: [false, true],
         changes: &[Change::Slack {
             value: ONE,
             sides: (Some((4, 1)), None),
@@ -156,6 +189,8 @@ const CASES: [Case; 18] = [
     },
     // -x + y >= 4 with y = 1: x <= -3
     Case {
+        columns: [false, true, true],
+        rows: [false, true],
         changes: &[Change::Slack {
             value: (-1, 1),
             sides: (Some((4, 1)), None),
@@ -168,6 +203,8 @@ const CASES: [Case; 18] = [
     },
     // 0 is within all ends
     Case {
+        columns: [false, true, true],
+        rows: [false, true],
         changes: &[Change::Slack {
             value: ONE,
             sides: (None, Some((4, 1))),
@@ -175,11 +212,13 @@ const CASES: [Case; 18] = [
             fate: RowFate::Dropped,
             entries: &[],
         }],
-        before: [(9, 1), ONE, ZERO],
+        before: [ZERO, ONE, ZERO],
         after: Ok([ZERO, ONE, ZERO]),
     },
     // y - x = -5 with x >= 0 and 0 <= y <= 3
     Case {
+        columns: [false, true, true],
+        rows: [true; 2],
         changes: &[Change::Merged {
             factor: (-1, 1),
             bounds: (Some(ZERO), None),
@@ -190,6 +229,8 @@ const CASES: [Case; 18] = [
     },
     // y + 2 x = 9 with x <= 4 and y <= 3: x is at least 3
     Case {
+        columns: [false, true, true],
+        rows: [true; 2],
         changes: &[Change::Merged {
             factor: (2, 1),
             bounds: (None, Some((4, 1))),
@@ -200,6 +241,8 @@ const CASES: [Case; 18] = [
     },
     // y - 2 x = -6 with -1 <= x <= 1 and no bounds of y: x = 0
     Case {
+        columns: [false, true, true],
+        rows: [true; 2],
         changes: &[Change::Merged {
             factor: (-2, 1),
             bounds: (Some((-1, 1)), Some(ONE)),
@@ -208,42 +251,61 @@ const CASES: [Case; 18] = [
         before: [ZERO, (-6, 1), ZERO],
         after: Ok([ZERO, (-6, 1), ZERO]),
     },
-    // the last record first: y = 5, then x = 5 - 1
+    // the last record first: y = 8, then x = 5 - 8
     Case {
+        columns: [false, false, true],
+        rows: [false, true],
         changes: &[
             Change::Solved {
+                row: 0,
+                column: 0,
                 value: ONE,
                 kept_value: ONE,
                 equal: (5, 1),
             },
-            Change::Fixed { value: (8, 1) },
+            Change::Fixed {
+                column: 1,
+                value: (8, 1),
+            },
         ],
-        before: [ZERO, ONE, ZERO],
-        after: Ok([(4, 1), ONE, ZERO]),
+        before: [ZERO, ZERO, ONE],
+        after: Ok([(-3, 1), (8, 1), ONE]),
     },
-    // the first of three records alone has no room
+    // the first of two records alone has no room
     Case {
+        columns: [false, true, false],
+        rows: [false, true],
         changes: &[
             Change::Solved {
+                row: 0,
+                column: 0,
                 value: ONE,
                 kept_value: (2, 1),
                 equal: ZERO,
             },
-            Change::Fixed { value: ONE },
-            Change::Fixed { value: ONE },
+            Change::Fixed {
+                column: 2,
+                value: ONE,
+            },
         ],
         before: [ZERO, MOST, ZERO],
         after: Err(1),
     },
     // both have none, and the second is undone first
     Case {
+        columns: [false, true, false],
+        rows: [false, false],
         changes: &[
             Change::Solved {
+                row: 0,
+                column: 0,
                 value: ONE,
                 kept_value: (2, 1),
                 equal: ZERO,
             },
             Change::Solved {
+                row: 1,
+                column: 2,
                 value: ONE,
                 kept_value: (2, 1),
                 equal: ZERO,
@@ -253,9 +315,11 @@ const CASES: [Case; 18] = [
         after: Err(2),
     },
     Case {
+        columns: [true; 3],
+        rows: [true; 2],
         changes: &[],
-        before: [ONE, ZERO, ZERO],
-        after: Ok([ONE, ZERO, ZERO]),
+        before: [ONE, (2, 1), ZERO],
+        after: Ok([ONE, (2, 1), ZERO]),
     },
 ];
 
@@ -286,19 +350,26 @@ fn terms(alloc: Global, entries: &[Entry]) -> Result<Terms, AllocError> {
 }
 
 /// The parts of a record that undoing does not read are 1, or nothing.
-fn fixed(alloc: Global, value: Number) -> Undo {
+fn fixed(alloc: Global, column: u32, value: Number) -> Undo {
     Undo::FixedColumn {
-        column: 0,
+        column,
         value: number(value),
         cost: Frac::one(),
         entries: Terms::empty(alloc),
     }
 }
 
-fn solved(alloc: Global, value: Number, kept_value: Number, equal: Number) -> Undo {
+fn solved(
+    alloc: Global,
+    row: u32,
+    column: u32,
+    value: Number,
+    kept_value: Number,
+    equal: Number,
+) -> Undo {
     Undo::Doubleton {
-        row: 0,
-        column: 0,
+        row,
+        column,
         kept: 1,
         value: number(value),
         kept_value: number(kept_value),
@@ -357,12 +428,14 @@ fn merged(factor: Number, bounds: Ends, kept_bounds: Ends) -> Undo {
 
 fn recorded(alloc: Global, change: &Change) -> Result<Undo, AllocError> {
     match change {
-        Change::Fixed { value } => Ok(fixed(alloc, *value)),
+        Change::Fixed { column, value } => Ok(fixed(alloc, *column, *value)),
         Change::Solved {
+            row,
+            column,
             value,
             kept_value,
             equal,
-        } => Ok(solved(alloc, *value, *kept_value, *equal)),
+        } => Ok(solved(alloc, *row, *column, *value, *kept_value, *equal)),
         Change::Free { value, at, entries } => free(alloc, *value, *at, entries),
         Change::Slack {
             value,
@@ -379,18 +452,31 @@ fn recorded(alloc: Global, change: &Change) -> Result<Undo, AllocError> {
     }
 }
 
-/// Records of three columns, of which these are live.
-fn records(alloc: Global, live: [bool; 3], undos: Vec<Undo>) -> Result<Records, AllocError> {
-    const NAMES: [&[u8]; 3] = [b"x", b"y", b"z"];
-    let mut columns = Vec::new(alloc);
-    for (name, live) in NAMES.iter().zip(live) {
-        columns.push(Label {
+fn labels(alloc: Global, names: &[&[u8]], live: &[bool]) -> Result<Vec<Label>, AllocError> {
+    let mut labels = Vec::new(alloc);
+    for (name, live) in names.iter().zip(live) {
+        labels.push(Label {
             name: Name::from_slice(alloc, name)?,
-            live,
+            live: *live,
         })?;
     }
-    let rows = Vec::new(alloc);
-    Ok(Records::new(Sense::Min, columns, rows, Frac::zero(), undos))
+    Ok(labels)
+}
+
+/// Records of three columns, and of rows, of which these are live in the end.
+fn records(
+    rt: &impl Abort,
+    alloc: Global,
+    columns: &[bool; 3],
+    rows: &[bool],
+    undos: Vec<Undo>,
+) -> Result<Records, AllocError> {
+    const COLUMNS: [&[u8]; 3] = [b"x", b"y", b"z"];
+    const ROWS: [&[u8]; 6] = [b"C1", b"C2", b"C3", b"C4", b"C5", b"C6"];
+    let columns = labels(alloc, &COLUMNS, columns)?;
+    let rows = labels(alloc, &ROWS, rows)?;
+    let records = Records::checked(alloc, Sense::Min, columns, rows, Frac::zero(), undos)?;
+    Ok(records.expect(rt, "sound records"))
 }
 
 fn point(alloc: Global, numbers: &[Number]) -> Result<Point, AllocError> {
@@ -410,19 +496,29 @@ fn is_at(buffer: &PointBuf, numbers: &[Number; 3]) -> bool {
     same
 }
 
-/// Lifts a point of three live columns, and compares.
+/// The numbers of the live columns, as a point of the reduced program.
+fn reduced(alloc: Global, columns: &[bool; 3], numbers: &[Number; 3]) -> Result<Point, AllocError> {
+    let mut values = Vec::new(alloc);
+    for (live, each) in columns.iter().zip(numbers) {
+        if *live {
+            values.push(number(*each))?;
+        }
+    }
+    Ok(Point::new(values))
+}
+
+/// Lifts a point of the live columns, and compares.
 fn check(
     rt: &impl Abort,
     alloc: Global,
-    undos: Vec<Undo>,
+    columns: &[bool; 3],
+    records: &Records,
     before: &[Number; 3],
     after: &Result<[Number; 3], usize>,
 ) -> Result<(), AllocError> {
-    let records = records(alloc, [true; 3], undos)?;
-    let mut buffer = PointBuf::new(alloc, &records, &point(alloc, before)?)?;
+    let mut buffer = PointBuf::new(alloc, records, &reduced(alloc, columns, before)?)?;
     assert!(rt; is_at(&buffer, before));
-    assert!(rt; records.can_lift());
-    match (lift(&records, &mut buffer), after) {
+    match (lift(records, &mut buffer), after) {
         (Ok(()), Ok(wanted)) => assert!(rt; is_at(&buffer, wanted)),
         (made, Err(at)) => assert!(rt; made == Err(Stop { at: *at })),
         (Err(_), Ok(_)) => assert!(rt; false),
@@ -438,32 +534,40 @@ fn changes_are_undone(rt: HostRuntime) -> Result<(), Fail> {
         for change in case.changes {
             undos.push(recorded(alloc, change)?)?;
         }
-        check(&rt, alloc, undos, &case.before, &case.after)?;
+        let records = records(&rt, alloc, &case.columns, &case.rows, undos)?;
+        check(
+            &rt,
+            alloc,
+            &case.columns,
+            &records,
+            &case.before,
+            &case.after,
+        )?;
     }
     Ok(())
 }
 
-/// Records of rows alone, of which none changes the point.
+/// Records of rows alone, of which none changes the point. Of six rows the last one is left.
 fn of_rows(alloc: Global) -> [Undo; 6] {
     [
         Undo::EmptyRow { row: 0 },
         Undo::SingletonRow {
-            row: 0,
+            row: 1,
             column: 0,
             value: Frac::one(),
             lower: Ext::none(),
             upper: Ext::none(),
         },
-        Undo::RedundantRow { row: 0 },
-        Undo::RedundantSide { row: 0 },
+        Undo::RedundantRow { row: 2 },
+        Undo::RedundantSide { row: 4 },
         Undo::ForcingRow {
-            row: 0,
+            row: 3,
             side: Side::Upper,
             entries: Terms::empty(alloc),
         },
         Undo::ParallelRows {
-            row: 0,
-            kept: 1,
+            row: 4,
+            kept: 5,
             factor: Frac::one(),
             lower: Ext::none(),
             upper: Ext::none(),
@@ -473,15 +577,15 @@ fn of_rows(alloc: Global) -> [Undo; 6] {
 }
 
 /// Records of bounds and entries, of which none changes the point.
-fn of_bounds(alloc: Global) -> [Undo; 6] {
-    [
+fn of_bounds(alloc: Global) -> Result<[Undo; 6], AllocError> {
+    Ok([
         Undo::RoundBounds { column: 0 },
         Undo::TightenBound {
             row: 0,
             column: 0,
             side: Side::Lower,
             bound: Ext::none(),
-            entries: Terms::empty(alloc),
+            entries: terms(alloc, &[(0, ONE)])?,
         },
         Undo::TightenCoefficient { row: 0, column: 0 },
         Undo::DualFix { column: 0 },
@@ -491,24 +595,29 @@ fn of_bounds(alloc: Global) -> [Undo; 6] {
             column: 1,
         },
         Undo::EmptyColumn { column: 0 },
-    ]
+    ])
 }
 
 #[test]
 fn other_records_leave_the_point(rt: HostRuntime) -> Result<(), Fail> {
+    const LAST: [bool; 6] = [false, false, false, false, false, true];
     let alloc = rt.alloc();
+    let all = [true; 3];
     let before = [(1, 2), (-3, 1), (4, 1)];
-    for undos in [of_rows(alloc), of_bounds(alloc)] {
-        let undos = Vec::from_array(alloc, undos)?;
-        check(&rt, alloc, undos, &before, &Ok(before))?;
-    }
+    let undos = Vec::from_array(alloc, of_rows(alloc))?;
+    let of_rows = records(&rt, alloc, &all, &LAST, undos)?;
+    check(&rt, alloc, &all, &of_rows, &before, &Ok(before))?;
+    let undos = Vec::from_array(alloc, of_bounds(alloc)?)?;
+    let of_bounds = records(&rt, alloc, &all, &[true], undos)?;
+    check(&rt, alloc, &all, &of_bounds, &before, &Ok(before))?;
     Ok(())
 }
 
 #[test]
 fn a_reduced_point_has_its_place(rt: HostRuntime) -> Result<(), Fail> {
     let alloc = rt.alloc();
-    let records = records(alloc, [true, false, true], Vec::new(alloc))?;
+    let undos = vec![in alloc; fixed(alloc, 1, ONE)]?;
+    let records = records(&rt, alloc, &[true, false, true], &[], undos)?;
     let reduced = point(alloc, &[(7, 1), (8, 3)])?;
     let buffer = PointBuf::new(alloc, &records, &reduced)?;
     assert!(rt; is_at(&buffer, &[(7, 1), ZERO, (8, 3)]));

@@ -4,12 +4,13 @@
 //! order, but for those of which a part that they read has changed since. What a round finds beyond the round before lies where something
 //! has changed, and what it finds again is what was refused. So a round looks at these rows and columns alone, and finds what a look at all would.
 
-ghost use Rattle.std.specs.Prelude.{◌≡◌, ◌≤◌, IfOk};
+ghost use Rattle.std.specs.Prelude.{◌≡◌, ◌≤◌, ◌<◌, [], IfOk, OnOk, true};
+ghost use Rattle.singleton_rules.specs.Enabled.{enabled};
 
 use crate::ids::Ids;
 use crate::proposal::Proposal;
 use fractions::Numbers;
-use singleton_rules::{Refusal, Rule, apply, is_enabled, scan};
+use singleton_rules::{Instance, Refusal, Rule, apply, is_enabled, scan};
 use sparse_problem::Problem;
 use std::alloc::{AllocError, Global};
 use undo_records::Undo;
@@ -34,7 +35,7 @@ pub struct Run {
 }
 
 impl Run {
-    ghost use Rattle.presolve_rounds.specs.Runs.{applied_by, GoesOn, TellsEnd};
+    ghost use Rattle.presolve_rounds.specs.Runs.{applied_by, GoesOn, StaysRun, TellsEnd};
 
     /// A run that has applied nothing.
     pub fn new(
@@ -44,7 +45,9 @@ impl Run {
         limit: u64,
     ) -> Result<Run, AllocError>
         ensures limit { IfOk result (λ run. run.limit ≡ limit) }
-        ensures none { IfOk result (λ run. applied_by run ≡ 0) }
+        ensures none { IfOk result (λ run. run.undos.items ≡ []) }
+        ensures problem { IfOk result (λ run. run.problem ≡ problem) }
+        ensures numbers { IfOk result (λ run. run.numbers ≡ numbers) }
     {
         let found = Ids::below(alloc, problem.rows() as u32, problem.columns() as u32)?;
         Ok(Run {
@@ -67,7 +70,8 @@ impl Run {
     /// Rounds until one applies nothing, or until the limit.
     pub fn finish(&mut self, alloc: Global) -> Result<End, AllocError>
         requires { applied_by self.old ≤ self.old.limit }
-        ensures { IfOk result (λ end. TellsEnd end self.old.limit (applied_by self.new)) }
+        ensures end { IfOk result (λ end. TellsEnd end self.old.limit (applied_by self.new)) }
+        ensures run { OnOk result (StaysRun self.old self.new) }
     {
         while (self.undos.len() as u64) < self.limit {
             let before = self.undos.len();
@@ -81,7 +85,8 @@ impl Run {
 
     /// One round. Tells how many instances were refused.
     fn round(&mut self, alloc: Global) -> Result<u64, AllocError>
-        ensures { GoesOn self.old self.new }
+        ensures on { GoesOn self.old self.new }
+        ensures run { OnOk result (StaysRun self.old self.new) }
     {
         let proposals = self.proposals(alloc)?;
         let mut next = Ids::new(alloc);
@@ -127,7 +132,8 @@ impl Run {
         proposal: &Proposal,
         next: &mut Ids,
     ) -> Result<bool, AllocError>
-        ensures { GoesOn self.old self.new }
+        ensures on { GoesOn self.old self.new }
+        ensures run { OnOk result (StaysRun self.old self.new) }
     {
         let instance = proposal.instance();
         if self.undos.len() as u64 >= self.limit
@@ -136,7 +142,22 @@ impl Run {
         {
             return Ok(false);
         }
-        self.undos.reserve(1)?;
+        self.reduce(alloc, instance, next)
+    }
+
+    /// Applies an enabled instance, and keeps its record. Tells whether it was refused.
+    #[tactic(auto, using(crate::proofs::Running::run_goes_on, crate::proofs::Running::run_same))]
+    fn reduce(
+        &mut self,
+        alloc: Global,
+        instance: Instance,
+        next: &mut Ids,
+    ) -> Result<bool, AllocError>
+        requires enabled { enabled self.old.problem instance ≡ true }
+        requires room { applied_by self.old < self.old.limit }
+        ensures on { GoesOn self.old self.new }
+        ensures run { OnOk result (StaysRun self.old self.new) }
+    {
         match apply(&mut self.problem, alloc, instance, self.numbers) {
             Ok(undo) => {
                 next.add_changed(&self.problem, &undo)?;

@@ -6,19 +6,17 @@ use fractions::Numbers;
 use fractions::ext::Ext;
 use fractions::frac::Frac;
 use fractions::whole::Whole;
-use lp_model::{ColumnDef, Name, Program, RowDef, Sense, Term, Terms, names_differ};
+use lp_model::{Program, Term, Terms};
+use mps_reader::{Dialect, Format, MpsError, read_mps};
 use sparse_problem::Problem;
 use std::alloc::{AllocError, Global};
 use std::process::Abort;
 use std::test::Fail;
 use undo_records::{RowFate, Side, Undo};
 
-/// A program of columns from 0 on, and what becomes of it.
+/// A program, and what becomes of it.
 struct Case<'a> {
-    sense: Sense,
-    sides: &'a [(Option<i32>, Option<i32>)],
-    /// Costs and entries.
-    columns: &'a [(i32, &'a [(u32, i32)])],
+    text: &'a str,
     limit: u64,
     /// The rules by number, with their row and column.
     applied: &'a [(u8, u32, u32)],
@@ -32,46 +30,38 @@ fn number(n: i32) -> Frac {
     Frac::whole(Whole::new(i128::from(n)))
 }
 
-fn end_at(n: Option<i32>) -> Ext {
-    match n {
-        None => Ext::none(),
-        Some(n) => Ext::at(number(n)),
+/// How the texts are read.
+const DIALECT: Dialect = Dialect {
+    format: Format::Free,
+    numbers: Numbers::Decimal,
+};
+
+/// The reduced program of a text. No text has a fault.
+fn reduced(alloc: Global, text: &str, limit: u64) -> Result<Presolved, MpsError> {
+    if text.len() >= 1 << 32 {
+        return Err(MpsError::NoMemory);
+    }
+    let program = read_mps(alloc, text.as_bytes(), DIALECT)?;
+    let options = Options {
+        numbers: Numbers::Decimal,
+        limit,
+    };
+    match presolve(alloc, program, &options) {
+        Ok(made) => Ok(made),
+        Err(AllocError) => Err(MpsError::NoMemory),
     }
 }
 
-/// The names of rows, and of columns. No case has more of either.
-const NAMES: [&[u8]; 3] = [b"first", b"second", b"third"];
-
-fn program(rt: &impl Abort, alloc: Global, case: &Case<'_>) -> Result<Program, AllocError> {
-    let mut rows = Vec::new(alloc);
-    for (name, (lower, upper)) in NAMES.iter().zip(case.sides) {
-        rows.push(RowDef {
-            name: Name::from_slice(alloc, name)?,
-            lower: end_at(*lower),
-            upper: end_at(*upper),
-        })?;
+/// The problem of a text.
+fn problem_of(alloc: Global, text: &str) -> Result<Problem, MpsError> {
+    if text.len() >= 1 << 32 {
+        return Err(MpsError::NoMemory);
     }
-    let mut columns = Vec::new(alloc);
-    for (name, (cost, entries)) in NAMES.iter().zip(case.columns) {
-        let mut terms = Vec::new(alloc);
-        for (id, value) in *entries {
-            terms.push(Term {
-                id: *id,
-                value: number(*value),
-            })?;
-        }
-        columns.push(ColumnDef {
-            name: Name::from_slice(alloc, name)?,
-            cost: number(*cost),
-            lower: Ext::at(Frac::zero()),
-            upper: Ext::none(),
-            whole: false,
-            entries: Terms::new(terms),
-        })?;
+    let program = read_mps(alloc, text.as_bytes(), DIALECT)?;
+    match Problem::from_program(alloc, &program) {
+        Ok(problem) => Ok(problem),
+        Err(AllocError) => Err(MpsError::NoMemory),
     }
-    let objective = Name::from_slice(alloc, b"cost")?;
-    assert!(rt; names_differ(&objective, rows.as_slice(), columns.as_slice()));
-    Ok(Program::new(case.sense, objective, number(7), rows, columns))
 }
 
 /// The number of a rule, with its row and column.
@@ -112,70 +102,131 @@ fn check(rt: &impl Abort, case: &Case<'_>, made: &Presolved) {
 
 const FIXPOINT: End = End::Fixpoint { skipped: 0 };
 
-/// x in both rows, y in the second.
-const CHAIN: &[(i32, &[(u32, i32)])] = &[(1, &[(0, 1), (1, 1)]), (2, &[(1, 1)])];
+/// min x + 2y + 7; x = 3; x + y >= 5
+const CHAIN: &str = "NAME
+ROWS
+ N cost
+ E first
+ G second
+COLUMNS
+ x cost 1
+ x first 1
+ x second 1
+ y cost 2
+ y second 1
+RHS
+ RHS cost -7
+ RHS first 3
+ RHS second 5
+ENDATA
+";
+
+/// The same for max.
+const GREATEST: &str = "NAME
+OBJSENSE
+ MAX
+ROWS
+ N cost
+ E first
+ G second
+COLUMNS
+ x cost 1
+ x first 1
+ x second 1
+ y cost 2
+ y second 1
+RHS
+ RHS cost -7
+ RHS first 3
+ RHS second 5
+ENDATA
+";
+
+/// min -x + 7; 3x <= 1: 1/3 is no decimal number
+const THIRD: &str = "NAME
+ROWS
+ N cost
+ L first
+COLUMNS
+ x cost -1
+ x first 3
+RHS
+ RHS cost -7
+ RHS first 1
+ENDATA
+";
+
+/// min x + 7; -2x >= -4 gives x <= 2; 0 >= -1 has no entries
+const HALVED: &str = "NAME
+ROWS
+ N cost
+ G first
+ G second
+COLUMNS
+ x cost 1
+ x first -2
+RHS
+ RHS cost -7
+ RHS first -4
+ RHS second -1
+ENDATA
+";
+
+/// Nothing at all but the constant 7.
+const NOTHING: &str = "NAME
+ROWS
+ N cost
+COLUMNS
+RHS
+ RHS cost -7
+ENDATA
+";
 
 const CASES: [Case<'static>; 6] = [
-    // min x + 2y; x = 3; x + y >= 5
     Case {
-        sense: Sense::Min,
-        sides: &[(Some(3), Some(3)), (Some(5), None)],
-        columns: CHAIN,
+        text: CHAIN,
         limit: 100,
         applied: &[(2, 0, 0), (3, 0, 0), (2, 1, 1)],
         offset: 3,
         end: FIXPOINT,
         left: (0, 1),
     },
-    // the same for max: costs and offset in the file's sense
+    // costs and offset are in the file's sense
     Case {
-        sense: Sense::Max,
-        sides: &[(Some(3), Some(3)), (Some(5), None)],
-        columns: CHAIN,
+        text: GREATEST,
         limit: 100,
         applied: &[(2, 0, 0), (3, 0, 0), (2, 1, 1)],
         offset: 3,
         end: FIXPOINT,
         left: (0, 1),
     },
-    // the same, cut off
+    // cut off
     Case {
-        sense: Sense::Min,
-        sides: &[(Some(3), Some(3)), (Some(5), None)],
-        columns: CHAIN,
+        text: CHAIN,
         limit: 1,
         applied: &[(2, 0, 0)],
         offset: 0,
         end: End::LimitReached,
         left: (1, 2),
     },
-    // min -x; 3x <= 1: 1/3 is no decimal number
     Case {
-        sense: Sense::Min,
-        sides: &[(None, Some(1))],
-        columns: &[(-1, &[(0, 3)])],
+        text: THIRD,
         limit: 100,
         applied: &[],
         offset: 0,
         end: End::Fixpoint { skipped: 1 },
         left: (1, 1),
     },
-    // -2x >= -4 gives x <= 2; 0 >= -1 has no entries
     Case {
-        sense: Sense::Min,
-        sides: &[(Some(-4), None), (Some(-1), None)],
-        columns: &[(1, &[(0, -2)])],
+        text: HALVED,
         limit: 100,
         applied: &[(1, 1, 0), (2, 0, 0)],
         offset: 0,
         end: FIXPOINT,
         left: (0, 1),
     },
-    // nothing at all
     Case {
-        sense: Sense::Min,
-        sides: &[],
-        columns: &[],
+        text: NOTHING,
         limit: 100,
         applied: &[],
         offset: 0,
@@ -188,31 +239,33 @@ const CASES: [Case<'static>; 6] = [
 fn reduces_programs(rt: HostRuntime) -> Result<(), Fail> {
     let alloc = rt.alloc();
     for case in &CASES {
-        let options = Options {
-            numbers: Numbers::Decimal,
-            limit: case.limit,
-        };
-        let made = presolve(alloc, program(&rt, alloc, case)?, &options)?;
-        check(&rt, case, &made);
+        match reduced(alloc, case.text, case.limit) {
+            Ok(made) => check(&rt, case, &made),
+            Err(_) => panic!(rt; "no program"),
+        }
     }
     Ok(())
 }
 
 /// x in the first two rows, y in the first and the third, z in the second and the third.
-const TRIANGLE: Case<'static> = Case {
-    sense: Sense::Min,
-    sides: &[(Some(0), None), (Some(0), None), (Some(0), None)],
-    columns: &[
-        (1, &[(0, 1), (1, 1)]),
-        (1, &[(0, 1), (2, 1)]),
-        (1, &[(1, 1), (2, 1)]),
-    ],
-    limit: 0,
-    applied: &[],
-    offset: 0,
-    end: End::LimitReached,
-    left: (3, 3),
-};
+const TRIANGLE: &str = "NAME
+ROWS
+ N cost
+ G first
+ G second
+ G third
+COLUMNS
+ x cost 1
+ x first 1
+ x second 1
+ y cost 1
+ y first 1
+ y third 1
+ z cost 1
+ z second 1
+ z third 1
+ENDATA
+";
 
 /// The rows and the columns that the record of each kind says to look at again, with y deleted. K14 has two, for a row that is kept and
 /// one that is dropped.
@@ -364,7 +417,10 @@ fn records_from_free(alloc: Global) -> Result<Vec<Undo>, Fail> {
 #[test]
 fn looks_again_where_a_record_changed(rt: HostRuntime) -> Result<(), Fail> {
     let alloc = rt.alloc();
-    let mut problem = Problem::from_program(alloc, &program(&rt, alloc, &TRIANGLE)?)?;
+    let mut problem = match problem_of(alloc, TRIANGLE) {
+        Ok(problem) => problem,
+        Err(_) => panic!(rt; "no program"),
+    };
     assert!(rt; problem.is_column_live(1));
     problem.delete_column(1);
     let mut undos = records_to_forcing(alloc)?;

@@ -13,39 +13,76 @@ const TWO_COLUMNS: &[u8] =
 
 /// A maximum, and numbers of each form: in records 5/2 and -1/3, in the offset -2.5.
 const EACH_FORM: &[u8] =
-    b"papilo-records 1\nsense max\nduals no\ncolumns 1\ngone long~name\nrows 2\ngone a\nlive b\noffset -2.5\nrecords 3\nK1 0\nK2 1 0 -1/3 -inf 5/2\nK3 0 5/2 -1 2 0 -1/3 1 170141183460469231731687303715884105727\nend\n";
+    b"papilo-records 1\nsense max\nduals no\ncolumns 1\ngone long~name\nrows 3\ngone a\nlive b\ngone c\noffset -2.5\nrecords 3\nK2 2 0 -1/3 -inf 5/2\nK3 0 5/2 -1 2 0 -1/3 1 170141183460469231731687303715884105727\nK1 0\nend\n";
 
-/// What stands in front of the records where there are no rows and no columns.
-const BARE: &[u8] =
-    b"papilo-records 1\nsense min\nduals no\ncolumns 0\nrows 0\noffset 0\nrecords 20\n";
+/// Columns that a record of each kind leaves live.
+const COLUMNS: [(&[u8], bool); 10] = [
+    (b"x0", true),
+    (b"x1", false),
+    (b"x2", false),
+    (b"x3", false),
+    (b"x4", true),
+    (b"x5", false),
+    (b"x6", true),
+    (b"x7", false),
+    (b"x8", false),
+    (b"x9", true),
+];
+
+/// Rows that a record of each kind leaves live.
+const ROWS: [(&[u8], bool); 11] = [
+    (b"r0", true),
+    (b"r1", false),
+    (b"r2", false),
+    (b"r3", false),
+    (b"r4", false),
+    (b"r5", false),
+    (b"r6", true),
+    (b"r7", false),
+    (b"r8", false),
+    (b"r9", false),
+    (b"r10", false),
+];
+
+/// What stands in front of the records of these columns and rows.
+const HEAD: &[u8] =
+    b"papilo-records 1\nsense min\nduals no\ncolumns 10\nlive x0\ngone x1\ngone x2\ngone x3\nlive x4\ngone x5\nlive x6\ngone x7\ngone x8\nlive x9\nrows 11\nlive r0\ngone r1\ngone r2\ngone r3\ngone r4\ngone r5\nlive r6\ngone r7\ngone r8\ngone r9\ngone r10\noffset 0\nrecords 20\n";
 
 /// The line of each kind of record, and of each word that a kind has for a side or a row.
 const LINES: [&[u8]; 20] = [
     b"K1 4",
     b"K2 3 2 -1/2 -inf 7",
-    b"K3 1 5/2 -3 2 0 1 4 -1/3",
+    b"K3 1 5/2 -3 2 0 1 6 -1/3",
     b"K4 6",
     b"K5 5",
     b"K6 8",
     b"K7 1 L 2 0 1 3 -2",
     b"K7 2 U 0",
-    b"K8 1 2 lower -inf 2 2 3 4 1",
-    b"K8 3 4 upper 9/2 1 4 -1",
-    b"K9 3 5",
+    b"K8 6 2 lower -inf 2 2 3 4 1",
+    b"K8 7 4 upper 9/2 1 4 -1",
+    b"K9 6 5",
     b"K10 7",
-    b"K11 2 5 3",
-    b"K12 1 2 3 4 -5 6 0 inf 7 1 0 8",
-    b"K13 3 1 2 5 -1/2 2 4 3 6 1/7",
-    b"K14 2 6 1 -4 -inf 9 0 5/2 keep 1 3 8",
-    b"K14 3 7 2 0 -1 3 -inf inf drop 0",
-    b"K15 4 5 -2 0 inf 1 1 3",
-    b"K16 1 2 3 0 4 -inf 5",
+    b"K11 6 5 3",
+    b"K12 7 2 3 4 -5 6 0 inf 7 1 0 8",
+    b"K13 3 8 2 5 -1/2 2 4 3 6 1/7",
+    b"K14 5 9 1 -4 -inf 9 0 5/2 keep 1 6 8",
+    b"K14 7 10 2 0 -1 3 -inf inf drop 0",
+    b"K15 9 6 -2 0 inf 1 4 3",
+    b"K16 8 6 3 0 4 -inf 5",
     b"K17 9",
 ];
 
 fn label(alloc: Global, name: &[u8], live: bool) -> Result<Label, AllocError> {
     let name = Name::from_slice(alloc, name)?;
     Ok(Label { name, live })
+}
+
+fn labels(alloc: Global, cases: &[(&[u8], bool)]) -> Result<Vec<Label>, AllocError> {
+    let mut labels = Vec::new(alloc);
+    for (name, live) in cases {
+        labels.push(label(alloc, name, *live)?)?;
+    }
+    Ok(labels)
 }
 
 fn number(text: &[u8]) -> Result<Frac, Fail> {
@@ -105,8 +142,8 @@ fn writes_a_run(rt: HostRuntime) -> Result<(), Fail> {
         fixed(alloc, b"3", b"1", &entries)?,
         singleton(1, 1)?,
     ]?;
-    let records = Records::new(Sense::Min, columns, rows, number(b"3")?, undos);
-    let text = write_records(alloc, &records)?;
+    let records = Records::checked(alloc, Sense::Min, columns, rows, number(b"3")?, undos)?;
+    let text = write_records(alloc, &records.expect(&rt, "sound records"))?;
     assert!(rt; text.as_slice() == TWO_COLUMNS);
     Ok(())
 }
@@ -115,7 +152,11 @@ fn writes_a_run(rt: HostRuntime) -> Result<(), Fail> {
 fn writes_each_form(rt: HostRuntime) -> Result<(), Fail> {
     let alloc = rt.alloc();
     let columns = vec![in alloc; label(alloc, b"long~name", false)?]?;
-    let rows = vec![in alloc; label(alloc, b"a", false)?, label(alloc, b"b", true)?]?;
+    let rows = vec![in alloc;
+        label(alloc, b"a", false)?,
+        label(alloc, b"b", true)?,
+        label(alloc, b"c", false)?,
+    ]?;
     let third = number(b"-1/3")?;
     let largest = number(b"170141183460469231731687303715884105727")?;
     let entries = [
@@ -129,19 +170,19 @@ fn writes_each_form(rt: HostRuntime) -> Result<(), Fail> {
         },
     ];
     let bounded = Undo::SingletonRow {
-        row: 1,
+        row: 2,
         column: 0,
         value: third,
         lower: Ext::none(),
         upper: Ext::at(number(b"2.5")?),
     };
     let undos = vec![in alloc;
-        Undo::EmptyRow { row: 0 },
         bounded,
         fixed(alloc, b"2.5", b"-1", &entries)?,
+        Undo::EmptyRow { row: 0 },
     ]?;
-    let records = Records::new(Sense::Max, columns, rows, number(b"-2.5")?, undos);
-    let text = write_records(alloc, &records)?;
+    let records = Records::checked(alloc, Sense::Max, columns, rows, number(b"-2.5")?, undos)?;
+    let text = write_records(alloc, &records.expect(&rt, "sound records"))?;
     assert!(rt; text.as_slice() == EACH_FORM);
     Ok(())
 }
@@ -161,7 +202,7 @@ fn records_to_forcing(alloc: Global) -> Result<Vec<Undo>, Fail> {
             column: 1,
             value: number(b"5/2")?,
             cost: number(b"-3")?,
-            entries: terms(alloc, &[(0, b"1"), (4, b"-1/3")])?
+            entries: terms(alloc, &[(0, b"1"), (6, b"-1/3")])?
         },
         Undo::RoundBounds { column: 6 },
         Undo::RedundantRow { row: 5 },
@@ -183,23 +224,23 @@ fn records_to_forcing(alloc: Global) -> Result<Vec<Undo>, Fail> {
 fn records_to_dominated(alloc: Global) -> Result<Vec<Undo>, Fail> {
     Ok(vec![in alloc;
         Undo::TightenBound {
-            row: 1,
+            row: 6,
             column: 2,
             side: Side::Lower,
             bound: end_at(b"-inf")?,
             entries: terms(alloc, &[(2, b"3"), (4, b"1")])?
         },
         Undo::TightenBound {
-            row: 3,
+            row: 7,
             column: 4,
             side: Side::Upper,
             bound: end_at(b"9/2")?,
             entries: terms(alloc, &[(4, b"-1")])?
         },
-        Undo::TightenCoefficient { row: 3, column: 5 },
+        Undo::TightenCoefficient { row: 6, column: 5 },
         Undo::DualFix { column: 7 },
         Undo::Dominated {
-            row: 2,
+            row: 6,
             better: 5,
             column: 3
         },
@@ -210,7 +251,7 @@ fn records_to_dominated(alloc: Global) -> Result<Vec<Undo>, Fail> {
 fn records_to_free(alloc: Global) -> Result<Vec<Undo>, Fail> {
     Ok(vec![in alloc;
         Undo::Doubleton {
-            row: 1,
+            row: 7,
             column: 2,
             kept: 3,
             value: number(b"4")?,
@@ -223,7 +264,7 @@ fn records_to_free(alloc: Global) -> Result<Vec<Undo>, Fail> {
         },
         Undo::FreeSingleton {
             column: 3,
-            row: 1,
+            row: 8,
             value: number(b"2")?,
             at: number(b"5")?,
             price: number(b"-1/2")?,
@@ -236,8 +277,8 @@ fn records_to_free(alloc: Global) -> Result<Vec<Undo>, Fail> {
 fn slack_records(alloc: Global) -> Result<Vec<Undo>, Fail> {
     Ok(vec![in alloc;
         Undo::SlackSingleton {
-            column: 2,
-            row: 6,
+            column: 5,
+            row: 9,
             value: number(b"1")?,
             price: number(b"-4")?,
             lower_side: end_at(b"-inf")?,
@@ -245,11 +286,11 @@ fn slack_records(alloc: Global) -> Result<Vec<Undo>, Fail> {
             lower: end_at(b"0")?,
             upper: end_at(b"5/2")?,
             fate: RowFate::Kept,
-            entries: terms(alloc, &[(3, b"8")])?
+            entries: terms(alloc, &[(6, b"8")])?
         },
         Undo::SlackSingleton {
-            column: 3,
-            row: 7,
+            column: 7,
+            row: 10,
             value: number(b"2")?,
             price: number(b"0")?,
             lower_side: end_at(b"-1")?,
@@ -266,16 +307,16 @@ fn slack_records(alloc: Global) -> Result<Vec<Undo>, Fail> {
 fn parallel_records(alloc: Global) -> Result<Vec<Undo>, Fail> {
     Ok(vec![in alloc;
         Undo::ParallelRows {
-            row: 4,
-            kept: 5,
+            row: 9,
+            kept: 6,
             factor: number(b"-2")?,
             lower: end_at(b"0")?,
             upper: end_at(b"inf")?,
-            entries: terms(alloc, &[(1, b"3")])?
+            entries: terms(alloc, &[(4, b"3")])?
         },
         Undo::ParallelColumns {
-            column: 1,
-            kept: 2,
+            column: 8,
+            kept: 6,
             factor: number(b"3")?,
             lower: end_at(b"0")?,
             upper: end_at(b"4")?,
@@ -288,7 +329,7 @@ fn parallel_records(alloc: Global) -> Result<Vec<Undo>, Fail> {
 
 /// The record text of these lines.
 fn text_of(alloc: Global, lines: &[&[u8]]) -> Result<Vec<u8>, AllocError> {
-    let mut text = Vec::from_slice(alloc, BARE)?;
+    let mut text = Vec::from_slice(alloc, HEAD)?;
     for line in lines {
         text.extend_from_slice(line)?;
         text.extend_from_slice(b"\n")?;
@@ -305,14 +346,10 @@ fn writes_each_kind(rt: HostRuntime) -> Result<(), Fail> {
     undos.append(&mut records_to_free(alloc)?)?;
     undos.append(&mut slack_records(alloc)?)?;
     undos.append(&mut parallel_records(alloc)?)?;
-    let records = Records::new(
-        Sense::Min,
-        Vec::new(alloc),
-        Vec::new(alloc),
-        Frac::zero(),
-        undos,
-    );
-    let text = write_records(alloc, &records)?;
+    let columns = labels(alloc, &COLUMNS)?;
+    let rows = labels(alloc, &ROWS)?;
+    let records = Records::checked(alloc, Sense::Min, columns, rows, Frac::zero(), undos)?;
+    let text = write_records(alloc, &records.expect(&rt, "sound records"))?;
     assert!(rt; text == text_of(alloc, &LINES)?);
     Ok(())
 }

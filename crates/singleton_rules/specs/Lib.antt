@@ -3,3 +3,4 @@ pub mod Enabled
 pub mod Singletons
 pub mod FixedColumns
 pub mod Records
+pub mod Flags

@@ -1,6 +1,9 @@
 //! Tests of sides and bounds.
 
-ghost use Rattle.std.specs.Prelude.{◌≡◌};
+ghost use Rattle.std.specs.Prelude.{◌≡◌, ◌↔◌, IsTrue, IfSome};
+ghost use Rattle.rational.specs.Order.{◌<ℚ◌};
+ghost use Rattle.rational.specs.Decimal.{Decimal};
+ghost use Rattle.lp_model.specs.Writable.{IsNear, WritableNumber};
 ghost use Rattle.singleton_rules.specs.Sides.{is_in_order, holds_zero as holds_zero_of, is_fixed as is_fixed_at};
 
 use fractions::Numbers;
@@ -43,27 +46,53 @@ pub fn is_fixed(lower: &Ext, upper: &Ext, whole: bool) -> bool
     }
 }
 
+/// Whether a number is below another.
+fn is_below(number: &Frac, limit: &Frac) -> bool
+    ensures { IsTrue result ↔ (number.now <ℚ limit.now) }
+{
+    number.lt(limit)
+}
+
+/// Whether a number's magnitude is below 10^20.
+fn is_near(number: &Frac) -> bool
+    ensures { IsTrue result ↔ IsNear number.now }
+{
+    let limit = Frac::whole(Whole::natural(100_000_000_000_000_000_000));
+    is_below(&limit.neg(), number) && is_below(number, &limit)
+}
+
 /// Whether a bound's magnitude is below 10^20, as a finite bound's must be.
-pub fn is_small(end: &Ext) -> bool {
+pub fn is_small(end: &Ext) -> bool
+    ensures { IsTrue result ↔ IfSome end.now IsNear }
+{
     match end.number() {
         None => true,
-        Some(number) => {
-            let limit = Frac::whole(Whole::natural(100_000_000_000_000_000_000));
-            number.lt(&limit) && limit.neg().lt(&number)
-        }
+        Some(number) => is_near(&number),
     }
 }
 
+/// Whether a number has at most 38 decimals.
+fn has_places(number: &Frac) -> bool
+    ensures { IsTrue result ↔ Decimal number.now }
+{
+    is_decimal(number)
+}
+
 /// Whether a number may be written.
-pub fn can_write(numbers: Numbers, number: &Frac) -> bool {
+fn can_write(numbers: Numbers, number: &Frac) -> bool
+    ensures { IsTrue result ↔ WritableNumber numbers number.now }
+{
+    let _ = number.parts();
     match numbers {
-        Numbers::Decimal => is_decimal(number),
+        Numbers::Decimal => has_places(number),
         Numbers::Fractions => true,
     }
 }
 
 /// Whether an end may be written.
-pub fn can_write_end(numbers: Numbers, end: &Ext) -> bool {
+pub fn can_write_end(numbers: Numbers, end: &Ext) -> bool
+    ensures { IsTrue result ↔ IfSome end.now (WritableNumber numbers) }
+{
     match end.number() {
         None => true,
         Some(number) => can_write(numbers, &number),

@@ -1,13 +1,16 @@
 //! K3: a fixed column.
 
-ghost use Rattle.std.specs.Prelude.{◌≡◌, OnErr, IfOk, true, All, Some};
-ghost use Rattle.singleton_rules.specs.FixedColumns.{shifted_of, width};
+ghost use Rattle.std.specs.Prelude.{◌≡◌, ◌↔◌, ◌++◌, ◌∷◌, [], OnErr, OnOk, IfOk, IsTrue, true, All, Some};
+ghost use Rattle.fractions.specs.declared.Numbers.{Numbers};
+ghost use Rattle.lp_model.specs.Writable.{WritableSides};
+ghost use Rattle.sparse_problem.specs.Writable.{WritableProblem};
+ghost use Rattle.singleton_rules.specs.FixedColumns.{IsShifted, shifted_of, width, WidthFits, WritableParts};
 ghost use Rattle.singleton_rules.specs.Enabled.{enabled};
 ghost use Rattle.singleton_rules.specs.Records.{Applies};
 ghost use Rattle.singleton_rules.specs.declared.instance.Instance.TheVariants.{FixedColumn};
 ghost use Rattle.sparse_problem.specs.Problems.{row_at, SidesAlone};
 
-use crate::ends::{can_write, can_write_end};
+use crate::ends::can_write_end;
 use crate::instance::Refusal;
 use fractions::ends::less;
 use fractions::ext::Ext;
@@ -29,7 +32,8 @@ struct NewSides {
 
 /// The width between two finite ends that differ. Past where it is, or where the upper end as the lower one plus the width is.
 fn width_of(lower: &Ext, upper: &Ext) -> Result<Ext, Past>
-    ensures { IfOk result (λ w. w ≡ width lower.now upper.now) }
+    ensures value { IfOk result (λ w. w ≡ width lower.now upper.now) }
+    ensures room { OnOk result (WidthFits lower.now upper.now) }
 {
     match lower.number() {
         None => Ok(Ext::none()),
@@ -42,7 +46,8 @@ fn width_of(lower: &Ext, upper: &Ext) -> Result<Ext, Past>
 
 /// The width between two numbers, if they differ.
 fn finite_width(from: &Frac, to: &Frac) -> Result<Ext, Past>
-    ensures { IfOk result (λ w. w ≡ width (Some from.now) (Some to.now)) }
+    ensures value { IfOk result (λ w. w ≡ width (Some from.now) (Some to.now)) }
+    ensures room { OnOk result (WidthFits (Some from.now) (Some to.now)) }
 {
     if from.is_same(to) {
         return Ok(Ext::none());
@@ -54,7 +59,8 @@ fn finite_width(from: &Frac, to: &Frac) -> Result<Ext, Past>
 
 /// The sides of a row less its entry times the value. A side that is infinite stays.
 fn less_term(sides: &Sides, term: &Term, value: &Frac) -> Result<NewSides, Past>
-    ensures { IfOk result (λ s. s ≡ shifted_of sides.now term.now value.now) }
+    ensures value { IfOk result (λ s. s ≡ shifted_of sides.now term.now value.now) }
+    ensures room { IfOk result (λ s. WidthFits s.lower s.upper) }
 {
     let product = term.value.mul(value)?;
     let lower = less(&sides.lower, &product)?;
@@ -69,10 +75,54 @@ fn less_term(sides: &Sides, term: &Term, value: &Frac) -> Result<NewSides, Past>
 }
 
 /// Whether the numbers of a row's new sides may be written.
-fn can_write_sides(numbers: Numbers, sides: &NewSides) -> bool {
+fn can_write_sides(numbers: Numbers, sides: &NewSides) -> bool
+    ensures { IsTrue result ↔ WritableParts numbers sides.now }
+{
     can_write_end(numbers, &sides.lower)
         && can_write_end(numbers, &sides.upper)
         && can_write_end(numbers, &sides.width)
+}
+
+/// Whether the numbers of all new sides may be written.
+fn can_write_all(numbers: Numbers, all: &[NewSides]) -> bool
+    ensures { IsTrue result ↔ All (WritableParts numbers) all.now }
+{
+    for sides in all {
+        if !can_write_sides(numbers, sides) {
+            return false;
+        }
+    }
+    true
+}
+
+/// Lets new sides pass that may be written.
+///
+/// # Errors
+/// NotDecimal where a side or a width may not be written.
+fn admit(numbers: Numbers, all: &[NewSides]) -> Result<(), Refusal>
+    ensures { OnOk result (All (WritableParts numbers) all.now) }
+{
+    if can_write_all(numbers, all) {
+        Ok(())
+    } else {
+        Err(Refusal::NotDecimal)
+    }
+}
+
+/// The new sides of the row of a term, where its column is fixed.
+fn new_sides(problem: &Problem, term: &Term, value: &Frac) -> Result<NewSides, Past>
+    requires { (row_at problem.now term.now.id).live ≡ true }
+    ensures { IfOk result (λ s. IsShifted problem.now value.now s) }
+{
+    less_term(&problem.sides(term.id), term, value)
+}
+
+/// Adds new sides at the end.
+fn keep(all: &mut Vec<NewSides>, sides: NewSides) -> Result<(), AllocError>
+    ensures { OnOk result (all.new.items ≡ all.old.items ++ sides ∷ []) }
+{
+    all.push(sides)?;
+    Ok(())
 }
 
 /// The new sides of the rows of a fixed column.
@@ -83,13 +133,12 @@ fn all_new_sides(
     value: &Frac,
 ) -> Result<Vec<NewSides>, Refusal>
     requires { All (λ t. (row_at problem.now t.id).live ≡ true) terms.now }
-    ensures { IfOk result (λ all. All (λ s. (row_at problem.now s.row).live ≡ true) all.items) }
+    ensures { IfOk result (λ all. All (IsShifted problem.now value.now) all.items) }
 {
     let mut all = Vec::with_capacity(alloc, terms.len())?;
     for term in terms {
-        let sides = problem.sides(term.id);
-        let moved = less_term(&sides, term, value)?;
-        all.push(moved).map_err(AllocError::from)?;
+        let sides = new_sides(problem, term, value)?;
+        keep(&mut all, sides)?;
     }
     Ok(all)
 }
@@ -97,7 +146,8 @@ fn all_new_sides(
 /// Gives the rows their new sides.
 fn shift_rows(problem: &mut Problem, all: &[NewSides])
     requires { All (λ s. (row_at problem.old s.row).live ≡ true) all.now }
-    ensures { SidesAlone problem.old problem.new }
+    ensures alone { SidesAlone problem.old problem.new }
+    ensures writable { (numbers : Numbers) → All (λ s. WritableSides numbers s.lower s.upper) all.now → WritableProblem numbers problem.old → WritableProblem numbers problem.new }
 {
     for row in all {
         problem.set_sides(row.row, row.lower, row.upper);
@@ -117,6 +167,7 @@ pub fn substitute_value(
     requires { enabled problem.old (FixedColumn column) ≡ true }
     ensures refused { OnErr result (problem.new ≡ problem.old) }
     ensures applied { IfOk result (λ undo. Applies (FixedColumn column) problem.old undo problem.new) }
+    ensures writable { IfOk result (λ _. WritableProblem numbers problem.old → WritableProblem numbers problem.new) }
 {
     let bounds = problem.bounds(column);
     let value = bounds.lower.number().unwrap_or(Frac::zero());
@@ -124,9 +175,7 @@ pub fn substitute_value(
     let entries = problem.column_entries(alloc, column)?;
     let all = all_new_sides(alloc, problem, entries.as_slice(), &value)?;
     let offset = problem.offset().add(&cost.mul(&value)?)?;
-    if !all.iter().all(|sides| can_write_sides(numbers, sides)) {
-        return Err(Refusal::NotDecimal);
-    }
+    admit(numbers, all.as_slice())?;
     shift_rows(problem, all.as_slice());
     problem.delete_column(column);
     problem.set_offset(offset);

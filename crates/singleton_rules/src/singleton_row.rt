@@ -1,6 +1,8 @@
 //! K2: a row with one entry.
 
-ghost use Rattle.std.specs.Prelude.{◌≡◌, ◌≢◌, ◌↔◌, IfOk, IsOk, OnErr, true};
+ghost use Rattle.std.specs.Prelude.{◌≡◌, ◌≢◌, ◌↔◌, IfOk, IsOk, OnErr, OnOk, IfSome, IsTrue, true};
+ghost use Rattle.lp_model.specs.Writable.{IsNear, WritableNumber};
+ghost use Rattle.sparse_problem.specs.Writable.{WritableProblem};
 ghost use Rattle.fractions.specs.EndWords.{OverFits};
 ghost use Rattle.singleton_rules.specs.Singletons.{met_of, values_of};
 ghost use Rattle.rational.specs.Number.{zero_ℚ};
@@ -55,6 +57,37 @@ fn met(bounds: &Bounds, range: &Range) -> Range
     }
 }
 
+/// Whether no end is 10^20 or more in magnitude.
+fn are_small(range: &Range) -> bool
+    ensures { IsTrue result ↔ (IfSome range.now.lower IsNear × IfSome range.now.upper IsNear) }
+{
+    is_small(&range.lower) && is_small(&range.upper)
+}
+
+/// Whether both ends may be written.
+fn can_write_range(numbers: Numbers, range: &Range) -> bool
+    ensures { IsTrue result ↔ (IfSome range.now.lower (WritableNumber numbers) × IfSome range.now.upper (WritableNumber numbers)) }
+{
+    can_write_end(numbers, &range.lower) && can_write_end(numbers, &range.upper)
+}
+
+/// Lets bounds pass that may be a column's.
+///
+/// # Errors
+/// Past where a finite one is 10^20 or more in magnitude; else NotDecimal where one may not be written.
+fn admit(numbers: Numbers, range: &Range) -> Result<(), Refusal>
+    ensures small { OnOk result (IfSome range.now.lower IsNear × IfSome range.now.upper IsNear) }
+    ensures numbers { OnOk result (IfSome range.now.lower (WritableNumber numbers) × IfSome range.now.upper (WritableNumber numbers)) }
+{
+    if !are_small(range) {
+        return Err(Refusal::Past);
+    }
+    if !can_write_range(numbers, range) {
+        return Err(Refusal::NotDecimal);
+    }
+    Ok(())
+}
+
 /// Turns a row with one entry into bounds of that entry's column.
 ///
 /// # Errors
@@ -62,6 +95,7 @@ fn met(bounds: &Bounds, range: &Range) -> Range
 pub fn move_to_bounds(problem: &mut Problem, row: u32, numbers: Numbers) -> Result<Undo, Refusal>
     requires { enabled problem.old (SingletonRow row) ≡ true }
     ensures applied { IfOk result (λ undo. Applies (SingletonRow row) problem.old undo problem.new) }
+    ensures writable { IfOk result (λ _. WritableProblem numbers problem.old → WritableProblem numbers problem.new) }
     ensures refused { OnErr result (problem.new ≡ problem.old) }
 {
     let term = problem.sole_entry(row);
@@ -69,12 +103,7 @@ pub fn move_to_bounds(problem: &mut Problem, row: u32, numbers: Numbers) -> Resu
     let before = problem.bounds(column);
     let range = values_within(&problem.sides(row), &term)?;
     let after = met(&before, &range);
-    if !is_small(&after.lower) || !is_small(&after.upper) {
-        return Err(Refusal::Past);
-    }
-    if !can_write_end(numbers, &after.lower) || !can_write_end(numbers, &after.upper) {
-        return Err(Refusal::NotDecimal);
-    }
+    admit(numbers, &after)?;
     problem.set_bounds(column, after.lower, after.upper);
     problem.delete_row(row);
     Ok(Undo::SingletonRow {

@@ -5,6 +5,7 @@ use Rattle.std.proofs.lemmas.Bool.{ne_eqb, cases_eq, cases_lt}
 use Rattle.std.proofs.lemmas.List.{get_or-set_same, get_or-set_other, get_or_past, get_or_read, length-set, drop_all, take_at}
 use Rattle.std.proofs.lemmas.List.Sums.{sum_by-cons}
 use Rattle.lp_model.specs.declared.terms.Term.{Term}
+use Rattle.lp_model.specs.Sparse.{Ascends}
 use Rattle.sparse_problem.proofs.Losing.{sole_found, none_found}
 use Rattle.sparse_problem.specs.declared.matrix.Line.{Line}
 use Rattle.sparse_problem.specs.Grids.{Grid}
@@ -77,15 +78,20 @@ turned lines others m = record { rows = m.columns; columns = m.rows; agree = λ 
 pub names_same : (n m : ℕ) (ts us : List Term) → m ≡ n → us ≡ ts → Names n ts → Names m us
 names_same n m ts us e f h = subst (λ (k : ℕ). Names k us) (sym e) (subst (λ (vs : List Term). Names n vs) (sym f) h)
 
+pub ascends_same : (n m : ℕ) (ts us : List Term) → m ≡ n → us ≡ ts → Ascends 0 n ts → Ascends 0 m us
+ascends_same n m ts us e f h = subst (λ (k : ℕ). Ascends 0 k us) (sym e) (subst (λ (vs : List Term). Ascends 0 n vs) (sym f) h)
+
 pub deleted : (lines others new left : List Line) (i : ℕ) → IsMatrix (record { rows = lines; columns = others }) → (line_at lines i).live ≡ true
     → DeletesLine lines new i → Loses (line_at lines i).entries others left → IsMatrix (record { rows = new; columns = left })
 deleted lines others new left i m live d l = record {
   rows = record {
     named = λ k. names_same (length others) (length left) _ _ l.long (d.entries k) (m.rows.named k);
+    ascends = λ k. ascends_same (length others) (length left) _ _ l.long (d.entries k) (m.rows.ascends k);
     counted = λ k. d.counted k ∙ m.rows.counted k ∙ sym (live_same others left l.live (line_at lines k).entries) ∙ ap (λ (ts : List Term). live_terms left ts) (sym (d.entries k));
   };
   columns = record {
     named = λ k. names_same (length lines) (length new) _ _ d.long (l.entries k) (m.columns.named k);
+    ascends = λ k. ascends_same (length lines) (length new) _ _ d.long (l.entries k) (m.columns.ascends k);
     counted = λ k. left_counted k ∙ ap (λ (ts : List Term). live_terms new ts) (sym (l.entries k));
   };
   agree = λ a b. ap (λ (ts : List Term). times_named b ts) (d.entries a) ∙ m.agree a b ∙ ap (λ (ts : List Term). times_named a ts) (sym (l.entries b));

@@ -1,4 +1,8 @@
 pub mod Losing
+pub mod Ascending
 pub mod Deleting
 pub mod Transposing
 mod Naming
+mod Negatives
+mod Reducing
+pub mod Writing

@@ -1,16 +1,19 @@
 -- Columns turned into rows, term by term and column by column.
 use Rattle.std.proofs.Common.{◌≡◌, ◌≢◌, ℕ, zero, suc, ◌+◌, ◌<◌, ◌≤◌, Bool, true, false, nat_eq, cond, List, [], ◌∷◌, ◌++◌, length, map, take, drop, set, get_or, sym, refl, ap, ◌∙◌, subst, arith, ◌⊎◌, inl, inr, eq-eqb}
-use Rattle.std.specs.List.{count_by}
+use Rattle.std.specs.List.{All, count_by}
 use Rattle.std.proofs.lemmas.Bool.{ne_eqb, cases_eq, cases_lt}
 use Rattle.std.proofs.lemmas.List.{get_or-set_same, get_or-set_other, get_or_past, get_or_read, get_or_append_left, get_or_push, get_or-take, get_or-map, length-set, length_push, length-map, length-take-le, take_all}
+use Rattle.std.proofs.lemmas.List.Elements.{All-map}
 use Rattle.std.proofs.lemmas.List.Sums.{sum_by_push, sum_by-cons}
 use Rattle.rational.specs.Number.{zero_ℚ}
 use Rattle.lp_model.specs.declared.terms.Term.{Term}
+use Rattle.lp_model.specs.Sparse.{Ascends}
 use Rattle.sparse_problem.specs.declared.matrix.Line.{Line}
 use Rattle.sparse_problem.specs.Matrices.{no_line, no_term, line_at, times_named, live_terms, Names, Crosses, IsMatrix}
 use Rattle.sparse_problem.specs.Transposes.{terms_at, line_of, Scatters, IsTranspose}
 use Rattle.sparse_problem.proofs.Deleting.{written_back}
 use Rattle.sparse_problem.proofs.Losing.{bit, named_more, named_other}
+use Rattle.sparse_problem.proofs.Ascending.{names_of, ascends_push, ascends_wider, once}
 
 -- ---- one term more
 pub names_push : (n : ℕ) (ts : List Term) (t : Term) → Names n ts → t.id < n → t.value ≢ zero_ℚ → Names n (ts ++ t ∷ [])
@@ -27,13 +30,15 @@ pub names_wider : (n m : ℕ) (ts : List Term) → n ≤ m → Names n ts → Na
 names_wider n m ts l h k kl = let a = (h k kl).0 in (omega arith, (h k kl).1)
 
 pub scatters_none : (j : ℕ) (old : List (List Term)) → Scatters j [] old old
-scatters_none j old = record { long = refl; named = λ n i l h. h; own = λ i. omega arith; others = λ i k m. refl }
+scatters_none j old = record { long = refl; named = λ n i l h. h; ascends = λ i l h. ascends_wider 0 j (j + 1) (terms_at old i) (omega arith) h; kept = λ i h. refl; own = λ i. omega arith; others = λ i k m. refl }
 
 pub scatters_more : (j : ℕ) (old mid : List (List Term)) (ts : List Term) (n : ℕ) (t : Term) (y : List Term) → n < length ts → t ≡ get_or ts n t → t.id < length mid → t.value ≢ zero_ℚ
     → y ≡ terms_at mid t.id ++ (record { id = j; value = t.value } ∷ []) → Scatters j (take n ts) old mid → Scatters j (take (n + 1) ts) old (set mid t.id y)
 scatters_more j old mid ts n t y l e within some made s = record {
   long = length-set mid t.id y ∙ s.long;
   named = λ m i jm h. each_named m i jm (s.named m i jm h) (cases_eq i t.id);
+  ascends = λ i h a. each_ascends i h a (cases_eq i t.id);
+  kept = λ i h. each_kept i h (cases_eq i t.id);
   own = λ i. each_own i (cases_eq i t.id);
   others = λ i k ne. each_other i k ne (cases_eq i t.id);
 }
@@ -53,6 +58,21 @@ scatters_more j old mid ts n t y l e within some made s = record {
     each_named : (m i : ℕ) → j < m → Names m (terms_at mid i) → (i ≡ t.id) ⊎ (i ≢ t.id) → Names m (terms_at (set mid t.id y) i)
     each_named m i jm h (inl g) = subst (λ (us : List Term). Names m us) (sym (at i g)) (names_push m (terms_at mid i) entry h jm some)
     each_named m i jm h (inr g) = subst (λ (us : List Term). Names m us) (sym (off i g)) h
+
+    each_ascends : (i : ℕ) → times_named i (take (n + 1) ts) ≤ 1 → Ascends 0 j (terms_at old i) → (i ≡ t.id) ⊎ (i ≢ t.id) → Ascends 0 (j + 1) (terms_at (set mid t.id y) i)
+    each_ascends i h a (inl g) =
+        let more : times_named i (take (n + 1) ts) ≡ times_named i (take n ts) + 1 = rw g (named_more ts n t l e) in
+        let first : terms_at mid i ≡ terms_at old i = s.kept i (omega (arith, h, more)) in
+        subst (λ (us : List Term). Ascends 0 (j + 1) us) (sym (at i g ∙ ap (λ (us : List Term). us ++ entry ∷ []) first)) (ascends_push 0 j (terms_at old i) entry (omega arith) refl some a)
+    each_ascends i h a (inr g) =
+        let same = named_other i ts n t l e g in
+        subst (λ (us : List Term). Ascends 0 (j + 1) us) (sym (off i g)) (s.ascends i (omega (arith, h, same)) a)
+
+    each_kept : (i : ℕ) → times_named i (take (n + 1) ts) ≡ 0 → (i ≡ t.id) ⊎ (i ≢ t.id) → terms_at (set mid t.id y) i ≡ terms_at old i
+    each_kept i h (inl g) =
+        let more : times_named i (take (n + 1) ts) ≡ times_named i (take n ts) + 1 = rw g (named_more ts n t l e) in
+        absurd (omega (arith, h, more))
+    each_kept i h (inr g) = let same = named_other i ts n t l e g in off i g ∙ s.kept i (omega (arith, h, same))
 
     each_own : (i : ℕ) → (i ≡ t.id) ⊎ (i ≢ t.id) → times_named j (terms_at (set mid t.id y) i) ≡ times_named j (terms_at old i) + times_named i (take (n + 1) ts)
     each_own i (inl g) =
@@ -76,14 +96,16 @@ pub transpose_none : (count : ℕ) (rows : List (List Term)) → length rows ≡
 transpose_none count rows l h = record {
   long = l;
   named = λ i. subst (λ (us : List Term). Names 0 us) (sym (h i)) (λ k kl. absurd (omega arith));
+  ascends = λ i. subst (λ (us : List Term). Ascends 0 0 us) (sym (h i)) tt;
   agree = λ i j. ap (λ (us : List Term). times_named j us) (h i);
 }
 
-pub transpose_more : (count : ℕ) (rows new columns : List (List Term)) (n : ℕ) (ts : List Term) → n < length columns → ts ≡ terms_at columns n
+pub transpose_more : (count : ℕ) (rows new columns : List (List Term)) (n : ℕ) (ts : List Term) → n < length columns → ts ≡ terms_at columns n → Ascends 0 count ts
     → IsTranspose count rows (take n columns) → Scatters n ts rows new → IsTranspose count new (take (n + 1) columns)
-transpose_more count rows new columns n ts l e t s = record {
+transpose_more count rows new columns n ts l e a t s = record {
   long = s.long ∙ t.long;
   named = λ i. rw long' (s.named (n + 1) i (omega arith) (names_wider n (n + 1) (terms_at rows i) (omega arith) (rw long at (t.named i))));
+  ascends = λ i. rw long' (s.ascends i (once 0 count ts a i) (rw long at (t.ascends i)));
   agree = λ i k. each i k (cases_eq k n);
 }
   where
@@ -122,18 +144,19 @@ all_live others (t ∷ ts) h =
     let rest = all_live others ts (λ k kl. h (suc k) (omega arith)) in
     omega (arith, a, one, rest)
 
-pub crosses_of : (lists others : List (List Term)) → ((k : ℕ) → Names (length others) (terms_at lists k)) → Crosses (map line_of lists) (map line_of others)
+pub crosses_of : (lists others : List (List Term)) → ((k : ℕ) → Ascends 0 (length others) (terms_at lists k)) → Crosses (map line_of lists) (map line_of others)
 crosses_of lists others h = record {
-  named = λ k. subst (λ (us : List Term). Names (length (map line_of others)) us) (sym (at k).0) (rw (length-map others line_of) (h k));
-  counted = λ k. (at k).1 ∙ sym (all_live others (terms_at lists k) (h k)) ∙ ap (λ (us : List Term). live_terms (map line_of others) us) (sym (at k).0);
+  named = λ k. subst (λ (us : List Term). Names (length (map line_of others)) us) (sym (at k).0) (rw (length-map others line_of) (names_of 0 (length others) (terms_at lists k) (h k)));
+  ascends = λ k. subst (λ (us : List Term). Ascends 0 (length (map line_of others)) us) (sym (at k).0) (rw (length-map others line_of) (h k));
+  counted = λ k. (at k).1 ∙ sym (all_live others (terms_at lists k) (names_of 0 (length others) (terms_at lists k) (h k))) ∙ ap (λ (us : List Term). live_terms (map line_of others) us) (sym (at k).0);
 }
   where
     at : (k : ℕ) → ((line_at (map line_of lists) k).entries ≡ terms_at lists k) × ((line_at (map line_of lists) k).live_entries ≡ length (terms_at lists k))
     at k = line_of_at lists k (cases_lt k (length lists))
 
-pub matrix_of : (count : ℕ) (rows columns : List (List Term)) → ((j : ℕ) → Names count (terms_at columns j)) → IsTranspose count rows columns → IsMatrix (record { rows = map line_of rows; columns = map line_of columns })
+pub matrix_of : (count : ℕ) (rows columns : List (List Term)) → ((j : ℕ) → Ascends 0 count (terms_at columns j)) → IsTranspose count rows columns → IsMatrix (record { rows = map line_of rows; columns = map line_of columns })
 matrix_of count rows columns h t = record {
-  rows = crosses_of rows columns t.named;
+  rows = crosses_of rows columns t.ascends;
   columns = crosses_of columns rows (λ j. rw t.long (h j));
   agree = λ i j. ap (λ (us : List Term). times_named j us) (line_of_at rows i (cases_lt i (length rows))).0 ∙ t.agree i j ∙ ap (λ (us : List Term). times_named i us) (sym (line_of_at columns j (cases_lt j (length columns))).0);
 }
@@ -143,12 +166,16 @@ pub named_some : (ts : List Term) (n m : ℕ) (t : Term) → n < length ts → t
 named_some ts n m t l e h = subst (λ (u : Term). u.value ≢ zero_ℚ) (sym (get_or_read ts n t l e no_term)) (h n l).1
 
 -- one column more, through a slice of a vector
-pub transpose_back : (count m : ℕ) (rows new columns : List (List Term)) (n : ℕ) (ts : List Term) → length rows ≡ m → n < length columns → ts ≡ terms_at columns n
+pub transpose_back : (count m : ℕ) (rows new columns : List (List Term)) (n : ℕ) (ts : List Term) → length rows ≡ m → n < length columns → ts ≡ terms_at columns n → Ascends 0 count ts
     → IsTranspose count rows (take n columns) → Scatters n ts rows new → IsTranspose count (take m (new ++ drop (length new) rows)) (take (n + 1) columns)
-transpose_back count m rows new columns n ts lm l e t s = rw (written_back m new rows s.long lm) (transpose_more count rows new columns n ts l e t s)
+transpose_back count m rows new columns n ts lm l e a t s = rw (written_back m new rows s.long lm) (transpose_more count rows new columns n ts l e a t s)
 
 pub names_at : (count : ℕ) (rows slice : List (List Term)) (columns : List (List Term)) (n : ℕ) (u ts : List Term) → length rows ≡ count → slice ≡ rows → n < length columns → u ≡ get_or columns n u → ts ≡ u
-    → ((j : ℕ) → Names count (terms_at columns j)) → Names (length slice) ts
+    → ((j : ℕ) → Ascends 0 count (terms_at columns j)) → Names (length slice) ts
 names_at count rows slice columns n u ts lc se l ue te h =
     let a : length slice ≡ count = ap length se ∙ lc in
-    subst (λ (k : ℕ). Names k ts) (sym a) (subst (λ (us : List Term). Names count us) (sym (te ∙ get_or_read columns n u l ue [])) (h n))
+    subst (λ (k : ℕ). Names k ts) (sym a) (names_of 0 count ts (subst (λ (us : List Term). Ascends 0 count us) (sym (te ∙ get_or_read columns n u l ue [])) (h n)))
+
+-- lines are live
+pub lines_live : (lists : List (List Term)) → All (λ (y : Line). y.live ≡ true) (map line_of lists)
+lines_live lists = All-map (λ (y : Line). y.live ≡ true) line_of lists (λ k d l. refl)

@@ -4,3 +4,5 @@ pub mod Transposes
 pub mod Sparse
 pub mod Problems
 pub mod Kept
+pub mod Programs
+pub mod Writable

@@ -3,6 +3,7 @@ use Rattle.std.specs.Prelude.{◌≡◌, ◌≢◌, ℕ, ◌+◌, ◌<◌, ◌==
 use Rattle.std.specs.List.{filter}
 use Rattle.rational.specs.Number.{zero_ℚ}
 use Rattle.lp_model.specs.declared.terms.Term.{Term}
+use Rattle.lp_model.specs.Sparse.{Ascends}
 use Rattle.sparse_problem.specs.declared.matrix.Line.{Line}
 use Rattle.sparse_problem.specs.Grids.{Grid}
 
@@ -28,9 +29,10 @@ live_terms others ts = count_by (λ t. (line_at others t.id).live) ts
 abbrev pub Names : ℕ → List Term → Type 0
 Names n ts = (k : ℕ) → k < length ts → ((slice_index_or ts k no_term).id < n) × ((slice_index_or ts k no_term).value ≢ zero_ℚ)
 
--- the entries of each line name the others, and the live ones among them are counted
+-- the entries of each line name the others, by ascending id, and the live ones among them are counted
 pub record Crosses (lines others : List Line) : Type 0 where
   pub named : (k : ℕ) → Names (length others) (line_at lines k).entries
+  pub ascends : (k : ℕ) → Ascends 0 (length others) (line_at lines k).entries
   pub counted : (k : ℕ) → (line_at lines k).live_entries ≡ live_terms others (line_at lines k).entries
 
 -- rows and columns tell the same entries

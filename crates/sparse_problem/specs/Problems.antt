@@ -54,6 +54,16 @@ pub record SetsBounds (old new : Sparse) (j : ℕ) (l u : Option Number) : Type 
   pub others : (k : ℕ) → k ≢ j → bounds_at new k ≡ bounds_at old k
   pub same : new ≡ record old { bounds = new.bounds }
 
+-- all rows have the same sides, and all columns the same bounds, but for the count of the changes
+pub record SameSides (old new : Sparse) : Type 0 where
+  pub lower : (i : ℕ) → (sides_at new i).lower ≡ (sides_at old i).lower
+  pub upper : (i : ℕ) → (sides_at new i).upper ≡ (sides_at old i).upper
+
+pub record SameBounds (old new : Sparse) : Type 0 where
+  pub lower : (j : ℕ) → (bounds_at new j).lower ≡ (bounds_at old j).lower
+  pub upper : (j : ℕ) → (bounds_at new j).upper ≡ (bounds_at old j).upper
+  pub whole : (j : ℕ) → (bounds_at new j).whole ≡ (bounds_at old j).whole
+
 -- nothing but sides differs
 abbrev pub SidesAlone : Sparse → Sparse → Type 0
 SidesAlone old new = new ≡ record old { sides = new.sides }

@@ -1,6 +1,7 @@
 //! The entries of rows and columns, and which of these are still there.
 
-ghost use Rattle.std.specs.Prelude.{◌≡◌, ℕ, ◌+◌, ◌<◌, ◌≤◌, length, true, slice_index_or, IfOk, IfSome, IfNone, OnOk, map, ◌^◌, ◌++◌, ◌∷◌, [], if◌then◌else◌};
+ghost use Rattle.std.specs.Prelude.{All, ◌≡◌, ℕ, ◌+◌, ◌<◌, ◌≤◌, length, true, slice_index_or, IfOk, IfSome, IfNone, OnOk, map, ◌^◌, ◌++◌, ◌∷◌, [], if◌then◌else◌};
+ghost use Rattle.lp_model.specs.Sparse.{Ascends};
 ghost use Rattle.sparse_problem.specs.Transposes.{line_of, terms_at};
 ghost use Rattle.sparse_problem.specs.Matrices.{DeletesLine, IsMatrix, line_at, Loses, no_term, times_named, IsFirst, IsLiveTerm, live_only, Names};
 
@@ -136,9 +137,10 @@ impl Matrix {
         columns: Vec<Terms>,
     ) -> Result<Matrix, AllocError>
         requires few { length columns.items ≤ 2 ^ 32 }
-        requires named { (j : ℕ) → Names count (terms_at columns.items j) }
+        requires ascends { (j : ℕ) → Ascends 0 count (terms_at columns.items j) }
         ensures matrix { IfOk result (λ m. IsMatrix m) }
         ensures rows { IfOk result (λ m. length m.rows ≡ count) }
+        ensures live { IfOk result (λ m. All (λ row. row.live ≡ true) m.rows) }
         ensures columns { IfOk result (λ m. m.columns ≡ map line_of columns.items) }
     {
         let rows = transposed(alloc, count, columns.as_slice())?;

@@ -2,7 +2,7 @@
 
 ghost use Rattle.std.specs.Prelude.{◌≡◌, ◌<◌, ◌^◌, length, IfOk, true, Option, [], ◌∷◌, IsTrue, ◌↔◌};
 ghost use Rattle.sparse_problem.specs.Matrices.{IsMatrix, live_only, IsLiveTerm};
-ghost use Rattle.sparse_problem.specs.Problems.{bounds_at, column_at, ColumnGone, cost_at, row_at, RowGone, sides_at, SetsBounds, SetsSides};
+ghost use Rattle.sparse_problem.specs.Problems.{bounds_at, column_at, ColumnGone, cost_at, row_at, RowGone, sides_at, SameBounds, SameSides, SetsBounds, SetsSides};
 
 use crate::matrix::{Line, Matrix};
 use fractions::ext::Ext;
@@ -273,6 +273,7 @@ impl Problem {
     pub fn delete_row(&mut self, i: u32)
         requires { (row_at self.old i).live ≡ true }
         ensures gone { RowGone self.old self.new i }
+        ensures sides { SameSides self.old self.new }
         ensures bounds { self.new.bounds ≡ self.old.bounds }
         ensures costs { self.new.costs ≡ self.old.costs }
         ensures offset { self.new.offset ≡ self.old.offset }
@@ -286,6 +287,7 @@ impl Problem {
     pub fn delete_column(&mut self, j: u32)
         requires { (column_at self.old j).live ≡ true }
         ensures gone { ColumnGone self.old self.new j }
+        ensures bounds { SameBounds self.old self.new }
         ensures sides { self.new.sides ≡ self.old.sides }
         ensures costs { self.new.costs ≡ self.old.costs }
         ensures offset { self.new.offset ≡ self.old.offset }

@@ -1,6 +1,7 @@
 //! Rows of columns.
 
 ghost use Rattle.std.specs.Prelude.{◌≡◌, ◌≤◌, ◌^◌, ◌++◌, ◌∷◌, [], ℕ, length, IfOk, OnOk, map};
+ghost use Rattle.lp_model.specs.Sparse.{Ascends};
 ghost use Rattle.sparse_problem.specs.Matrices.{Names};
 ghost use Rattle.sparse_problem.specs.Transposes.{line_of, Scatters, terms_at, IsTranspose};
 
@@ -49,7 +50,7 @@ fn empty_rows(alloc: Global, count: usize) -> Result<Vec<Terms>, AllocError>
 /// The rows of columns: what each column has at a row's id, the row has at the column's.
 pub fn transposed(alloc: Global, count: usize, columns: &[Terms]) -> Result<Vec<Terms>, AllocError>
     requires few { length columns.now ≤ 2 ^ 32 }
-    requires named { (j : ℕ) → Names count (terms_at columns.now j) }
+    requires ascends { (j : ℕ) → Ascends 0 count (terms_at columns.now j) }
     ensures { IfOk result (λ rows. IsTranspose count rows.items columns.now) }
 {
     let mut rows = empty_rows(alloc, count)?;

@@ -1,3 +1,4 @@
 pub mod NearLaws
 pub mod SoundRecords
 pub mod UndoneRows
+pub mod Walking

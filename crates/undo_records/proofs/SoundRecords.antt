@@ -1,11 +1,13 @@
 -- Sound records can be undone.
-use Rattle.std.proofs.Common.{ℕ, zero, suc, ◌<◌, List, [], ◌∷◌, arith}
+use Rattle.std.proofs.Common.{ℕ, zero, suc, ◌<◌, List, [], ◌∷◌, length, arith}
 use Rattle.std.specs.List.{All}
 use Rattle.lp_model.specs.declared.terms.Term.{Term}
 use Rattle.lp_model.specs.Sparse.{Ascends}
 use Rattle.undo_records.specs.declared.undo.Undo.{Undo}
 use Rattle.undo_records.specs.declared.undo.Undo.TheVariants.{EmptyRow, SingletonRow, FixedColumn, RoundBounds, RedundantRow, RedundantSide, ForcingRow, TightenBound, TightenCoefficient, DualFix, Dominated, Doubleton, FreeSingleton, SlackSingleton, ParallelRows, ParallelColumns, EmptyColumn}
 use Rattle.undo_records.specs.Sound.{CanUndo, IsSound}
+use Rattle.undo_records.specs.Postsolve.{Postsolve}
+use Rattle.undo_records.specs.Walk.{AreSound}
 
 -- ids that ascend below n are below n
 ids_below : (m n : ℕ) (ts : List Term) → Ascends m n ts → All (λ e. e.id < n) ts
@@ -31,3 +33,6 @@ sound_can m n (DualFix j) h = tt
 sound_can m n (Dominated i j k) h = tt
 sound_can m n (ParallelRows i k s L U ts) h = tt
 sound_can m n (EmptyColumn j) h = tt
+
+pub all_can : (p : Postsolve) → AreSound p → All (CanUndo (length p.columns)) p.undos
+all_can p h k d l = sound_can (length p.rows) (length p.columns) _ (h.records k d l)

@@ -2,3 +2,4 @@ pub mod Lift
 pub mod Postsolve
 pub mod Room
 pub mod Sound
+pub mod Walk

@@ -51,3 +51,16 @@ IsSound m n (SlackSingleton j i a t L U l u fate ts) = IsEntry m n i j a × AreO
 IsSound m n (ParallelRows i k s L U ts) = AreTwo m i k × (s ≢ zero_ℚ) × Ascends 0 n ts
 IsSound m n (ParallelColumns j k s l u L U) = AreTwo n j k × (s ≢ zero_ℚ)
 IsSound m n other = HasIds m n other
+
+-- the record solved a row for a column
+abbrev pub IsSolving : Undo → Type 0
+IsSolving (Doubleton i j k a b r l u c ts) = ⊤
+IsSolving (FreeSingleton j i a s t ts) = ⊤
+IsSolving (SlackSingleton j i a t L U l u fate ts) = ⊤
+IsSolving other = ⊥
+
+-- the record merged two rows or two columns
+abbrev pub IsMerging : Undo → Type 0
+IsMerging (ParallelRows i k s L U ts) = ⊤
+IsMerging (ParallelColumns j k s l u L U) = ⊤
+IsMerging other = ⊥

@@ -1,6 +1,6 @@
 //! What holds of all records. The functions do nothing when they run: each states laws, and its check proves them.
 
-ghost use Rattle.std.specs.Prelude.{◌≡◌, ◌≢◌, ℕ, List, Option, Some};
+ghost use Rattle.std.specs.Prelude.{◌≡◌, ◌≢◌, ℕ, List, [], ◌∷◌, ◌++◌, All, Option, Some};
 ghost use Rattle.rational.specs.Number.{Number, zero_ℚ, ◌+ℚ◌, ◌*ℚ◌};
 ghost use Rattle.rational.specs.Order.{◌≤ℚ◌};
 ghost use Rattle.rational.specs.Ends.{Between};
@@ -10,12 +10,19 @@ ghost use Rattle.lp_model.specs.Sparse.{sparse_total};
 ghost use Rattle.lp_model.specs.Vectors.{Vector};
 ghost use Rattle.undo_records.specs.Lift.{near, undone};
 ghost use Rattle.undo_records.specs.Sound.{CanUndo, IsSound};
+ghost use Rattle.undo_records.specs.Walk.{Flags, NamesLive, Walks, after};
 ghost use Rattle.undo_records.specs.declared.undo.Undo.{Undo};
 ghost use Rattle.undo_records.specs.declared.undo.Undo.TheVariants.{Doubleton, FreeSingleton, ParallelColumns};
 
 /// A sound record can be undone.
 pub fn sound_records_can_be_undone()
     ensures { (m n : ℕ) (u : Undo) → IsSound m n u → CanUndo n u }
+{}
+
+/// Sound records all of whose names are live lead on: one record more at the end.
+pub fn walks_go_on()
+    ensures walk { (f g : Flags) (us : List Undo) (u : Undo) → Walks f us g → NamesLive g u → Walks f (us ++ u ∷ []) (after u g) }
+    ensures records { (m n : ℕ) (us : List Undo) (u : Undo) → All (IsSound m n) us → IsSound m n u → All (IsSound m n) (us ++ u ∷ []) }
 {}
 
 /// What undoing brings back: the equation of two columns holds again, the row of a free column stands at its side, and the merged

@@ -9,12 +9,16 @@ mod records;
 mod side;
 mod sound;
 mod undo;
+mod walk;
+mod whole_run;
 
 pub use label::Label;
 pub use records::Records;
 pub use side::{RowFate, Side};
-pub use sound::can_undo;
+pub use sound::is_sound;
 pub use undo::Undo;
+pub use walk::Walk;
+pub use whole_run::are_sound;
 
 #[cfg(test)]
 mod tests;

@@ -1,16 +1,19 @@
 //! The records of a whole run.
 
-ghost use Rattle.std.specs.Prelude.{◌≡◌, ◌↔◌, All, IsTrue, length, map};
+ghost use Rattle.std.specs.Prelude.{◌≡◌, ◌↔◌, All, IfOk, IfSome, IsSome, length, map};
 ghost use Rattle.undo_records.specs.Sound.{CanUndo};
+ghost use Rattle.undo_records.specs.Walk.{AreSound};
 
 use crate::label::Label;
-use crate::sound::can_undo;
 use crate::undo::Undo;
+use crate::whole_run::are_sound;
 use fractions::frac::Frac;
 use lp_model::{Labels, Name, Sense};
+use std::alloc::{AllocError, Global};
 use std::marker::Model;
 
 /// All that presolve wrote down: the original program's names, the offset, and the record of each reduction, first applied first.
+/// Each record is sound, names only what is live as it is applied, and all of them leave live what the labels say.
 #[derive(Drop)]
 pub struct Records {
     sense: Sense,
@@ -29,7 +32,11 @@ impl Model for Records {
 
     ghost coded = { Prim.hlevel (codes, number_code) };
 
+    ghost use Rattle.undo_records.specs.Walk.{AreSound};
+
     ghost view = { λ r. record { sense = r.sense; columns = r.columns.items; rows = r.rows.items; offset = r.offset; undos = r.undos.items } };
+
+    ghost invariant = { λ r. AreSound (record { sense = r.sense; columns = r.columns.items; rows = r.rows.items; offset = r.offset; undos = r.undos.items }) };
 }
 
 impl Records {
@@ -41,6 +48,7 @@ impl Records {
         offset: Frac,
         undos: Vec<Undo>,
     ) -> Records
+        requires { AreSound (record { sense = sense; columns = columns.items; rows = rows.items; offset = offset; undos = undos.items }) }
         ensures { result ≡ record { sense = sense; columns = columns.items; rows = rows.items; offset = offset; undos = undos.items } }
     {
         Records {
@@ -50,6 +58,24 @@ impl Records {
             offset,
             undos,
         }
+    }
+
+    /// The records of these parts, none where they aren't sound.
+    pub fn checked(
+        alloc: Global,
+        sense: Sense,
+        columns: Vec<Label>,
+        rows: Vec<Label>,
+        offset: Frac,
+        undos: Vec<Undo>,
+    ) -> Result<Option<Records>, AllocError>
+        ensures sound { IfOk result (λ found. IsSome found ↔ AreSound (record { sense = sense; columns = columns.items; rows = rows.items; offset = offset; undos = undos.items })) }
+        ensures parts { IfOk result (λ found. IfSome found (λ records. records ≡ record { sense = sense; columns = columns.items; rows = rows.items; offset = offset; undos = undos.items })) }
+    {
+        if !are_sound(alloc, columns.as_slice(), rows.as_slice(), undos.as_slice())? {
+            return Ok(None);
+        }
+        Ok(Some(Records::new(sense, columns, rows, offset, undos)))
     }
 
     /// Whether the original program is to be minimized or maximized.
@@ -87,24 +113,20 @@ impl Records {
         self.undos.as_slice()
     }
 
-    /// Whether each record can be undone: ids within the columns, and numbers to divide by that aren't 0.
-    pub fn can_lift(&self) -> bool
-        ensures { IsTrue result ↔ All (CanUndo (length self.now.columns)) self.now.undos }
+    /// Each record is sound by itself, and they lead from all live to what the labels say is live. Says so, and does nothing.
+    pub fn is_sound(&self)
+        ensures { AreSound self.now }
     {
-        can_undo_all(self.undos(), self.columns().len())
+        let _undos = self.undos.as_slice();
     }
-}
 
-/// Whether each of these records can be undone in a program of so many columns.
-fn can_undo_all(undos: &[Undo], columns: usize) -> bool
-    ensures { IsTrue result ↔ All (CanUndo columns) undos.now }
-{
-    for undo in undos {
-        if !can_undo(undo, columns) {
-            return false;
-        }
+    /// Each record can be undone. Says so, and does nothing.
+    #[tactic(auto, using(crate::proofs::SoundRecords::all_can))]
+    pub fn can_lift(&self)
+        ensures { All (CanUndo (length self.now.columns)) self.now.undos }
+    {
+        self.is_sound();
     }
-    true
 }
 
 impl Labels for Records {

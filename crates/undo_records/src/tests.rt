@@ -1,8 +1,8 @@
-//! Names by id.
+//! Names by id, and which records are sound.
 
-use crate::{Label, Records};
+use crate::{Label, Records, Undo, are_sound};
 use fractions::frac::Frac;
-use lp_model::{Labels, Name, Sense};
+use lp_model::{Labels, Name, Sense, Term, Terms};
 use std::alloc::{AllocError, Global};
 use std::process::Abort;
 use std::test::Fail;
@@ -10,6 +10,62 @@ use std::test::Fail;
 const COLUMNS: [(&[u8], bool); 3] = [(b"x", false), (b"y", true), (b"z", false)];
 
 const ROWS: [(&[u8], bool); 2] = [(b"C1", false), (b"C2", true)];
+
+/// A column that was fixed, or a row that was deleted.
+enum Step {
+    Column(u32, &'static [u32]),
+    Row(u32),
+    Fix(u32),
+}
+
+/// Reductions of the columns and rows above, and whether they are sound.
+const RUNS: [(&[Step], bool); 7] = [
+    (
+        &[
+            Step::Column(0, &[0, 1]),
+            Step::Row(0),
+            Step::Column(2, &[1]),
+        ],
+        true,
+    ),
+    // row 0 is gone
+    (
+        &[
+            Step::Row(0),
+            Step::Column(0, &[0, 1]),
+            Step::Column(2, &[1]),
+        ],
+        false,
+    ),
+    // the list does not ascend
+    (
+        &[Step::Column(0, &[1, 0]), Step::Row(0), Step::Column(2, &[])],
+        false,
+    ),
+    // column 2 is still live
+    (&[Step::Column(0, &[]), Step::Row(0)], false),
+    // column 0 is gone
+    (
+        &[
+            Step::Column(0, &[]),
+            Step::Row(0),
+            Step::Column(2, &[]),
+            Step::Fix(0),
+        ],
+        false,
+    ),
+    // there is no column 3
+    (
+        &[
+            Step::Column(0, &[]),
+            Step::Row(0),
+            Step::Column(2, &[]),
+            Step::Fix(3),
+        ],
+        false,
+    ),
+    (&[], false),
+];
 
 fn labels(alloc: Global, cases: &[(&[u8], bool)]) -> Result<Vec<Label>, AllocError> {
     let mut labels = Vec::new(alloc);
@@ -20,6 +76,38 @@ fn labels(alloc: Global, cases: &[(&[u8], bool)]) -> Result<Vec<Label>, AllocErr
         })?;
     }
     Ok(labels)
+}
+
+fn ones(alloc: Global, ids: &[u32]) -> Result<Terms, AllocError> {
+    let mut terms = Vec::new(alloc);
+    for id in ids {
+        terms.push(Term {
+            id: *id,
+            value: Frac::one(),
+        })?;
+    }
+    Ok(Terms::new(terms))
+}
+
+fn recorded(alloc: Global, step: &Step) -> Result<Undo, AllocError> {
+    match step {
+        Step::Column(column, rows) => Ok(Undo::FixedColumn {
+            column: *column,
+            value: Frac::one(),
+            cost: Frac::one(),
+            entries: ones(alloc, rows)?,
+        }),
+        Step::Row(row) => Ok(Undo::EmptyRow { row: *row }),
+        Step::Fix(column) => Ok(Undo::EmptyColumn { column: *column }),
+    }
+}
+
+fn run(alloc: Global, steps: &[Step]) -> Result<Vec<Undo>, AllocError> {
+    let mut undos = Vec::new(alloc);
+    for step in steps {
+        undos.push(recorded(alloc, step)?)?;
+    }
+    Ok(undos)
 }
 
 fn check_names(rt: &impl Abort, labels: &impl Labels) {
@@ -38,7 +126,21 @@ fn names_columns_and_rows(rt: HostRuntime) -> Result<(), Fail> {
     let alloc = rt.alloc();
     let columns = labels(alloc, &COLUMNS)?;
     let rows = labels(alloc, &ROWS)?;
-    let records = Records::new(Sense::Min, columns, rows, Frac::zero(), Vec::new(alloc));
-    check_names(&rt, &records);
+    let undos = run(alloc, RUNS[0].0)?;
+    let records = Records::checked(alloc, Sense::Min, columns, rows, Frac::zero(), undos)?;
+    check_names(&rt, &records.expect(&rt, "sound records"));
+    Ok(())
+}
+
+#[test]
+fn sound_runs(rt: HostRuntime) -> Result<(), Fail> {
+    let alloc = rt.alloc();
+    let columns = labels(alloc, &COLUMNS)?;
+    let rows = labels(alloc, &ROWS)?;
+    for (steps, sound) in &RUNS {
+        let undos = run(alloc, steps)?;
+        let found = are_sound(alloc, columns.as_slice(), rows.as_slice(), undos.as_slice())?;
+        assert_eq!(rt; found, *sound);
+    }
     Ok(())
 }

@@ -1,6 +1,6 @@
 use Rattle.std.proofs.Common.{rules}
 use Rattle.mps_laws.proofs.Names.{program_names_differ}
-use Rattle.mps_reader.proofs.Programs.{cards_in, parts_are, few_rows, program_as, writable_as}
+use Rattle.mps_reader.proofs.Programs.{cards_in, parts_are, few_rows, program_as, writable_as, few_as, ascends_as}
 use Rattle.mps_reader.proofs.reading.read_mps.Goals as goal
 
 pub assemble-requires-clause-few : goal.assemble-requires-clause-few
@@ -25,3 +25,13 @@ pub returns-clause-writable : goal.returns-clause-writable
 returns-clause-writable c =
     let are = parts_are c.args.dialect c.args.bytes.now c.in_ok-reader.reader c.parts_of-parts.result c.in_ok-reader.ensures c.parts_of-parts.ensures in
     writable_as c.args.dialect c.args.bytes.now c.in_ok-reader.reader c.in_ok-program.program c.in_ok-reader.ensures (c.in_ok-program.ensures c.args.dialect (cards_in c.args.dialect c.args.bytes.now) are)
+
+pub returns-clause-few : goal.returns-clause-few
+returns-clause-few c =
+    let are = parts_are c.args.dialect c.args.bytes.now c.in_ok-reader.reader c.parts_of-parts.result c.in_ok-reader.ensures c.parts_of-parts.ensures in
+    few_as c.args.dialect c.args.bytes.now c.in_ok-reader.reader c.in_ok-program.program c.in_ok-reader.ensures (c.in_ok-program.ensures c.args.dialect (cards_in c.args.dialect c.args.bytes.now) are) c.requires
+
+pub returns-clause-ascends : goal.returns-clause-ascends
+returns-clause-ascends c =
+    let are = parts_are c.args.dialect c.args.bytes.now c.in_ok-reader.reader c.parts_of-parts.result c.in_ok-reader.ensures c.parts_of-parts.ensures in
+    ascends_as c.args.dialect c.args.bytes.now c.in_ok-reader.reader c.in_ok-program.program c.in_ok-reader.ensures (c.in_ok-program.ensures c.args.dialect (cards_in c.args.dialect c.args.bytes.now) are)

@@ -1,8 +1,7 @@
-use Rattle.std.proofs.Common.{◌≡◌, ℕ, length}
-use Rattle.sparse_problem.specs.Matrices.{Names}
-use Rattle.sparse_problem.specs.Transposes.{terms_at}
+use Rattle.std.proofs.Common.{◌≡◌, take}
+use Rattle.sparse_problem.specs.Programs.{entries_in}
 use Rattle.sparse_problem.proofs.programs.all_entries.Given as goal
 
--- the entries of the columns so far name rows
+-- the entries of the columns so far
 abbrev pub invariant-loop-column : goal.invariant-loop-column
-invariant-loop-column l = record { long : length l.lists.items ≡ l.column-index; named : (j : ℕ) → Names l.count (terms_at l.lists.items j) }
+invariant-loop-column l = l.lists.items ≡ entries_in (take l.column-index l.columns)

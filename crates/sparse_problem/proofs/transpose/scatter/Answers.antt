@@ -4,8 +4,11 @@ use Rattle.lp_model.specs.declared.terms.Term.{Term}
 use Rattle.sparse_problem.specs.Matrices.{no_term}
 use Rattle.sparse_problem.specs.Transposes.{terms_at}
 use Rattle.sparse_problem.proofs.Losing.{named_inside}
-use Rattle.sparse_problem.proofs.Transposing.{scatters_more, named_some}
+use Rattle.sparse_problem.proofs.Transposing.{scatters_none, scatters_more, named_some}
 use Rattle.sparse_problem.proofs.transpose.scatter.Goals as goal
+
+pub loop-term-init : goal.loop-term-init
+loop-term-init c = scatters_none c.args.j c.args.rows.now
 
 pub loop-term-preserved : goal.loop-term-preserved
 loop-term-preserved c =

@@ -1,0 +1,84 @@
+//! What is said of the texts of a program and a solution.
+
+ghost use Rattle.std.specs.Prelude.{◌≡◌, ◌<◌, ◌≤◌, ◌^◌, ℕ, length, option_map, IfOk, IfSome};
+ghost use Rattle.file_ports.specs.Ports.{Told, Gives};
+ghost use Rattle.command_line.specs.Line.{CheckNames};
+ghost use Rattle.endings.specs.declared.reads.TheConstants.{INPUT_LIMIT, SOLUTION_LIMIT};
+ghost use Rattle.endings.specs.Moments.{Finds, Moment, Reads};
+ghost use Rattle.endings.specs.SolutionTexts.{IsPointOf};
+ghost use Rattle.check_command.specs.Checked.{SaysCheck, SaysSolution, check_dialect};
+
+use crate::verdict_text::verdict_ending;
+use endings::{Ending, fault_line, solution_fault_line};
+use lp_model::{Pair, Point, Program};
+use mps_reader::{Dialect, MpsError, read_mps};
+use point_text::{SolError, read_solution};
+use std::alloc::{AllocError, Global};
+
+/// What is said of a point.
+fn judge_point(alloc: Global, program: &Program, point: Point) -> Result<Ending, AllocError>
+    requires long { length point ≡ length program.now.columns }
+    requires few { (length program.now.rows < 2 ^ 32) × (length program.now.columns < 2 ^ 32) }
+    ensures { (solution : Told) → (before now : ℕ) → Reads solution (λ text. IsPointOf program.now text point)
+        → IfOk result (λ ending. SaysSolution program.now solution before now ending) }
+{
+    let pair = Pair { point, duals: None };
+    match lp_check::check(alloc, program, &pair) {
+        Ok(verdict) => verdict_ending(alloc, program, verdict),
+        Err(error) => Err(error),
+    }
+}
+
+/// What is said of a solution's text.
+fn judge_text(alloc: Global, program: &Program, text: &[u8]) -> Result<Ending, AllocError>
+    requires { (length program.now.rows < 2 ^ 32) × (length program.now.columns < 2 ^ 32) }
+    ensures { (solution : Told) → (before now : ℕ) → Gives solution text.now
+        → IfOk result (λ ending. SaysSolution program.now solution before now ending) }
+{
+    match read_solution(alloc, text, program) {
+        Ok(point) => judge_point(alloc, program, point),
+        Err(SolError::Fault(fault)) => {
+            Ok(Ending::SolutionRefused(solution_fault_line(alloc, fault)?))
+        }
+        Err(SolError::NoMemory) => Err(AllocError),
+    }
+}
+
+/// What is said of a solution's text, none where it is longer than is read.
+fn judge_solution(
+    alloc: Global,
+    program: &Program,
+    solution: Option<Vec<u8>>,
+) -> Result<Ending, AllocError>
+    requires { (length program.now.rows < 2 ^ 32) × (length program.now.columns < 2 ^ 32) }
+    ensures { (told : Told) → (before now : ℕ) → Finds told SOLUTION_LIMIT before now (option_map (λ text. text.items) solution)
+        → IfOk result (λ ending. SaysSolution program.now told before now ending) }
+{
+    match solution {
+        Some(text) => judge_text(alloc, program, &text),
+        None => Ok(Ending::SolutionRefused(Vec::from_slice(alloc, b"error S6\n")?)),
+    }
+}
+
+/// What is said of a program's text and a solution's text. Where one is longer than is read, there is none.
+pub fn judge(
+    alloc: Global,
+    input: Option<Vec<u8>>,
+    solution: Option<Vec<u8>>,
+    dialect: Dialect,
+) -> Result<Ending, AllocError>
+    requires { IfSome input (λ text. length text.items ≤ INPUT_LIMIT) }
+    ensures { (names : CheckNames) → (before now : Moment) → dialect ≡ check_dialect names
+        → Finds (before.told names.input) INPUT_LIMIT (before.overlong INPUT_LIMIT names.input) (now.overlong INPUT_LIMIT names.input) (option_map (λ text. text.items) input)
+        → Finds (before.told names.solution) SOLUTION_LIMIT (before.overlong SOLUTION_LIMIT names.solution) (now.overlong SOLUTION_LIMIT names.solution) (option_map (λ text. text.items) solution)
+        → IfOk result (λ ending. SaysCheck names ending before now) }
+{
+    let Some(text) = input else {
+        return Ok(Ending::Refused(Vec::from_slice(alloc, b"error M17\n")?));
+    };
+    match read_mps(alloc, &text, dialect) {
+        Ok(program) => judge_solution(alloc, &program, solution),
+        Err(MpsError::Fault(fault)) => Ok(Ending::Refused(fault_line(alloc, fault)?)),
+        Err(MpsError::NoMemory) => Err(AllocError),
+    }
+}

@@ -1,0 +1,5 @@
+pub mod Ending
+pub mod Moments
+pub mod Dialects
+pub mod ProgramTexts
+pub mod SolutionTexts

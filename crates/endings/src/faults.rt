@@ -1,0 +1,29 @@
+//! The lines that name faults of texts.
+
+ghost use Rattle.std.specs.Prelude.{◌≡◌, IfOk};
+ghost use Rattle.endings.specs.ProgramTexts.{fault_text};
+ghost use Rattle.endings.specs.SolutionTexts.{solution_fault_text};
+
+use mps_reader::MpsFault;
+use point_text::SolFault;
+use std::alloc::{AllocError, Global};
+
+/// The line that names a fault of a program's text.
+pub fn fault_line(alloc: Global, fault: MpsFault) -> Result<Vec<u8>, AllocError>
+    ensures { IfOk result (λ text. text.items ≡ fault_text fault) }
+{
+    let number = fault.kind.number();
+    let line = fault.line;
+    let text = format!(in alloc; "error M{number} line {line}\n")?;
+    Vec::from_slice(alloc, text.as_bytes())
+}
+
+/// The line that names a fault of a solution's text.
+pub fn solution_fault_line(alloc: Global, fault: SolFault) -> Result<Vec<u8>, AllocError>
+    ensures { IfOk result (λ text. text.items ≡ solution_fault_text fault) }
+{
+    let number = fault.kind.number();
+    let line = fault.line;
+    let text = format!(in alloc; "error S{number} line {line}\n")?;
+    Vec::from_slice(alloc, text.as_bytes())
+}

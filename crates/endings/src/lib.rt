@@ -1,0 +1,15 @@
+//! How a command ends, and what its ending says of the files.
+//!
+//! An [`Ending`] holds the status and the printed text. `specs/` says what files tell before and after a command, and what it is to
+//! name a fault of a text that a file holds.
+#![tactic(auto)]
+
+mod dialects;
+mod ending;
+mod faults;
+mod reads;
+
+pub use dialects::dialect_of;
+pub use ending::Ending;
+pub use faults::{fault_line, solution_fault_line};
+pub use reads::{INPUT_LIMIT, SOLUTION_LIMIT, Unread, read_within};

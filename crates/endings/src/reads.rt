@@ -1,0 +1,50 @@
+//! Reads of files up to a limit.
+
+ghost use Rattle.std.specs.Prelude.{◌≡◌, ℕ, ◌≤◌, length, option_map, IfOk, IfSome, IsErrOf};
+ghost use Rattle.file_ports.specs.Ports.{Rose, NeverFall};
+ghost use Rattle.endings.specs.Moments.{Finds};
+
+use file_ports::{Files, ReadErr};
+use std::alloc::Global;
+
+/// The longest program that is read, in bytes.
+pub const INPUT_LIMIT: u64 = 67_108_864;
+
+/// The longest solution that is read, in bytes.
+pub const SOLUTION_LIMIT: u64 = 1_073_741_824;
+
+/// Why a name's bytes were not read.
+#[derive(Clone, Copy)]
+pub enum Unread {
+    /// The read failed.
+    Failed,
+    /// There is no memory for the bytes.
+    NoMemory,
+}
+
+/// The bytes of a name; none where they are more than the limit.
+///
+/// # Errors
+/// The read failed, or want of memory.
+pub fn read_within<F: Files>(
+    alloc: Global,
+    name: &str,
+    limit: u64,
+    files: &mut F,
+) -> Result<Option<Vec<u8>>, Unread>
+    ensures found { IfOk result (λ found. Finds (F.told files.old name.now) limit (F.overlong files.old limit name.now) (F.overlong files.new limit name.now)
+        (option_map (λ bytes. bytes.items) found)) }
+    ensures most { IfOk result (λ found. IfSome found (λ bytes. length bytes.items ≤ limit)) }
+    ensures failed { IsErrOf result Unread.Failed → Rose (F.read_faults files.old name.now) (F.read_faults files.new name.now) }
+    ensures kept { F.told files.new ≡ F.told files.old }
+    ensures reads_stay { NeverFall (F.read_faults files.old) (F.read_faults files.new) }
+    ensures writes_stay { NeverFall (F.write_faults files.old) (F.write_faults files.new) }
+    ensures overlongs_stay { (most : ℕ) → NeverFall (F.overlong files.old most) (F.overlong files.new most) }
+{
+    match files.read(alloc, name, limit) {
+        Ok(bytes) => Ok(Some(bytes)),
+        Err(ReadErr::TooLong) => Ok(None),
+        Err(ReadErr::Failed) => Err(Unread::Failed),
+        Err(ReadErr::NoMemory) => Err(Unread::NoMemory),
+    }
+}

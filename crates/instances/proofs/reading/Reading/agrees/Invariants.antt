@@ -1,0 +1,7 @@
+use Rattle.std.proofs.Common.{take}
+use Rattle.presolve_model.specs.Enabled.{Agrees}
+use Rattle.instances.proofs.reading.Reading.agrees.Given as goal
+
+-- the parts before this place stand
+abbrev pub invariant-loop-place : goal.invariant-loop-place
+invariant-loop-place l = Agrees l.problem (take l.place l.self-inside.reads.items)

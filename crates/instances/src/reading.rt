@@ -1,0 +1,67 @@
+//! What was read of a problem.
+
+ghost use Rattle.std.specs.Prelude.{◌≡◌, ◌≢◌, ℕ, ◌<◌, length, take, Ok, IsOk, IfErr, ◌↔◌, slice_get, Some};
+ghost use Rattle.presolve_model.specs.Enabled.{Agrees, DiffersAt};
+
+use crate::parts::stands;
+use presolve_model::Read;
+use problem_parts::Problem;
+use std::marker::Model;
+
+/// What an instance read, part by part.
+#[derive(Drop)]
+pub struct Reading {
+    reads: Vec<Read>,
+}
+
+impl Model for Reading {
+    ghost use Rattle.std.specs.Prelude.{List};
+    ghost use Rattle.std.specs.Coded.{codes};
+    ghost use Rattle.rational.specs.Lowest.{number_code};
+    ghost use Rattle.presolve_model.specs.declared.part.Read.{Read};
+
+    ghost Value = { List Read };
+
+    ghost coded = { Prim.hlevel (codes, number_code) };
+
+    ghost view = { λ r. r.reads.items };
+}
+
+/// The first part that stands otherwise than it was read.
+#[derive(Clone, Copy, Debug, PartialEq, Eq)]
+pub struct Differs {
+    /// Its place in the reading, from 0 on.
+    pub place: usize,
+}
+
+impl Reading {
+    /// These parts as they were read.
+    pub fn of(reads: Vec<Read>) -> Reading
+        ensures { result ≡ reads.items }
+    {
+        Reading { reads }
+    }
+
+    /// The parts, in the order in which they were read.
+    pub fn as_slice(&self) -> &[Read]
+        ensures { result.now ≡ self.now }
+    {
+        self.reads.as_slice()
+    }
+
+    /// Whether each part stands as it was read.
+    ///
+    /// # Errors
+    /// The first part that does not.
+    pub fn agrees(&self, problem: &Problem) -> Result<(), Differs>
+        ensures agrees { IsOk result ↔ Agrees problem.now self.now }
+        ensures differs { IfErr result (λ d. DiffersAt problem.now self.now d.place) }
+    {
+        for place in 0..self.reads.len() {
+            if !stands(problem, &self.reads[place]) {
+                return Err(Differs { place });
+            }
+        }
+        Ok(())
+    }
+}

@@ -1,0 +1,10 @@
+pub mod Arithmetic
+pub mod ColumnCards
+pub mod EntryCards
+pub mod Joining
+pub mod Numerals
+pub mod Places
+pub mod RowCards
+pub mod Segments
+pub mod SideCards
+pub mod Terms

@@ -1,0 +1,4 @@
+mod Before
+mod Columns
+mod Brought
+pub mod Said

@@ -1,0 +1,75 @@
+-- What the bytes that reads found give, by text; none where they are more than is read.
+use Rattle.std.specs.Prelude.{◌≡◌, ℕ, List, [], ◌∷◌, ◌++◌, codes, Option, Some, None, Result, Ok, Err}
+use Rattle.rational.specs.Number.{Number}
+use Rattle.fractions.specs.declared.Numbers.TheVariants.{Fractions}
+use Rattle.lp_model.specs.ProgramData.{ProgramData}
+use Rattle.lp_model.specs.Names.{names_of_columns}
+use Rattle.mps_profile.specs.Reading.{first_fault}
+use Rattle.mps_profile.specs.declared.dialect.Dialect.{Dialect}
+use Rattle.mps_profile.specs.declared.dialect.Format.TheVariants.{Free}
+use Rattle.mps_reader.specs.declared.faults.MpsFault.{MpsFault}
+use Rattle.point_text.specs.Reading as solutions
+use Rattle.point_text.specs.declared.faults.SolFault.{SolFault}
+use Rattle.record_reader.specs.Reading as record_texts
+use Rattle.record_reader.specs.declared.faults.RecordFault.{RecordFault}
+use Rattle.record_reader.specs.Matching.{Matches}
+use Rattle.undo_records.specs.Postsolve.{Postsolve}
+use Rattle.endings.specs.ProgramTexts.{IsProgramOf, fault_text}
+use Rattle.endings.specs.SolutionTexts.{IsPointOf, solution_fault_text}
+use Rattle.postsolve_command.specs.RecordTexts.{AreRecordsOf, record_fault_text}
+use Rattle.postsolve_command.specs.declared.refusal.Refusal.{Refusal}
+use Rattle.postsolve_command.specs.declared.refusal.Refusal.TheVariants.{Program, Records, Solution, NoMemory}
+
+-- how OUT is read: in the free format, with fractions
+abbrev pub reduced_dialect : Dialect
+reduced_dialect = record { format = Free; numbers = Fractions }
+
+-- bytes were found, and have this property
+abbrev pub IfFound : Option (List ℕ) → (List ℕ → Type 0) → Type 0
+IfFound None P = ⊥
+IfFound (Some text) P = P text
+
+abbrev pub FaultsProgram : Option (List ℕ) → List ℕ → Type 0
+FaultsProgram None said = said ≡ codes "error M17" ++ 10 ∷ []
+FaultsProgram (Some text) said = (fault : MpsFault) × (first_fault reduced_dialect text ≡ Some (fault.kind, fault.line)) × (said ≡ fault_text fault)
+
+-- the program, or the line that refuses it
+abbrev pub GivesProgram : Option (List ℕ) → Result ProgramData Refusal → Type 0
+GivesProgram found (Ok program) = IfFound found (λ text. IsProgramOf reduced_dialect text program)
+GivesProgram found (Err (Program line)) = FaultsProgram found line.items
+GivesProgram found (Err NoMemory) = Unit {0}
+GivesProgram found (Err other) = ⊥
+
+abbrev pub FaultsRecords : Option (List ℕ) → List ℕ → Type 0
+FaultsRecords None said = said ≡ codes "error F8" ++ 10 ∷ []
+FaultsRecords (Some text) said = (fault : RecordFault) × (record_texts.first_fault text ≡ Some (fault.kind, fault.line)) × (said ≡ record_fault_text fault)
+
+-- the records, or the line that refuses them
+abbrev pub GivesRecords : Option (List ℕ) → Result Postsolve Refusal → Type 0
+GivesRecords found (Ok records) = IfFound found (λ text. AreRecordsOf text records)
+GivesRecords found (Err (Records line)) = FaultsRecords found line.items
+GivesRecords found (Err NoMemory) = Unit {0}
+GivesRecords found (Err other) = ⊥
+
+-- the line that refuses records that are not those of a program
+abbrev pub FaultsMatch : Postsolve → ProgramData → Refusal → Type 0
+FaultsMatch records program (Records line) = (Matches records program → ⊥) × (line.items ≡ codes "error F5" ++ 10 ∷ [])
+FaultsMatch records program NoMemory = Unit {0}
+FaultsMatch records program other = ⊥
+
+-- the records are those of a program, or the line that refuses them
+abbrev pub Fitting : {T : Type 0} → Postsolve → ProgramData → Result T Refusal → Type 0
+Fitting records program (Ok done) = Matches records program
+Fitting records program (Err refusal) = FaultsMatch records program refusal
+
+abbrev pub FaultsSolution : ProgramData → Option (List ℕ) → List ℕ → Type 0
+FaultsSolution program None said = said ≡ codes "error S6" ++ 10 ∷ []
+FaultsSolution program (Some text) said =
+    (fault : SolFault) × (solutions.first_fault (names_of_columns program.columns) text ≡ Some (fault.kind, fault.line)) × (said ≡ solution_fault_text fault)
+
+-- the point, or the line that refuses the solution
+abbrev pub GivesPoint : ProgramData → Option (List ℕ) → Result (List Number) Refusal → Type 0
+GivesPoint program found (Ok point) = IfFound found (λ text. IsPointOf program text point)
+GivesPoint program found (Err (Solution line)) = FaultsSolution program found line.items
+GivesPoint program found (Err NoMemory) = Unit {0}
+GivesPoint program found (Err other) = ⊥

@@ -1,0 +1,4 @@
+pub mod RecordTexts
+pub mod Lifted
+pub mod Given
+pub mod Postsolved

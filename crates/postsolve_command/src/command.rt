@@ -1,0 +1,99 @@
+//! The command `postsolve OUT REC SOL RESULT`.
+
+ghost use Rattle.std.specs.Prelude.{◌≡◌, ◌≤◌, ◌⊎◌, length, option_map, IfOk, IfSome, OnErr, IsErrOf};
+ghost use Rattle.file_ports.specs.Ports.{Rose, NeverFall};
+ghost use Rattle.command_line.specs.Line.{PostsolveNames};
+ghost use Rattle.command_line.specs.Seen.{postsolve_names_of};
+ghost use Rattle.endings.specs.Moments.{Finds, Moment};
+ghost use Rattle.endings.specs.declared.reads.TheConstants.{SOLUTION_LIMIT};
+ghost use Rattle.postsolve_command.specs.declared.given.TheConstants.{PROGRAM_LIMIT, RECORDS_LIMIT};
+ghost use Rattle.postsolve_command.specs.Postsolved.{AreFound, EndsPostsolve, IsBrought};
+
+use crate::given::{
+    Found, PROGRAM_LIMIT, RECORDS_LIMIT, point_of, program_of, records_of, see_match,
+};
+use crate::lifted::{Texts, lifted_texts};
+use crate::refusal::Refusal;
+use command_line::PostsolveWords;
+use endings::{Ending, SOLUTION_LIMIT, Unread, read_within};
+use file_ports::{Failed, Files};
+use std::alloc::{AllocError, Global};
+
+/// Reads OUT, then REC, then SOL.
+fn read_all<F: Files>(
+    alloc: Global,
+    words: &PostsolveWords<'_>,
+    files: &mut F,
+) -> Result<Found, Unread>
+    ensures program { IfOk result (λ found. Finds (F.told files.old words.now.program.now) PROGRAM_LIMIT
+        (F.overlong files.old PROGRAM_LIMIT words.now.program.now) (F.overlong files.new PROGRAM_LIMIT words.now.program.now) (option_map (λ text. text.items) found.program)) }
+    ensures records { IfOk result (λ found. Finds (F.told files.old words.now.records.now) RECORDS_LIMIT
+        (F.overlong files.old RECORDS_LIMIT words.now.records.now) (F.overlong files.new RECORDS_LIMIT words.now.records.now) (option_map (λ text. text.items) found.records)) }
+    ensures solution { IfOk result (λ found. Finds (F.told files.old words.now.solution.now) SOLUTION_LIMIT
+        (F.overlong files.old SOLUTION_LIMIT words.now.solution.now) (F.overlong files.new SOLUTION_LIMIT words.now.solution.now) (option_map (λ text. text.items) found.solution)) }
+    ensures most_of_program { IfOk result (λ found. IfSome found.program (λ text. length text.items ≤ PROGRAM_LIMIT)) }
+    ensures most_of_records { IfOk result (λ found. IfSome found.records (λ text. length text.items ≤ RECORDS_LIMIT)) }
+    ensures failed { IsErrOf result Unread.Failed → Rose (F.read_faults files.old words.now.program.now) (F.read_faults files.new words.now.program.now)
+        ⊎ Rose (F.read_faults files.old words.now.records.now) (F.read_faults files.new words.now.records.now)
+        ⊎ Rose (F.read_faults files.old words.now.solution.now) (F.read_faults files.new words.now.solution.now) }
+    ensures kept { F.told files.new ≡ F.told files.old }
+    ensures writes_stay { NeverFall (F.write_faults files.old) (F.write_faults files.new) }
+{
+    let program = read_within(alloc, words.program, PROGRAM_LIMIT, files)?;
+    let records = read_within(alloc, words.records, RECORDS_LIMIT, files)?;
+    let solution = read_within(alloc, words.solution, SOLUTION_LIMIT, files)?;
+    Ok(Found {
+        program,
+        records,
+        solution,
+    })
+}
+
+/// What is made of the texts of OUT, REC and SOL, of which OUT is looked at first.
+fn bring_back(alloc: Global, found: Found) -> Result<Texts, Refusal>
+    requires program { IfSome found.program (λ text. length text.items ≤ PROGRAM_LIMIT) }
+    requires records { IfSome found.records (λ text. length text.items ≤ RECORDS_LIMIT) }
+    ensures { (names : PostsolveNames) → (before now : Moment) → AreFound names found before now → IsBrought names result before now }
+{
+    let Found {
+        program,
+        records,
+        solution,
+    } = found;
+    let program = program_of(alloc, program)?;
+    let records = records_of(alloc, records)?;
+    see_match(alloc, &records, &program)?;
+    let point = point_of(alloc, &program, solution)?;
+    lifted_texts(alloc, &program, &records, &point)
+}
+
+/// Reads a reduced program, its records and a solution, and writes what the solution is brought back to. All that is written and
+/// printed is made before the write.
+pub fn postsolve<F: Files>(
+    alloc: Global,
+    words: &PostsolveWords<'_>,
+    files: &mut F,
+) -> Result<Ending, AllocError>
+    ensures ends { IfOk result (λ e. EndsPostsolve (postsolve_names_of words.now) e
+        (record { told = F.told files.old; reads = F.read_faults files.old; writes = F.write_faults files.old; overlong = F.overlong files.old })
+        (record { told = F.told files.new; reads = F.read_faults files.new; writes = F.write_faults files.new; overlong = F.overlong files.new })) }
+    ensures no_memory { OnErr result (F.told files.new ≡ F.told files.old) }
+{
+    let found = match read_all(alloc, words, files) {
+        Ok(found) => found,
+        Err(Unread::Failed) => return Ok(Ending::ReadFault),
+        Err(Unread::NoMemory) => return Err(AllocError),
+    };
+    let texts = match bring_back(alloc, found) {
+        Ok(texts) => texts,
+        Err(Refusal::Program(line)) => return Ok(Ending::Refused(line)),
+        Err(Refusal::Records(line)) => return Ok(Ending::RecordsRefused(line)),
+        Err(Refusal::Solution(line)) => return Ok(Ending::SolutionRefused(line)),
+        Err(Refusal::Stopped(line)) => return Ok(Ending::NoRoom(line)),
+        Err(Refusal::NoMemory) => return Err(AllocError),
+    };
+    match files.write(words.result, &texts.result) {
+        Ok(()) => Ok(Ending::Done(texts.line)),
+        Err(Failed) => Ok(Ending::WriteFault),
+    }
+}

@@ -1,0 +1,97 @@
+//! What the texts of OUT, REC and SOL give.
+
+ghost use Rattle.std.specs.Prelude.{◌≡◌, ◌≤◌, length, option_map, IfOk, IfSome};
+ghost use Rattle.postsolve_command.specs.Given.{Fitting, GivesPoint, GivesProgram, GivesRecords};
+ghost use Rattle.postsolve_command.specs.RecordTexts.{record_fault_text};
+
+use crate::refusal::Refusal;
+use endings::{fault_line, solution_fault_line};
+use fractions::Numbers;
+use lp_model::{Point, Program};
+use mps_reader::{Dialect, Format, MpsError, read_mps};
+use point_text::{SolError, read_solution};
+use record_reader::{RecordError, RecordFault, matches, read_records};
+use std::alloc::{AllocError, Global};
+use undo_records::Records;
+
+/// The longest reduced program that is read, in bytes.
+pub const PROGRAM_LIMIT: u64 = 1_073_741_824;
+
+/// The longest text of records that is read, in bytes.
+pub const RECORDS_LIMIT: u64 = 1_073_741_824;
+
+/// The bytes of OUT, REC and SOL; none of a name that holds more than is read.
+#[derive(Drop)]
+pub struct Found {
+    pub program: Option<Vec<u8>>,
+    pub records: Option<Vec<u8>>,
+    pub solution: Option<Vec<u8>>,
+}
+
+/// The program of OUT's text, which is in the free format and has fractions.
+pub fn program_of(alloc: Global, found: Option<Vec<u8>>) -> Result<Program, Refusal>
+    requires { IfSome found (λ text. length text.items ≤ PROGRAM_LIMIT) }
+    ensures { GivesProgram (option_map (λ text. text.items) found) result }
+{
+    let Some(text) = found else {
+        return Err(Refusal::Program(Vec::from_slice(alloc, b"error M17\n")?));
+    };
+    let dialect = Dialect {
+        format: Format::Free,
+        numbers: Numbers::Fractions,
+    };
+    match read_mps(alloc, &text, dialect) {
+        Ok(program) => Ok(program),
+        Err(MpsError::Fault(fault)) => Err(Refusal::Program(fault_line(alloc, fault)?)),
+        Err(MpsError::NoMemory) => Err(Refusal::NoMemory),
+    }
+}
+
+/// The line that names a fault of a text of records.
+fn record_fault_line(alloc: Global, fault: RecordFault) -> Result<Vec<u8>, AllocError>
+    ensures { IfOk result (λ text. text.items ≡ record_fault_text fault) }
+{
+    let number = fault.kind.number();
+    let line = fault.line;
+    let text = format!(in alloc; "error F{number} line {line}\n")?;
+    Vec::from_slice(alloc, text.as_bytes())
+}
+
+/// The records of REC's text.
+pub fn records_of(alloc: Global, found: Option<Vec<u8>>) -> Result<Records, Refusal>
+    requires { IfSome found (λ text. length text.items ≤ RECORDS_LIMIT) }
+    ensures { GivesRecords (option_map (λ text. text.items) found) result }
+{
+    let Some(text) = found else {
+        return Err(Refusal::Records(Vec::from_slice(alloc, b"error F8\n")?));
+    };
+    match read_records(alloc, &text) {
+        Ok(records) => Ok(records),
+        Err(RecordError::Fault(fault)) => Err(Refusal::Records(record_fault_line(alloc, fault)?)),
+        Err(RecordError::NoMemory) => Err(Refusal::NoMemory),
+    }
+}
+
+/// Whether the records are those of the program: the names of what is live are the program's names.
+pub fn see_match(alloc: Global, records: &Records, program: &Program) -> Result<(), Refusal>
+    ensures { Fitting records.now program.now result }
+{
+    if matches(records, program) {
+        return Ok(());
+    }
+    Err(Refusal::Records(Vec::from_slice(alloc, b"error F5\n")?))
+}
+
+/// The point of SOL's text, by the program's column names.
+pub fn point_of(alloc: Global, program: &Program, found: Option<Vec<u8>>) -> Result<Point, Refusal>
+    ensures { GivesPoint program.now (option_map (λ text. text.items) found) result }
+{
+    let Some(text) = found else {
+        return Err(Refusal::Solution(Vec::from_slice(alloc, b"error S6\n")?));
+    };
+    match read_solution(alloc, &text, program) {
+        Ok(point) => Ok(point),
+        Err(SolError::Fault(fault)) => Err(Refusal::Solution(solution_fault_line(alloc, fault)?)),
+        Err(SolError::NoMemory) => Err(Refusal::NoMemory),
+    }
+}

@@ -1,0 +1,29 @@
+//! Why a solution is not brought back.
+
+ghost use Rattle.std.specs.Prelude.{◌≡◌};
+ghost use Rattle.postsolve_command.specs.declared.refusal.Refusal.TheVariants.{NoMemory};
+
+use std::alloc::AllocError;
+
+/// Why a solution is not brought back, with the line that says it.
+#[derive(Drop)]
+pub enum Refusal {
+    /// The text of OUT was refused.
+    Program(Vec<u8>),
+    /// The text of REC was refused, or its records are not those of OUT's program.
+    Records(Vec<u8>),
+    /// The text of SOL was refused.
+    Solution(Vec<u8>),
+    /// A number of the lift has no room.
+    Stopped(Vec<u8>),
+    /// Want of memory.
+    NoMemory,
+}
+
+impl From<AllocError> for Refusal {
+    ghost from_gives = { λ _ e. e ≡ NoMemory };
+
+    fn from(_e: AllocError) -> Refusal {
+        Refusal::NoMemory
+    }
+}

@@ -1,0 +1,3 @@
+mod Before
+mod PlainKept
+pub mod Said

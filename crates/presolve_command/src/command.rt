@@ -1,0 +1,62 @@
+//! The command `presolve IN OUT REC [--fractions] [--fixed]`.
+
+ghost use Rattle.std.specs.Prelude.{◌≡◌, ◌≢◌, IfOk, OnOk, OnErr};
+ghost use Rattle.file_ports.specs.Ports.{Written};
+ghost use Rattle.command_line.specs.Seen.{names_of};
+ghost use Rattle.endings.specs.Moments.{KeepsAllBut};
+ghost use Rattle.presolve_command.specs.Presolved.{EndsPresolve, FailsBetween};
+
+use crate::reduce::{NotReduced, Texts, reduce};
+use command_line::PresolveWords;
+use endings::{Ending, INPUT_LIMIT, dialect_of, fault_line};
+use file_ports::{Failed, Files, ReadErr};
+use std::alloc::{AllocError, Global};
+
+// Writes the program's text, then the records' text.
+fn write_both<F: Files>(
+    output: &str,
+    records: &str,
+    texts: &Texts,
+    files: &mut F,
+) -> Result<(), Failed>
+    requires { output.now ≢ records.now }
+    ensures program { OnOk result (Written (F.told files.old output.now) (F.told files.new output.now) texts.now.program.items) }
+    ensures records { OnOk result (Written (F.told files.old records.now) (F.told files.new records.now) texts.now.records.items) }
+    ensures others { KeepsAllBut (F.told files.old) (F.told files.new) output.now records.now }
+    ensures failed { OnErr result (FailsBetween output.now texts.now.program.items records.now
+        (F.told files.old) (F.told files.new) (F.write_faults files.old) (F.write_faults files.new)) }
+{
+    files.write(output, &texts.program)?;
+    files.write(records, &texts.records)
+}
+
+/// Reads a program, writes the reduced one and its records. All that is written and printed is made before the first write.
+pub fn presolve<F: Files>(
+    alloc: Global,
+    words: &PresolveWords<'_>,
+    files: &mut F,
+) -> Result<Ending, AllocError>
+    requires { words.now.output.now ≢ words.now.records.now }
+    ensures ends { IfOk result (λ e. EndsPresolve (names_of words.now) e
+        (record { told = F.told files.old; reads = F.read_faults files.old; writes = F.write_faults files.old; overlong = F.overlong files.old })
+        (record { told = F.told files.new; reads = F.read_faults files.new; writes = F.write_faults files.new; overlong = F.overlong files.new })) }
+    ensures no_memory { OnErr result (F.told files.new ≡ F.told files.old) }
+{
+    let text = match files.read(alloc, words.input, INPUT_LIMIT) {
+        Ok(text) => text,
+        Err(ReadErr::Failed) => return Ok(Ending::ReadFault),
+        Err(ReadErr::TooLong) => {
+            return Ok(Ending::Refused(Vec::from_slice(alloc, b"error M17\n")?));
+        }
+        Err(ReadErr::NoMemory) => return Err(AllocError),
+    };
+    let texts = match reduce(alloc, &text, dialect_of(words.options)) {
+        Ok(texts) => texts,
+        Err(NotReduced::Fault(fault)) => return Ok(Ending::Refused(fault_line(alloc, fault)?)),
+        Err(NotReduced::NoMemory) => return Err(AllocError),
+    };
+    match write_both(words.output, words.records, &texts, files) {
+        Ok(()) => Ok(Ending::Done(texts.report)),
+        Err(Failed) => Ok(Ending::WriteFault),
+    }
+}

@@ -1,0 +1,8 @@
+//! The command `presolve`: a program's text in, the reduced program, its records and a report out.
+#![tactic(auto)]
+
+mod command;
+mod reduce;
+mod report;
+
+pub use command::presolve;

@@ -1,0 +1,172 @@
+//! What a presolve makes of a text.
+
+ghost use Rattle.std.specs.Prelude.{◌≡◌, ◌<◌, ◌≤◌, ◌^◌, ◌-◌, length, min, IfOk};
+ghost use Rattle.std.specs.List.{sum_by};
+ghost use Rattle.lp_model.specs.ProgramData.{ProgramData};
+ghost use Rattle.presolve_command.specs.Texts.{AreTexts, Carries, IsReduced, Outcome, ReadsBack, Tells, entries_of};
+ghost use Rattle.lp_model.specs.Writable.{EntriesAscend, Writable};
+ghost use Rattle.mps_writer.specs.MpsText.{mps_text, WidthsFit};
+
+use crate::report::{Change, Report, report_of};
+use fractions::Numbers;
+use lp_model::{ColumnDef, Program};
+use mps_reader::{Dialect, MpsError, MpsFault, read_mps};
+use mps_writer::{WriteError, write_mps};
+use presolve_rounds::{Options, Presolved, presolve};
+use record_file::write_records;
+use std::alloc::{AllocError, Global};
+
+/// The most records of a run.
+const RECORD_LIMIT: u64 = 1_000_000_000;
+
+/// All that a presolve writes and prints.
+#[derive(Drop)]
+pub struct Texts {
+    pub program: Vec<u8>,
+    pub records: Vec<u8>,
+    pub report: Vec<u8>,
+}
+
+/// Why a text was not presolved.
+#[derive(Clone, Copy)]
+pub enum NotReduced {
+    Fault(MpsFault),
+    NoMemory,
+}
+
+impl From<AllocError> for NotReduced {
+    ghost use Rattle.presolve_command.specs.declared.reduce.NotReduced.TheVariants.{NoMemory};
+
+    ghost from_gives = { λ _ e. e ≡ NoMemory };
+
+    fn from(_: AllocError) -> Self {
+        NotReduced::NoMemory
+    }
+}
+
+// How many entries these columns have.
+fn count_entries(columns: &[ColumnDef]) -> u64
+    ensures { result ≡ min (sum_by (λ column. length column.entries) columns.now) (2 ^ 64 - 1) }
+{
+    let mut count: u64 = 0;
+    let mut rest = columns;
+    while let [column, after @ ..] = rest {
+        count = count.saturating_add(column.entries.as_slice().len() as u64);
+        rest = after;
+    }
+    count
+}
+
+// How many rows, columns and entries there are.
+#[derive(Clone, Copy)]
+struct Size {
+    rows: u64,
+    columns: u64,
+    entries: u64,
+}
+
+fn size_of(program: &Program) -> Size
+    ensures rows { result.rows ≡ length program.now.rows }
+    ensures columns { result.columns ≡ length program.now.columns }
+    ensures entries { result.entries ≡ entries_of program.now }
+{
+    Size {
+        rows: program.rows().len() as u64,
+        columns: program.columns().len() as u64,
+        entries: count_entries(program.columns()),
+    }
+}
+
+fn program_text(alloc: Global, program: &Program) -> Result<Vec<u8>, AllocError>
+    requires { WidthsFit program.now.rows }
+    ensures text { IfOk result (λ text. text.items ≡ mps_text program.now) }
+{
+    match write_mps(alloc, program) {
+        Ok(text) => Ok(text),
+        Err(WriteError::Past) => unreachable!(),
+        Err(WriteError::NoMemory) => Err(AllocError),
+    }
+}
+
+// The report of a presolve of a program of this size.
+fn report_for(presolved: &Presolved, before: Size) -> Report
+    ensures { (source : ProgramData) → Carries presolved.now.records source → before.rows ≡ length source.rows
+        → before.columns ≡ length source.columns → before.entries ≡ entries_of source
+        → Tells (record { source = source; program = presolved.now.program; records = presolved.now.records; report = result }) }
+{
+    let left = size_of(&presolved.program);
+    let records = &presolved.records;
+    Report {
+        rows: Change {
+            before: before.rows,
+            after: left.rows,
+        },
+        columns: Change {
+            before: before.columns,
+            after: left.columns,
+        },
+        entries: Change {
+            before: before.entries,
+            after: left.entries,
+        },
+        records: records.undos().len() as u64,
+        offset: records.offset(),
+        end: presolved.end,
+    }
+}
+
+fn texts_of(alloc: Global, presolved: &Presolved, report: &Report) -> Result<Texts, AllocError>
+    requires { WidthsFit presolved.now.program.rows }
+    ensures { IfOk result (λ texts. (source : ProgramData)
+        → Tells (record { source = source; program = presolved.now.program; records = presolved.now.records; report = report.now })
+        → AreTexts (record { source = source; program = presolved.now.program; records = presolved.now.records; report = report.now })
+        texts.program.items texts.records.items texts.report.items) }
+{
+    let program = program_text(alloc, &presolved.program)?;
+    let records = write_records(alloc, &presolved.records)?;
+    let report = report_of(alloc, report)?;
+    Ok(Texts {
+        program,
+        records,
+        report,
+    })
+}
+
+// Reduces a program, and makes the texts of what is left.
+fn reduce_program(alloc: Global, program: Program, numbers: Numbers) -> Result<Texts, AllocError>
+    requires few_rows { length program.rows < 2 ^ 32 }
+    requires few_columns { length program.columns < 2 ^ 32 }
+    requires ascends { EntriesAscend program }
+    requires writable { Writable numbers program }
+    ensures { IfOk result (λ texts. (outcome : Outcome) × (outcome.source ≡ program)
+        × AreTexts outcome texts.program.items texts.records.items texts.report.items
+        × ReadsBack numbers outcome texts.program.items) }
+{
+    let before = size_of(&program);
+    let options = Options {
+        numbers,
+        limit: RECORD_LIMIT,
+    };
+    let presolved = presolve(alloc, program, &options)?;
+    let report = report_for(&presolved, before);
+    let texts = texts_of(alloc, &presolved, &report)?;
+    Ok(texts)
+}
+
+/// Reads a program, reduces it, and makes the texts of what is left.
+///
+/// # Errors
+/// The first fault of the text, or want of memory.
+pub fn reduce(alloc: Global, text: &[u8], dialect: Dialect) -> Result<Texts, NotReduced>
+    requires { length text.now < 2 ^ 32 }
+    ensures { IsReduced dialect text.now result }
+{
+    match read_mps(alloc, text, dialect) {
+        Ok(program) => {
+            let texts = reduce_program(alloc, program, dialect.numbers)?;
+            Ok(texts)
+        }
+        Err(MpsError::Fault(fault)) => Err(NotReduced::Fault(fault)),
+        Err(MpsError::NoMemory) => Err(NotReduced::NoMemory),
+    }
+}

@@ -1,0 +1,44 @@
+-- What records say of how a program was reduced.
+use Rattle.std.specs.Prelude.{◌≡◌, ℕ, ◌+◌, List, [], ◌∷◌, map, if◌then◌else◌}
+use Rattle.fractions.specs.declared.Numbers.{Numbers}
+use Rattle.lp_model.specs.ProgramData.{ProgramData}
+use Rattle.lp_model.specs.Meaning.{meaning}
+use Rattle.lp_model.specs.Reductions.{Reduces}
+use Rattle.lp_model.specs.Vectors.{Vector}
+use Rattle.lp_theory.specs.Turning.{signed}
+use Rattle.lp_theory.specs.Renumbering.{spread}
+use Rattle.undo_records.specs.Postsolve.{Postsolve}
+use Rattle.undo_records.specs.Lift.{lift}
+use Rattle.undo_records.specs.declared.label.Label.{Label}
+use Rattle.presolve_model.specs.declared.instance.Reduction.{Reduction}
+use Rattle.presolve_model.specs.Programs.{IsProblemOf, written_program}
+use Rattle.presolve_model.specs.Replay.{replay, records, Replays}
+use Rattle.presolve_model.specs.Sparse.{Sparse}
+
+-- Walks: the reductions that were recorded can be applied one after the other, from the program's problem p on, with these very records;
+-- what is left is q, of which the reduced program is written; the offset is what was added to the cost, in the file's sense; and the
+-- labels say what is live
+pub record Walked (numbers : Numbers) (program reduced : ProgramData) (told : Postsolve) : Type 0 where
+  pub start : Sparse
+  pub history : List Reduction
+  pub opened : IsProblemOf program start
+  pub replays : Replays numbers start history
+  pub undos : told.undos ≡ records start history
+  pub written : reduced ≡ written_program program (replay start history)
+  pub offset : told.offset ≡ signed program.sense (replay start history).offset
+  pub rows : map (λ l. l.live) told.rows ≡ map (λ l. l.live) (replay start history).matrix.rows
+  pub columns : map (λ l. l.live) told.columns ≡ map (λ l. l.live) (replay start history).matrix.columns
+
+-- the ids of the live labels, ascending, from k on
+abbrev pub live_labels_from : ℕ → List Label → List ℕ
+live_labels_from k [] = []
+live_labels_from k (l ∷ ls) = if l.live then k ∷ live_labels_from (k + 1) ls else live_labels_from (k + 1) ls
+
+-- a point of the reduced program at the original columns, with the records undone, last first
+abbrev pub postsolved : Postsolve → Vector → Vector
+postsolved told x = lift told.undos (spread (live_labels_from 0 told.columns) x)
+
+-- each feasible point of the reduced program postsolves to a feasible original one that costs the offset more, and for each feasible
+-- original point there is a reduced one no worse
+abbrev pub ReducesTo : ProgramData → ProgramData → Postsolve → Type 0
+ReducesTo program reduced told = Reduces program.sense (meaning program) (meaning reduced) (postsolved told) told.offset

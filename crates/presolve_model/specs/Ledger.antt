@@ -1,0 +1,32 @@
+-- A book as data.
+use Rattle.std.specs.Prelude.{◌≡◌, ℕ, ◌≤◌, true, List, length, Option, IfSome}
+use Rattle.fractions.specs.declared.Numbers.{Numbers}
+use Rattle.undo_records.specs.declared.undo.Undo.{Undo}
+use Rattle.presolve_model.specs.Sparse.{Sparse}
+use Rattle.presolve_model.specs.Problems.{IsSparse}
+use Rattle.presolve_model.specs.Writing.{IsWritable}
+use Rattle.presolve_model.specs.declared.instance.Reduction.{Reduction}
+use Rattle.presolve_model.specs.declared.instance.Verdict.{Verdict}
+use Rattle.presolve_model.specs.declared.instance.Instance.TheVariants as at
+use Rattle.presolve_model.specs.Enabled.{enabled_on}
+use Rattle.presolve_model.specs.Replay.{replay, records, Replays}
+
+-- the problem that it was opened with, the present one, the reductions that were applied, the verdict that closed it, the records
+pub record Ledger : Type 0 where
+  pub start : Sparse
+  pub problem : Sparse
+  pub history : List Reduction
+  pub verdict : Option Verdict
+  pub records : List Undo
+  pub numbers : Numbers
+  pub limit : ℕ
+
+-- what the type keeps: the problem and the records are those of the history, which replays on the start; a verdict is enabled on the problem
+pub record Stands (b : Ledger) : Type 0 where
+  pub sound : IsSparse b.start
+  pub writable : IsWritable b.numbers b.start
+  pub replays : Replays b.numbers b.start b.history
+  pub problem : b.problem ≡ replay b.start b.history
+  pub records : b.records ≡ records b.start b.history
+  pub verdict : IfSome b.verdict (λ v. enabled_on b.problem (at.Verdict v) ≡ true)
+  pub within : length b.history ≤ b.limit

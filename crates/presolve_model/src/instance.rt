@@ -1,0 +1,53 @@
+//! Rules, and their instances at rows and columns.
+
+/// A rule, in the order in which instances are listed.
+#[derive(Clone, Copy, Debug, PartialEq, Eq)]
+pub enum Rule {
+    /// V1 of columns: crossed bounds.
+    CrossedBounds,
+    /// V1 of rows: crossed sides.
+    CrossedSides,
+    /// K1: a row without entries is deleted.
+    EmptyRow,
+    /// K2: a row with one entry becomes bounds of that entry's column.
+    SingletonRow,
+    /// K3: a column with equal bounds is put into the sides of its rows.
+    FixedColumn,
+    /// K4: the bounds of a whole column are rounded inwards.
+    RoundBounds,
+    /// K17: a column without entries is fixed where it costs least.
+    EmptyColumn,
+}
+
+/// A rule that changes the problem, at a row or a column by original id.
+#[derive(Clone, Copy, Debug, PartialEq, Eq)]
+pub enum Reduction {
+    /// K1.
+    EmptyRow { row: u32 },
+    /// K2.
+    SingletonRow { row: u32 },
+    /// K3.
+    FixedColumn { column: u32 },
+    /// K4.
+    RoundBounds { column: u32 },
+    /// K17.
+    EmptyColumn { column: u32 },
+}
+
+/// A rule that decides the problem, at a row or a column by original id.
+#[derive(Clone, Copy, Debug, PartialEq, Eq)]
+pub enum Verdict {
+    /// V1 at a column: no point is between its bounds.
+    CrossedBounds { column: u32 },
+    /// V1 at a row: no value is between its sides.
+    CrossedSides { row: u32 },
+}
+
+/// A rule at a row or a column.
+#[derive(Clone, Copy, Debug, PartialEq, Eq)]
+pub enum Instance {
+    /// It changes the problem.
+    Reduction(Reduction),
+    /// It decides the problem.
+    Verdict(Verdict),
+}

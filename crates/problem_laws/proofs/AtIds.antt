@@ -1,0 +1,145 @@
+-- What stands at an id after an edit.
+use Rattle.std.proofs.Common.{◌≡◌, ◌≢◌, ℕ, ◌<◌, ◌≤◌, Bool, true, false, List, length, sym, refl, ap, ◌∙◌, pred, arith, ◌⊎◌, inl, inr, Option}
+use Rattle.std.specs.Prelude.{if◌then◌else◌}
+use Rattle.std.proofs.lemmas.Bool.{cases_lt}
+use Rattle.std.proofs.lemmas.List.{get_or-set_same, get_or-set_other, get_or_past}
+use Rattle.std.proofs.Math.ListN.{get_or-map}
+use Rattle.rational.specs.Number.{Number}
+use Rattle.rational.proofs.Totals.{at_or_off}
+use Rattle.lp_model.specs.Sparse.{has}
+use Rattle.presolve_model.specs.declared.line.Line.{Line}
+use Rattle.presolve_model.specs.Matrices.{no_line, line_at}
+use Rattle.presolve_model.specs.Problems.{no_sides, no_bounds, row_at, column_at, sides_at, bounds_at, IsSparse}
+use Rattle.presolve_model.specs.Edits.{risen, deleted, losing, lines_without, lines_losing, touched_sides, touched_bounds, sides_moved, bounds_moved, row_deleted, column_deleted, sides_set, bounds_set}
+use Rattle.presolve_model.specs.Sparse.{Sparse}
+
+-- what is live stands before the end of the list
+pub live_inside : (lines : List Line) (k : ℕ) → (line_at lines k).live ≡ true → k < length lines
+live_inside lines k h = by (cases_lt k (length lines))
+  where
+    by : (k < length lines) ⊎ (length lines ≤ k) → k < length lines
+    by (inl l) = l
+    by (inr g) = let e : false ≡ true = sym (ap (λ (y : Line). y.live) (get_or_past lines k no_line g)) ∙ h in cc
+
+-- ---- a deleted line
+pub without-same : (lines : List Line) (k : ℕ) → k < length lines → line_at (lines_without lines k) k ≡ deleted (line_at lines k)
+without-same lines k l = get_or-set_same lines k (deleted (line_at lines k)) no_line l
+
+pub without-other : (lines : List Line) (k m : ℕ) → m ≢ k → line_at (lines_without lines k) m ≡ line_at lines m
+without-other lines k m n = get_or-set_other lines k m (deleted (line_at lines k)) no_line n
+
+pub without-entries : (lines : List Line) (k : ℕ) → k < length lines → (m : ℕ) → (line_at (lines_without lines k) m).entries ≡ (line_at lines m).entries
+without-entries lines k l = at_or_off (λ m. (line_at (lines_without lines k) m).entries ≡ (line_at lines m).entries) k
+    (ap (λ (y : Line). y.entries) (without-same lines k l))
+    (λ m n. ap (λ (y : Line). y.entries) (without-other lines k m n))
+
+pub without-live_entries : (lines : List Line) (k : ℕ) → k < length lines → (m : ℕ) → (line_at (lines_without lines k) m).live_entries ≡ (line_at lines m).live_entries
+without-live_entries lines k l = at_or_off (λ m. (line_at (lines_without lines k) m).live_entries ≡ (line_at lines m).live_entries) k
+    (ap (λ (y : Line). y.live_entries) (without-same lines k l))
+    (λ m n. ap (λ (y : Line). y.live_entries) (without-other lines k m n))
+
+pub without-dead : (lines : List Line) (k : ℕ) → k < length lines → (line_at (lines_without lines k) k).live ≡ false
+without-dead lines k l = ap (λ (y : Line). y.live) (without-same lines k l)
+
+pub without-live : (lines : List Line) (k m : ℕ) → m ≢ k → (line_at (lines_without lines k) m).live ≡ (line_at lines m).live
+without-live lines k m n = ap (λ (y : Line). y.live) (without-other lines k m n)
+
+-- ---- lines that lose an entry
+-- a line that loses an entry, if it had it
+abbrev lost : Bool → Line → Line
+lost b l = if b then record l { live_entries = pred l.live_entries; changes = if l.live then risen l.changes else l.changes } else l
+
+pub losing_live : (k : ℕ) (l : Line) → (losing k l).live ≡ l.live
+losing_live k l = by (has k l.entries)
+  where
+    by : (b : Bool) → (lost b l).live ≡ l.live
+    by true = refl
+    by false = refl
+
+pub losing_entries : (k : ℕ) (l : Line) → (losing k l).entries ≡ l.entries
+losing_entries k l = by (has k l.entries)
+  where
+    by : (b : Bool) → (lost b l).entries ≡ l.entries
+    by true = refl
+    by false = refl
+
+pub losing_live_entries : (k : ℕ) (l : Line) → (losing k l).live_entries ≡ if has k l.entries then pred l.live_entries else l.live_entries
+losing_live_entries k l = by (has k l.entries)
+  where
+    by : (b : Bool) → (lost b l).live_entries ≡ if b then pred l.live_entries else l.live_entries
+    by true = refl
+    by false = refl
+
+pub losing-at : (lines : List Line) (k m : ℕ) → line_at (lines_losing lines k) m ≡ losing k (line_at lines m)
+losing-at lines k m = get_or-map (losing k) lines m no_line
+
+pub losing-live : (lines : List Line) (k m : ℕ) → (line_at (lines_losing lines k) m).live ≡ (line_at lines m).live
+losing-live lines k m = ap (λ (y : Line). y.live) (losing-at lines k m) ∙ losing_live k (line_at lines m)
+
+pub losing-entries : (lines : List Line) (k m : ℕ) → (line_at (lines_losing lines k) m).entries ≡ (line_at lines m).entries
+losing-entries lines k m = ap (λ (y : Line). y.entries) (losing-at lines k m) ∙ losing_entries k (line_at lines m)
+
+pub losing-live_entries : (lines : List Line) (k m : ℕ) → (line_at (lines_losing lines k) m).live_entries
+    ≡ if has k (line_at lines m).entries then pred (line_at lines m).live_entries else (line_at lines m).live_entries
+losing-live_entries lines k m = ap (λ (y : Line). y.live_entries) (losing-at lines k m) ∙ losing_live_entries k (line_at lines m)
+
+-- ---- rows and columns of a problem with a deleted row
+pub row_deleted-same : (p : Sparse) (i : ℕ) → i < length p.matrix.rows → row_at (row_deleted p i) i ≡ deleted (row_at p i)
+row_deleted-same p i l = without-same p.matrix.rows i l
+
+pub row_deleted-other : (p : Sparse) (i k : ℕ) → k ≢ i → row_at (row_deleted p i) k ≡ row_at p k
+row_deleted-other p i k n = without-other p.matrix.rows i k n
+
+pub row_deleted-column : (p : Sparse) (i j : ℕ) → column_at (row_deleted p i) j ≡ losing i (column_at p j)
+row_deleted-column p i j = losing-at p.matrix.columns i j
+
+pub row_deleted-sides : (p : Sparse) (i : ℕ) → i < length p.sides → sides_at (row_deleted p i) i ≡ touched_sides (sides_at p i)
+row_deleted-sides p i l = get_or-set_same p.sides i (touched_sides (sides_at p i)) no_sides l
+
+pub row_deleted-other_sides : (p : Sparse) (i k : ℕ) → k ≢ i → sides_at (row_deleted p i) k ≡ sides_at p k
+row_deleted-other_sides p i k n = get_or-set_other p.sides i k (touched_sides (sides_at p i)) no_sides n
+
+-- ---- and with a deleted column
+pub column_deleted-same : (p : Sparse) (j : ℕ) → j < length p.matrix.columns → column_at (column_deleted p j) j ≡ deleted (column_at p j)
+column_deleted-same p j l = without-same p.matrix.columns j l
+
+pub column_deleted-other : (p : Sparse) (j k : ℕ) → k ≢ j → column_at (column_deleted p j) k ≡ column_at p k
+column_deleted-other p j k n = without-other p.matrix.columns j k n
+
+pub column_deleted-row : (p : Sparse) (j i : ℕ) → row_at (column_deleted p j) i ≡ losing j (row_at p i)
+column_deleted-row p j i = losing-at p.matrix.rows j i
+
+pub column_deleted-bounds : (p : Sparse) (j : ℕ) → j < length p.bounds → bounds_at (column_deleted p j) j ≡ touched_bounds (bounds_at p j)
+column_deleted-bounds p j l = get_or-set_same p.bounds j (touched_bounds (bounds_at p j)) no_bounds l
+
+pub column_deleted-other_bounds : (p : Sparse) (j k : ℕ) → k ≢ j → bounds_at (column_deleted p j) k ≡ bounds_at p k
+column_deleted-other_bounds p j k n = get_or-set_other p.bounds j k (touched_bounds (bounds_at p j)) no_bounds n
+
+-- ---- new sides and bounds
+pub sides_set-same : (p : Sparse) (i : ℕ) (l u : Option Number) → i < length p.sides → sides_at (sides_set p i l u) i ≡ sides_moved (sides_at p i) l u
+sides_set-same p i l u h = get_or-set_same p.sides i (sides_moved (sides_at p i) l u) no_sides h
+
+pub sides_set-other : (p : Sparse) (i : ℕ) (l u : Option Number) (k : ℕ) → k ≢ i → sides_at (sides_set p i l u) k ≡ sides_at p k
+sides_set-other p i l u k n = get_or-set_other p.sides i k (sides_moved (sides_at p i) l u) no_sides n
+
+pub bounds_set-same : (p : Sparse) (j : ℕ) (l u : Option Number) → j < length p.bounds → bounds_at (bounds_set p j l u) j ≡ bounds_moved (bounds_at p j) l u
+bounds_set-same p j l u h = get_or-set_same p.bounds j (bounds_moved (bounds_at p j) l u) no_bounds h
+
+pub bounds_set-other : (p : Sparse) (j : ℕ) (l u : Option Number) (k : ℕ) → k ≢ j → bounds_at (bounds_set p j l u) k ≡ bounds_at p k
+bounds_set-other p j l u k n = get_or-set_other p.bounds j k (bounds_moved (bounds_at p j) l u) no_bounds n
+
+-- ---- live rows and columns have sides, bounds and costs
+pub row_inside : (p : Sparse) (i : ℕ) → (row_at p i).live ≡ true → i < length p.matrix.rows
+row_inside p i h = live_inside p.matrix.rows i h
+
+pub column_inside : (p : Sparse) (j : ℕ) → (column_at p j).live ≡ true → j < length p.matrix.columns
+column_inside p j h = live_inside p.matrix.columns j h
+
+pub sides_inside : (p : Sparse) (i : ℕ) → IsSparse p → (row_at p i).live ≡ true → i < length p.sides
+sides_inside p i s h = omega (arith, row_inside p i h, s.sides)
+
+pub bounds_inside : (p : Sparse) (j : ℕ) → IsSparse p → (column_at p j).live ≡ true → j < length p.bounds
+bounds_inside p j s h = omega (arith, column_inside p j h, s.bounds)
+
+pub cost_inside : (p : Sparse) (j : ℕ) → IsSparse p → (column_at p j).live ≡ true → j < length p.costs
+cost_inside p j s h = omega (arith, column_inside p j h, s.costs)

@@ -1,0 +1,11 @@
+//! A problem in sparse rows and columns, by the ids of the program that it was made of.
+#![tactic(auto)]
+
+mod lines;
+mod made;
+mod moves;
+mod problem;
+mod transpose;
+mod written;
+
+pub use problem::Problem;

@@ -1,0 +1,263 @@
+//! Problems.
+
+ghost use Rattle.std.specs.Prelude.{◌≡◌, ◌<◌, ◌^◌, length, IfOk, true, [], ◌∷◌};
+ghost use Rattle.presolve_model.specs.Edits.{bounds_set, column_deleted, offset_set, row_deleted, sides_set};
+ghost use Rattle.presolve_model.specs.Problems.{bounds_at, column_at, column_entries, cost_at, IsSparse, row_at, row_entries, sides_at};
+
+use crate::lines::{delete_line, first_live, is_live, live_entries_of, live_terms_of};
+use crate::moves::{moved_bounds, moved_sides, touch_bounds, touch_sides};
+use fractions::ext::Ext;
+use fractions::frac::Frac;
+use lp_model::{Term, Terms};
+use presolve_model::{Bounds, Line, Sides};
+use std::alloc::{AllocError, Global};
+use std::marker::Model;
+
+/// A problem to be minimized: rows and columns by the ids of the program that it was made of, deleted ones among them.
+#[derive(Drop)]
+pub struct Problem {
+    rows: Vec<Line>,
+    columns: Vec<Line>,
+    sides: Vec<Sides>,
+    bounds: Vec<Bounds>,
+    costs: Vec<Frac>,
+    offset: Frac,
+    constant: Frac,
+}
+
+impl Model for Problem {
+    ghost use Rattle.std.specs.Coded.{codes};
+    ghost use Rattle.rational.specs.Lowest.{number_code};
+    ghost use Rattle.presolve_model.specs.Sparse.{Sparse};
+
+    ghost Value = { Sparse };
+
+    ghost coded = { Prim.hlevel (codes, number_code) };
+
+    ghost use Rattle.presolve_model.specs.Problems.{IsSparse};
+
+    ghost view = { λ p. record { matrix = record { rows = p.rows.items; columns = p.columns.items }; sides = p.sides.items; bounds = p.bounds.items; costs = p.costs.items; offset = p.offset; constant = p.constant } };
+
+    ghost invariant = { λ p. IsSparse (record { matrix = record { rows = p.rows.items; columns = p.columns.items }; sides = p.sides.items; bounds = p.bounds.items; costs = p.costs.items; offset = p.offset; constant = p.constant }) };
+}
+
+impl Problem {
+    /// The problem of these parts.
+    pub(crate) fn new(
+        rows: Vec<Line>,
+        columns: Vec<Line>,
+        sides: Vec<Sides>,
+        bounds: Vec<Bounds>,
+        costs: Vec<Frac>,
+        offset: Frac,
+        constant: Frac,
+    ) -> Problem
+        requires { IsSparse (record { matrix = record { rows = rows.items; columns = columns.items }; sides = sides.items; bounds = bounds.items; costs = costs.items; offset = offset; constant = constant }) }
+        ensures { result ≡ record { matrix = record { rows = rows.items; columns = columns.items }; sides = sides.items; bounds = bounds.items; costs = costs.items; offset = offset; constant = constant } }
+    {
+        Problem {
+            rows,
+            columns,
+            sides,
+            bounds,
+            costs,
+            offset,
+            constant,
+        }
+    }
+
+    /// That rows and columns agree, and that ids have 32 bits.
+    pub fn is_sparse(&self)
+        ensures { IsSparse self.now }
+    {
+        let _ = &self.offset;
+    }
+
+    /// The rows, by id, deleted ones among them.
+    pub fn rows(&self) -> &[Line]
+        ensures { result.now ≡ self.now.matrix.rows }
+    {
+        self.rows.as_slice()
+    }
+
+    /// The columns, by id, deleted ones among them.
+    pub fn columns(&self) -> &[Line]
+        ensures { result.now ≡ self.now.matrix.columns }
+    {
+        self.columns.as_slice()
+    }
+
+    /// The sides of each row.
+    pub fn all_sides(&self) -> &[Sides]
+        ensures value { result.now ≡ self.now.sides }
+        ensures long { length result.now ≡ length self.now.matrix.rows }
+    {
+        self.sides.as_slice()
+    }
+
+    /// The bounds of each column.
+    pub fn all_bounds(&self) -> &[Bounds]
+        ensures value { result.now ≡ self.now.bounds }
+        ensures long { length result.now ≡ length self.now.matrix.columns }
+    {
+        self.bounds.as_slice()
+    }
+
+    /// The cost of each column, in the minimizing sense.
+    pub fn costs(&self) -> &[Frac]
+        ensures value { result.now ≡ self.now.costs }
+        ensures long { length result.now ≡ length self.now.matrix.columns }
+    {
+        self.costs.as_slice()
+    }
+
+    /// What was added to the cost, in the minimizing sense.
+    pub fn offset(&self) -> Frac
+        ensures { result ≡ self.now.offset }
+    {
+        self.offset
+    }
+
+    /// The constant of the cost, in the minimizing sense.
+    pub fn constant(&self) -> Frac
+        ensures { result ≡ self.now.constant }
+    {
+        self.constant
+    }
+
+    /// How many rows there are, deleted ones among them.
+    pub fn row_count(&self) -> usize
+        ensures value { result ≡ length self.now.matrix.rows }
+        ensures few { result < 2 ^ 32 }
+    {
+        self.rows.len()
+    }
+
+    /// How many columns there are, deleted ones among them.
+    pub fn column_count(&self) -> usize
+        ensures value { result ≡ length self.now.matrix.columns }
+        ensures few { result < 2 ^ 32 }
+    {
+        self.columns.len()
+    }
+
+    /// Whether a row is there. One past the last isn't.
+    pub fn is_row_live(&self, i: u32) -> bool
+        ensures { result ≡ (row_at self.now i).live }
+    {
+        is_live(self.rows.as_slice(), i)
+    }
+
+    /// Whether a column is there. One past the last isn't.
+    pub fn is_column_live(&self, j: u32) -> bool
+        ensures { result ≡ (column_at self.now j).live }
+    {
+        is_live(self.columns.as_slice(), j)
+    }
+
+    /// How many entries of a row are in live columns.
+    pub fn live_row_entries(&self, i: u32) -> usize
+        ensures { result ≡ length (row_entries self.now i) }
+    {
+        live_entries_of(self.rows.as_slice(), i)
+    }
+
+    /// How many entries of a column are in live rows.
+    pub fn live_column_entries(&self, j: u32) -> usize
+        ensures { result ≡ length (column_entries self.now j) }
+    {
+        live_entries_of(self.columns.as_slice(), j)
+    }
+
+    /// The sides of a row.
+    pub fn sides(&self, i: u32) -> Sides
+        requires { (row_at self.now i).live ≡ true }
+        ensures { result ≡ sides_at self.now i }
+    {
+        self.sides[i as usize]
+    }
+
+    /// The bounds of a column.
+    pub fn bounds(&self, j: u32) -> Bounds
+        requires { (column_at self.now j).live ≡ true }
+        ensures { result ≡ bounds_at self.now j }
+    {
+        self.bounds[j as usize]
+    }
+
+    /// The cost of a column, in the minimizing sense.
+    pub fn cost(&self, j: u32) -> Frac
+        requires { (column_at self.now j).live ≡ true }
+        ensures { result ≡ cost_at self.now j }
+    {
+        self.costs[j as usize]
+    }
+
+    /// The one entry of a row in a live column.
+    pub fn sole_entry(&self, i: u32) -> Term
+        requires live { (row_at self.now i).live ≡ true }
+        requires sole { length (row_entries self.now i) ≡ 1 }
+        ensures { row_entries self.now i ≡ result ∷ [] }
+    {
+        let row = &self.rows[i as usize];
+        match first_live(self.columns.as_slice(), row.entries.as_slice()) {
+            Some(term) => term,
+            None => unreachable!(),
+        }
+    }
+
+    /// The entries of a row in live columns, by column id.
+    pub fn row_terms(&self, alloc: Global, i: u32) -> Result<Terms, AllocError>
+        ensures { IfOk result (λ terms. terms ≡ row_entries self.now i) }
+    {
+        live_terms_of(alloc, self.rows.as_slice(), self.columns.as_slice(), i)
+    }
+
+    /// The entries of a column in live rows, by row id.
+    pub fn column_terms(&self, alloc: Global, j: u32) -> Result<Terms, AllocError>
+        ensures { IfOk result (λ terms. terms ≡ column_entries self.now j) }
+    {
+        live_terms_of(alloc, self.columns.as_slice(), self.rows.as_slice(), j)
+    }
+
+    /// Sets what was added to the cost, in the minimizing sense.
+    pub fn set_offset(&mut self, offset: Frac)
+        ensures { self.new ≡ offset_set self.old offset }
+    {
+        self.offset = offset;
+    }
+
+    /// Gives a row sides.
+    pub fn set_sides(&mut self, i: u32, lower: Ext, upper: Ext)
+        requires { (row_at self.old i).live ≡ true }
+        ensures { self.new ≡ sides_set self.old i lower upper }
+    {
+        self.sides[i as usize] = moved_sides(self.sides[i as usize], lower, upper);
+    }
+
+    /// Gives a column bounds.
+    pub fn set_bounds(&mut self, j: u32, lower: Ext, upper: Ext)
+        requires { (column_at self.old j).live ≡ true }
+        ensures { self.new ≡ bounds_set self.old j lower upper }
+    {
+        self.bounds[j as usize] = moved_bounds(self.bounds[j as usize], lower, upper);
+    }
+
+    /// Deletes a row with its sides. The columns' entries there stay in place, and are live no more.
+    pub fn delete_row(&mut self, i: u32)
+        requires { (row_at self.old i).live ≡ true }
+        ensures { self.new ≡ row_deleted self.old i }
+    {
+        touch_sides(&mut self.sides[i as usize]);
+        delete_line(&mut self.rows, &mut self.columns, i);
+    }
+
+    /// Deletes a column with its bounds and its cost. The rows' entries there stay in place, and are live no more.
+    pub fn delete_column(&mut self, j: u32)
+        requires { (column_at self.old j).live ≡ true }
+        ensures { self.new ≡ column_deleted self.old j }
+    {
+        touch_bounds(&mut self.bounds[j as usize]);
+        delete_line(&mut self.columns, &mut self.rows, j);
+    }
+}

@@ -1,0 +1,10 @@
+pub mod Ranks
+pub mod Choosing
+pub mod Negating
+pub mod Renumbering
+pub mod Making
+pub mod ProblemsShow
+pub mod Alikeness
+pub mod WrittenShow
+pub mod Writing
+pub mod Placing

@@ -1,0 +1,8 @@
+pub mod Lines
+pub mod Labels
+pub mod Headings
+pub mod Progress
+pub mod Faults
+pub mod Reading
+pub mod Matching
+pub mod Results

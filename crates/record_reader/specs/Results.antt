@@ -1,0 +1,50 @@
+-- What the steps of reading give.
+use Rattle.std.specs.Prelude.{◌≡◌, ℕ, List, Option, Some, None, Result, Ok, Err}
+use Rattle.rational.specs.Number.{Number}
+use Rattle.record_words.specs.declared.lines.LineError.{LineError}
+use Rattle.record_words.specs.declared.lines.LineError.TheVariants as line
+use Rattle.record_words.specs.declared.faults.LineFault.{LineFault}
+use Rattle.record_reader.specs.Lines.{lines_of}
+use Rattle.record_reader.specs.Headings.{offset_by, offset_of}
+use Rattle.record_reader.specs.Progress.{Progress, moved_at, moved}
+use Rattle.record_reader.specs.Faults.{fault_at, line_fault}
+use Rattle.record_reader.specs.Reading.{fault_from, first_fault, progress_from, records_of}
+use Rattle.record_reader.specs.declared.draft.Draft.{Draft}
+use Rattle.record_reader.specs.declared.faults.RecordError.{RecordError}
+use Rattle.record_reader.specs.declared.faults.RecordError.TheVariants as record_error
+use Rattle.record_reader.specs.declared.faults.TakeError.{TakeError}
+use Rattle.record_reader.specs.declared.faults.TakeError.TheVariants as take
+use Rattle.record_reader.specs.declared.stages.Stage.{Stage}
+
+-- the progress that a draft shows
+abbrev pub seen : Draft → Progress
+seen d = record { stage = d.stage; given = record { sense = d.sense; columns = d.columns.items; rows = d.rows.items; offset = d.offset; undos = d.undos.items }; live = d.walk }
+
+-- a number, or a fault, as it is to be
+abbrev pub IsNumber : Result Number LineFault → Result Number LineError → Type 0
+IsNumber read (Ok q) = read ≡ Ok q
+IsNumber read (Err (line.Fault fault)) = read ≡ Err fault
+IsNumber read (Err line.NoMemory) = Unit {0}
+
+-- a line was taken in at a stage, or its fault was found
+abbrev pub TakesAt : {T : Type 0} → Stage → Progress → List ℕ → Result T TakeError → Progress → Type 0
+TakesAt stage p text (Ok done) q = (fault_at stage p text ≡ None) × (q ≡ moved_at stage p text)
+TakesAt stage p text (Err (take.Fault kind)) q = fault_at stage p text ≡ Some kind
+TakesAt stage p text (Err take.NoMemory) q = Unit {0}
+
+abbrev pub Takes : {T : Type 0} → Progress → List ℕ → Result T TakeError → Progress → Type 0
+Takes p text (Ok done) q = (line_fault p text ≡ None) × (q ≡ moved p text)
+Takes p text (Err (take.Fault kind)) q = line_fault p text ≡ Some kind
+Takes p text (Err take.NoMemory) q = Unit {0}
+
+-- all lines of a text were taken in, or its first fault was found
+abbrev pub TakesAll : {T : Type 0} → Progress → List ℕ → Result T RecordError → Progress → Type 0
+TakesAll p text (Ok done) q = (fault_from p 0 (lines_of text) ≡ None) × (q ≡ progress_from p (lines_of text))
+TakesAll p text (Err (record_error.Fault fault)) q = fault_from p 0 (lines_of text) ≡ Some (fault.kind, fault.line)
+TakesAll p text (Err record_error.NoMemory) q = Unit {0}
+
+-- what all lines of a text give, or its first fault
+abbrev pub IsDraft : List ℕ → Result Draft RecordError → Type 0
+IsDraft text (Ok d) = (first_fault text ≡ None) × ((seen d).given ≡ records_of text)
+IsDraft text (Err (record_error.Fault fault)) = first_fault text ≡ Some (fault.kind, fault.line)
+IsDraft text (Err record_error.NoMemory) = Unit {0}

@@ -1,0 +1,218 @@
+//! What the lines so far have given.
+
+ghost use Rattle.std.specs.Prelude.{◌≡◌, IfOk, OnOk, ◌++◌, ◌∷◌, [], pred};
+ghost use Rattle.undo_records.specs.Walk.{after};
+ghost use Rattle.record_reader.specs.Progress.{start, columns_left, rows_left, undos_left};
+ghost use Rattle.record_reader.specs.Faults.{ends_at};
+ghost use Rattle.record_reader.specs.Results.{seen, TakesAt, Takes};
+ghost use Rattle.record_reader.specs.declared.stages.Stage.TheVariants.{Header, SenseLine, DualsLine, ColumnCount, Columns, RowCount, Rows, Offset, RecordCount, Undos, End, Over};
+
+use crate::faults::{RecordFaultKind, TakeError, kind_of};
+use crate::headings::{count_of, is_duals, is_end, is_header, offset_of, sense_of};
+use crate::labels::label_of;
+use crate::stages::{Stage, columns_left, rows_left, undos_left};
+use fractions::frac::Frac;
+use lp_model::Sense;
+use record_words::{LineError, read_undo};
+use std::alloc::{AllocError, Global};
+use undo_records::{Label, Undo, Walk};
+
+/// What the lines so far have given, what the next one has to be, and what is live behind them.
+#[derive(Drop)]
+pub struct Draft {
+    pub stage: Stage,
+    pub sense: Sense,
+    pub columns: Vec<Label>,
+    pub rows: Vec<Label>,
+    pub offset: Frac,
+    pub undos: Vec<Undo>,
+    pub walk: Walk,
+}
+
+/// Puts a label behind others.
+fn push_label(labels: &mut Vec<Label>, label: Label) -> Result<(), AllocError>
+    ensures { OnOk result (labels.new.items ≡ labels.old.items ++ label ∷ []) }
+{
+    labels.push(label)?;
+    Ok(())
+}
+
+/// Puts a record behind others.
+fn push_undo(undos: &mut Vec<Undo>, undo: Undo) -> Result<(), AllocError>
+    ensures { OnOk result (undos.new.items ≡ undos.old.items ++ undo ∷ []) }
+{
+    undos.push(undo)?;
+    Ok(())
+}
+
+impl Draft {
+    /// Nothing yet.
+    pub fn new(alloc: Global) -> Result<Draft, AllocError>
+        ensures { IfOk result (λ draft. seen draft ≡ start) }
+    {
+        Ok(Draft {
+            stage: Stage::Header,
+            sense: Sense::Min,
+            columns: Vec::new(alloc),
+            rows: Vec::new(alloc),
+            offset: Frac::zero(),
+            undos: Vec::new(alloc),
+            walk: Walk::new(alloc, 0, 0)?,
+        })
+    }
+
+    fn take_header(&mut self, line: &[u8]) -> Result<(), TakeError>
+        ensures { TakesAt Header (seen self.old) line.now result (seen self.new) }
+    {
+        if !is_header(line) {
+            return Err(TakeError::Fault(RecordFaultKind::BadHeader));
+        }
+        self.stage = Stage::SenseLine;
+        Ok(())
+    }
+
+    fn take_sense(&mut self, line: &[u8]) -> Result<(), TakeError>
+        ensures { TakesAt SenseLine (seen self.old) line.now result (seen self.new) }
+    {
+        let Some(sense) = sense_of(line) else {
+            return Err(TakeError::Fault(RecordFaultKind::BadLine));
+        };
+        self.sense = sense;
+        self.stage = Stage::DualsLine;
+        Ok(())
+    }
+
+    fn take_duals(&mut self, line: &[u8]) -> Result<(), TakeError>
+        ensures { TakesAt DualsLine (seen self.old) line.now result (seen self.new) }
+    {
+        if !is_duals(line) {
+            return Err(TakeError::Fault(RecordFaultKind::BadLine));
+        }
+        self.stage = Stage::ColumnCount;
+        Ok(())
+    }
+
+    fn take_column_count(&mut self, line: &[u8]) -> Result<(), TakeError>
+        ensures { TakesAt ColumnCount (seen self.old) line.now result (seen self.new) }
+    {
+        let Some(count) = count_of(b"columns ", line) else {
+            return Err(TakeError::Fault(RecordFaultKind::BadLine));
+        };
+        self.stage = columns_left(count);
+        Ok(())
+    }
+
+    fn take_column(&mut self, alloc: Global, left: u64, line: &[u8]) -> Result<(), TakeError>
+        ensures { TakesAt (Columns left) (seen self.old) line.now result (seen self.new) }
+    {
+        let Some(label) = label_of(alloc, line)? else {
+            return Err(TakeError::Fault(RecordFaultKind::BadLine));
+        };
+        push_label(&mut self.columns, label)?;
+        self.stage = columns_left(left.saturating_sub(1));
+        Ok(())
+    }
+
+    fn take_row_count(&mut self, line: &[u8]) -> Result<(), TakeError>
+        ensures { TakesAt RowCount (seen self.old) line.now result (seen self.new) }
+    {
+        let Some(count) = count_of(b"rows ", line) else {
+            return Err(TakeError::Fault(RecordFaultKind::BadLine));
+        };
+        self.stage = rows_left(count);
+        Ok(())
+    }
+
+    fn take_row(&mut self, alloc: Global, left: u64, line: &[u8]) -> Result<(), TakeError>
+        ensures { TakesAt (Rows left) (seen self.old) line.now result (seen self.new) }
+    {
+        let Some(label) = label_of(alloc, line)? else {
+            return Err(TakeError::Fault(RecordFaultKind::BadLine));
+        };
+        push_label(&mut self.rows, label)?;
+        self.stage = rows_left(left.saturating_sub(1));
+        Ok(())
+    }
+
+    fn take_offset(&mut self, alloc: Global, line: &[u8]) -> Result<(), TakeError>
+        ensures { TakesAt Offset (seen self.old) line.now result (seen self.new) }
+    {
+        match offset_of(alloc, line) {
+            Ok(offset) => {
+                self.offset = offset;
+                self.stage = Stage::RecordCount;
+                Ok(())
+            }
+            Err(LineError::Fault(fault)) => Err(TakeError::Fault(kind_of(fault))),
+            Err(LineError::NoMemory) => Err(TakeError::NoMemory),
+        }
+    }
+
+    fn take_record_count(&mut self, alloc: Global, line: &[u8]) -> Result<(), TakeError>
+        ensures { TakesAt RecordCount (seen self.old) line.now result (seen self.new) }
+    {
+        let Some(count) = count_of(b"records ", line) else {
+            return Err(TakeError::Fault(RecordFaultKind::BadLine));
+        };
+        self.walk = Walk::new(alloc, self.rows.len(), self.columns.len())?;
+        self.stage = undos_left(count);
+        Ok(())
+    }
+
+    fn take_undo(&mut self, alloc: Global, left: u64, line: &[u8]) -> Result<(), TakeError>
+        ensures { TakesAt (Undos left) (seen self.old) line.now result (seen self.new) }
+    {
+        match read_undo(alloc, &self.walk, line) {
+            Ok(undo) => {
+                self.walk.step(&undo);
+                push_undo(&mut self.undos, undo)?;
+                self.stage = undos_left(left.saturating_sub(1));
+                Ok(())
+            }
+            Err(LineError::Fault(fault)) => Err(TakeError::Fault(kind_of(fault))),
+            Err(LineError::NoMemory) => Err(TakeError::NoMemory),
+        }
+    }
+
+    /// Whether the labels say what the records have left.
+    fn has_ended(&self) -> bool
+        ensures { result ≡ ends_at (seen self.now).live (seen self.now).given }
+    {
+        self.walk
+            .ends_at(self.columns.as_slice(), self.rows.as_slice())
+    }
+
+    fn take_end(&mut self, line: &[u8]) -> Result<(), TakeError>
+        ensures { TakesAt End (seen self.old) line.now result (seen self.new) }
+    {
+        if !is_end(line) {
+            return Err(TakeError::Fault(RecordFaultKind::BadLine));
+        }
+        if !self.has_ended() {
+            return Err(TakeError::Fault(RecordFaultKind::BadId));
+        }
+        self.stage = Stage::Over;
+        Ok(())
+    }
+
+    /// Takes in a line, or says what is wrong with it.
+    #[tactic(auto, unfolding(crate::specs::Faults::line_fault, crate::specs::Progress::moved))]
+    pub fn take_line(&mut self, alloc: Global, line: &[u8]) -> Result<(), TakeError>
+        ensures { Takes (seen self.old) line.now result (seen self.new) }
+    {
+        match self.stage {
+            Stage::Header => self.take_header(line),
+            Stage::SenseLine => self.take_sense(line),
+            Stage::DualsLine => self.take_duals(line),
+            Stage::ColumnCount => self.take_column_count(line),
+            Stage::Columns(left) => self.take_column(alloc, left, line),
+            Stage::RowCount => self.take_row_count(line),
+            Stage::Rows(left) => self.take_row(alloc, left, line),
+            Stage::Offset => self.take_offset(alloc, line),
+            Stage::RecordCount => self.take_record_count(alloc, line),
+            Stage::Undos(left) => self.take_undo(alloc, left, line),
+            Stage::End => self.take_end(line),
+            Stage::Over => Err(TakeError::Fault(RecordFaultKind::BadLine)),
+        }
+    }
+}

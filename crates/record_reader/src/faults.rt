@@ -1,0 +1,94 @@
+//! Why a text gives no records.
+
+ghost use Rattle.std.specs.Prelude.{◌≡◌};
+ghost use Rattle.record_reader.specs.Faults.{number_of_kind, kind_of};
+ghost use Rattle.record_reader.specs.declared.faults.TakeError.TheVariants.{NoMemory as TakeNoMemory};
+ghost use Rattle.record_reader.specs.declared.faults.RecordError.TheVariants.{NoMemory};
+
+use record_words::LineFault;
+use std::alloc::AllocError;
+use thiserror::Error;
+
+/// What is wrong with a record text, by ascending number: F1 to F4 and F6.
+#[derive(Clone, Copy, Debug, PartialEq, Eq)]
+pub enum RecordFaultKind {
+    /// F1: the first line is not the header of this version.
+    BadHeader,
+    /// F2: a line is not of its form, or stands behind the end.
+    BadLine,
+    /// F3: an id of a row or column that there is not or no longer, or labels that say otherwise than the records.
+    BadId,
+    /// F4: the text ends before its end line.
+    Cut,
+    /// F6: a number past the range.
+    NumberPast,
+}
+
+impl RecordFaultKind {
+    /// The number behind the F.
+    pub fn number(&self) -> u8
+        ensures { result ≡ number_of_kind self.now }
+    {
+        match self {
+            RecordFaultKind::BadHeader => 1,
+            RecordFaultKind::BadLine => 2,
+            RecordFaultKind::BadId => 3,
+            RecordFaultKind::Cut => 4,
+            RecordFaultKind::NumberPast => 6,
+        }
+    }
+}
+
+/// A fault with its line, from 1 on.
+#[derive(Clone, Copy, Debug, PartialEq, Eq)]
+pub struct RecordFault {
+    pub kind: RecordFaultKind,
+    pub line: u64,
+}
+
+/// Why a text gives no records.
+#[derive(Clone, Copy, Debug, PartialEq, Eq, Error)]
+pub enum RecordError {
+    /// The first fault by line, and at one line the one with the lowest number.
+    #[error("line {}: F{}", .0.line, .0.kind.number())]
+    Fault(RecordFault),
+    /// Want of memory.
+    #[error("out of memory")]
+    NoMemory,
+}
+
+impl From<AllocError> for RecordError {
+    ghost from_gives = { λ _ e. e ≡ NoMemory };
+
+    fn from(_e: AllocError) -> RecordError {
+        RecordError::NoMemory
+    }
+}
+
+/// Why a line is not taken in.
+#[derive(Clone, Copy, Debug, PartialEq, Eq)]
+pub enum TakeError {
+    /// What is wrong with it.
+    Fault(RecordFaultKind),
+    /// Want of memory.
+    NoMemory,
+}
+
+impl From<AllocError> for TakeError {
+    ghost from_gives = { λ _ e. e ≡ TakeNoMemory };
+
+    fn from(_e: AllocError) -> TakeError {
+        TakeError::NoMemory
+    }
+}
+
+/// A line's fault among those of a text.
+pub fn kind_of(fault: LineFault) -> RecordFaultKind
+    ensures { result ≡ kind_of fault }
+{
+    match fault {
+        LineFault::BadLine => RecordFaultKind::BadLine,
+        LineFault::BadId => RecordFaultKind::BadId,
+        LineFault::NumberPast => RecordFaultKind::NumberPast,
+    }
+}

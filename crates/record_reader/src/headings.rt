@@ -1,0 +1,151 @@
+//! The lines that are neither labels nor records.
+
+ghost use Rattle.std.specs.Prelude.{◌≡◌, ◌^◌, ◌<◌, ◌-◌, ◌==◌, not, length, IfOk, Ok, Err, Some, None, take, drop, slice_index_or};
+ghost use Rattle.std.specs.Option.{option_map};
+ghost use Rattle.fractions.specs.declared.Numbers.TheVariants.{Fractions};
+ghost use Rattle.number_texts.specs.Form.{cut, is_slash, is_point};
+ghost use Rattle.number_texts.specs.Read.{read_of};
+ghost use Rattle.record_words.specs.Ratios.{is_least, unsigned_part};
+ghost use Rattle.record_reader.specs.Headings.{is_header, sense_of, is_duals, counted, count_of, are_decimals, point_form, slash_form, has_written_form, offset_by, offset_of, is_end};
+ghost use Rattle.record_reader.specs.Results.{IsNumber};
+
+use crate::text_lines::{behind, front};
+use fractions::frac::Frac;
+use lp_model::Sense;
+use number_texts::form::{cut_point, cut_slash, is_digits, number};
+use number_texts::{Numbers, ReadNumber, read, write};
+use record_words::{LineError, LineFault, is_plain};
+use std::alloc::Global;
+
+/// Whether a line is the header of this version.
+pub fn is_header(line: &[u8]) -> bool
+    ensures { result ≡ is_header line.now }
+{
+    line == b"papilo-records 1".as_slice()
+}
+
+/// The sense that a line tells.
+pub fn sense_of(line: &[u8]) -> Option<Sense>
+    ensures { result ≡ sense_of line.now }
+{
+    if line == b"sense min".as_slice() {
+        return Some(Sense::Min);
+    }
+    if line == b"sense max".as_slice() {
+        return Some(Sense::Max);
+    }
+    None
+}
+
+/// Whether a line says that there are no duals. Records with duals are not read yet.
+pub fn is_duals(line: &[u8]) -> bool
+    ensures { result ≡ is_duals line.now }
+{
+    line == b"duals no".as_slice()
+}
+
+/// Whether a line is the end.
+pub fn is_end(line: &[u8]) -> bool
+    ensures { result ≡ is_end line.now }
+{
+    line == b"end".as_slice()
+}
+
+/// The number behind a heading and its space.
+pub fn count_of(heading: &[u8], line: &[u8]) -> Option<u64>
+    ensures { result ≡ count_of heading.now line.now }
+{
+    let digits = behind(line, heading.len());
+    if front(line, heading.len()) != heading || !is_plain(digits) {
+        return None;
+    }
+    match number(digits, 1 << 64) {
+        Some(count) => Some(count as u64),
+        None => Some(u64::MAX),
+    }
+}
+
+/// Whether digits end with one that is not 0.
+fn are_decimals(digits: &[u8]) -> bool
+    ensures { result ≡ are_decimals digits.now }
+{
+    is_digits(digits) && digits[digits.len() - 1] != b'0'
+}
+
+/// Whether an unsigned text is whole, or has decimals, as numbers are written.
+fn point_form(text: &[u8]) -> bool
+    ensures { result ≡ point_form (cut is_point text.now) }
+{
+    match cut_point(text) {
+        (digits, None) => is_plain(digits),
+        (digits, Some(decimals)) => is_plain(digits) && are_decimals(decimals),
+    }
+}
+
+/// Whether digits are a number of at least 2.
+fn is_denominator(digits: &[u8]) -> bool
+    ensures { result ≡ is_least 2 digits.now }
+{
+    if !is_plain(digits) {
+        return false;
+    }
+    match number(digits, 2) {
+        Some(_) => false,
+        None => true,
+    }
+}
+
+/// Whether an unsigned text has the form in which numbers are written.
+fn slash_form(text: &[u8]) -> bool
+    ensures { result ≡ slash_form (cut is_slash text.now) }
+{
+    match cut_slash(text) {
+        (number, None) => point_form(number),
+        (over, Some(under)) => is_plain(over) && is_denominator(under),
+    }
+}
+
+/// Whether a text has the form in which numbers are written.
+fn has_written_form(text: &[u8]) -> bool
+    ensures { result ≡ has_written_form text.now }
+{
+    match text {
+        [b'-', rest @ ..] => slash_form(rest),
+        _ => slash_form(text),
+    }
+}
+
+/// The number of an offset, which is a number as it is written.
+fn offset_number(alloc: Global, text: &[u8]) -> Result<Frac, LineError>
+    ensures { IsNumber (offset_by text.now (read_of Fractions text.now)) result }
+{
+    match read(text, Numbers::Fractions) {
+        Ok(number) => {
+            let written = write(alloc, &number)?;
+            if text == written.as_slice() {
+                Ok(number)
+            } else {
+                Err(LineError::Fault(LineFault::BadLine))
+            }
+        }
+        Err(ReadNumber::NotNumber) => Err(LineError::Fault(LineFault::BadLine)),
+        Err(ReadNumber::NumberPast) => {
+            if has_written_form(text) {
+                Err(LineError::Fault(LineFault::NumberPast))
+            } else {
+                Err(LineError::Fault(LineFault::BadLine))
+            }
+        }
+    }
+}
+
+/// The offset that a line tells.
+pub fn offset_of(alloc: Global, line: &[u8]) -> Result<Frac, LineError>
+    ensures { IsNumber (offset_of line.now) result }
+{
+    if front(line, 7) == b"offset ".as_slice() {
+        offset_number(alloc, behind(line, 7))
+    } else {
+        Err(LineError::Fault(LineFault::BadLine))
+    }
+}

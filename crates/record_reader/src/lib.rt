@@ -1,0 +1,19 @@
+//! Reading the text of presolve's records, version 1.
+//!
+//! The text is read line by line, in place. What a line has to be follows from the lines before it.
+#![tactic(auto)]
+
+mod draft;
+mod faults;
+mod headings;
+mod labels;
+mod matching;
+mod reading;
+mod stages;
+#[cfg(test)]
+mod tests;
+mod text_lines;
+
+pub use faults::{RecordError, RecordFault, RecordFaultKind};
+pub use matching::matches;
+pub use reading::{read_records, read_texts_are_sound};

@@ -1,0 +1,9 @@
+pub mod Ends
+pub mod Lines
+pub mod Lists
+pub mod Numerals
+pub mod Passing
+pub mod Records
+pub mod Round
+pub mod Sections
+pub mod Words

@@ -1,0 +1,4 @@
+pub mod IdOrder
+pub mod FaultLaws
+pub mod WordLaws
+pub mod Soundness

@@ -1,0 +1,279 @@
+//! The record that a rule's words are.
+
+ghost use Rattle.std.specs.Prelude.{◌≡◌, IfOk};
+ghost use Rattle.record_words.specs.Undos.{undo_of, HasIdsAlone};
+ghost use Rattle.record_words.specs.Words.{first, others, id_of};
+ghost use Rattle.record_words.specs.Ratios.{ratio_of};
+ghost use Rattle.record_words.specs.Ends.{end_of};
+ghost use Rattle.record_words.specs.declared.rules.Rule.TheVariants.{K2, K3, K7, K8, K12, K13, K14, K15, K16};
+ghost use Rattle.record_words.specs.Views.{words_left};
+
+use crate::ends::{bound_of, end_in, fate_of, letter_of};
+use crate::ids::id_in;
+use crate::lists::list_in;
+use crate::ratios::number_in;
+use crate::rules::Rule;
+use crate::words::{Words, next_word};
+use fractions::ext::Ext;
+use fractions::frac::Frac;
+use std::alloc::{AllocError, Global};
+use undo_records::{RowFate, Side, Undo};
+
+/// The next word as an id.
+fn next_id(words: &mut Words<'_>) -> u32
+    ensures value { result ≡ id_of (first (words_left words.old)) }
+    ensures left { words_left words.new ≡ others (words_left words.old) }
+{
+    id_in(next_word(words))
+}
+
+/// The next word as a number.
+fn next_number(words: &mut Words<'_>) -> Frac
+    ensures value { result ≡ ratio_of (first (words_left words.old)) }
+    ensures left { words_left words.new ≡ others (words_left words.old) }
+{
+    number_in(next_word(words))
+}
+
+/// The next word as an end.
+fn next_end(words: &mut Words<'_>) -> Ext
+    ensures value { result ≡ end_of (first (words_left words.old)) }
+    ensures left { words_left words.new ≡ others (words_left words.old) }
+{
+    end_in(next_word(words))
+}
+
+/// The record of a row with one entry.
+fn singleton_row(words: Words<'_>) -> Undo
+    ensures { result ≡ undo_of K2 (words_left words.entry) }
+{
+    let mut rest = words;
+    let row = next_id(&mut rest);
+    let column = next_id(&mut rest);
+    let value = next_number(&mut rest);
+    let lower = next_end(&mut rest);
+    let upper = next_end(&mut rest);
+    Undo::SingletonRow {
+        row,
+        column,
+        value,
+        lower,
+        upper,
+    }
+}
+
+/// The record of a fixed column.
+fn fixed_column(alloc: Global, words: Words<'_>) -> Result<Undo, AllocError>
+    ensures { IfOk result (λ undo. undo ≡ undo_of K3 (words_left words.entry)) }
+{
+    let mut rest = words;
+    let column = next_id(&mut rest);
+    let value = next_number(&mut rest);
+    let cost = next_number(&mut rest);
+    let entries = list_in(alloc, rest)?;
+    Ok(Undo::FixedColumn {
+        column,
+        value,
+        cost,
+        entries,
+    })
+}
+
+/// The record of a forcing row.
+fn forcing_row(alloc: Global, words: Words<'_>) -> Result<Undo, AllocError>
+    ensures { IfOk result (λ undo. undo ≡ undo_of K7 (words_left words.entry)) }
+{
+    let mut rest = words;
+    let row = next_id(&mut rest);
+    let side = letter_of(next_word(&mut rest)).unwrap_or(Side::Lower);
+    let entries = list_in(alloc, rest)?;
+    Ok(Undo::ForcingRow { row, side, entries })
+}
+
+/// The record of a bound that was tightened.
+fn tighten_bound(alloc: Global, words: Words<'_>) -> Result<Undo, AllocError>
+    ensures { IfOk result (λ undo. undo ≡ undo_of K8 (words_left words.entry)) }
+{
+    let mut rest = words;
+    let row = next_id(&mut rest);
+    let column = next_id(&mut rest);
+    let side = bound_of(next_word(&mut rest)).unwrap_or(Side::Lower);
+    let bound = next_end(&mut rest);
+    let entries = list_in(alloc, rest)?;
+    Ok(Undo::TightenBound {
+        row,
+        column,
+        side,
+        bound,
+        entries,
+    })
+}
+
+/// The record of an equation of two columns.
+fn doubleton(alloc: Global, words: Words<'_>) -> Result<Undo, AllocError>
+    ensures { IfOk result (λ undo. undo ≡ undo_of K12 (words_left words.entry)) }
+{
+    let mut rest = words;
+    let row = next_id(&mut rest);
+    let column = next_id(&mut rest);
+    let kept = next_id(&mut rest);
+    let value = next_number(&mut rest);
+    let kept_value = next_number(&mut rest);
+    let equal = next_number(&mut rest);
+    let lower = next_end(&mut rest);
+    let upper = next_end(&mut rest);
+    let cost = next_number(&mut rest);
+    let entries = list_in(alloc, rest)?;
+    Ok(Undo::Doubleton {
+        row,
+        column,
+        kept,
+        value,
+        kept_value,
+        equal,
+        lower,
+        upper,
+        cost,
+        entries,
+    })
+}
+
+/// The record of a free column with one entry.
+fn free_singleton(alloc: Global, words: Words<'_>) -> Result<Undo, AllocError>
+    ensures { IfOk result (λ undo. undo ≡ undo_of K13 (words_left words.entry)) }
+{
+    let mut rest = words;
+    let column = next_id(&mut rest);
+    let row = next_id(&mut rest);
+    let value = next_number(&mut rest);
+    let at = next_number(&mut rest);
+    let price = next_number(&mut rest);
+    let entries = list_in(alloc, rest)?;
+    Ok(Undo::FreeSingleton {
+        column,
+        row,
+        value,
+        at,
+        price,
+        entries,
+    })
+}
+
+/// The record of a slack column with one entry.
+fn slack_singleton(alloc: Global, words: Words<'_>) -> Result<Undo, AllocError>
+    ensures { IfOk result (λ undo. undo ≡ undo_of K14 (words_left words.entry)) }
+{
+    let mut rest = words;
+    let column = next_id(&mut rest);
+    let row = next_id(&mut rest);
+    let value = next_number(&mut rest);
+    let price = next_number(&mut rest);
+    let lower_side = next_end(&mut rest);
+    let upper_side = next_end(&mut rest);
+    let lower = next_end(&mut rest);
+    let upper = next_end(&mut rest);
+    let fate = fate_of(next_word(&mut rest)).unwrap_or(RowFate::Kept);
+    let entries = list_in(alloc, rest)?;
+    Ok(Undo::SlackSingleton {
+        column,
+        row,
+        value,
+        price,
+        lower_side,
+        upper_side,
+        lower,
+        upper,
+        fate,
+        entries,
+    })
+}
+
+/// The record of parallel rows.
+fn parallel_rows(alloc: Global, words: Words<'_>) -> Result<Undo, AllocError>
+    ensures { IfOk result (λ undo. undo ≡ undo_of K15 (words_left words.entry)) }
+{
+    let mut rest = words;
+    let row = next_id(&mut rest);
+    let kept = next_id(&mut rest);
+    let factor = next_number(&mut rest);
+    let lower = next_end(&mut rest);
+    let upper = next_end(&mut rest);
+    let entries = list_in(alloc, rest)?;
+    Ok(Undo::ParallelRows {
+        row,
+        kept,
+        factor,
+        lower,
+        upper,
+        entries,
+    })
+}
+
+/// The record of parallel columns.
+fn parallel_columns(words: Words<'_>) -> Undo
+    ensures { result ≡ undo_of K16 (words_left words.entry) }
+{
+    let mut rest = words;
+    let column = next_id(&mut rest);
+    let kept = next_id(&mut rest);
+    let factor = next_number(&mut rest);
+    let lower = next_end(&mut rest);
+    let upper = next_end(&mut rest);
+    let kept_lower = next_end(&mut rest);
+    let kept_upper = next_end(&mut rest);
+    Undo::ParallelColumns {
+        column,
+        kept,
+        factor,
+        lower,
+        upper,
+        kept_lower,
+        kept_upper,
+    }
+}
+
+/// The record of a rule that has ids alone.
+fn ids_alone(rule: Rule, words: Words<'_>) -> Undo
+    requires { HasIdsAlone rule }
+    ensures { result ≡ undo_of rule (words_left words.entry) }
+{
+    let mut rest = words;
+    let first = next_id(&mut rest);
+    let second = next_id(&mut rest);
+    let third = next_id(&mut rest);
+    match rule {
+        Rule::K1 => Undo::EmptyRow { row: first },
+        Rule::K4 => Undo::RoundBounds { column: first },
+        Rule::K5 => Undo::RedundantRow { row: first },
+        Rule::K6 => Undo::RedundantSide { row: first },
+        Rule::K9 => Undo::TightenCoefficient {
+            row: first,
+            column: second,
+        },
+        Rule::K10 => Undo::DualFix { column: first },
+        Rule::K11 => Undo::Dominated {
+            row: first,
+            better: second,
+            column: third,
+        },
+        _ => Undo::EmptyColumn { column: first },
+    }
+}
+
+/// The record that a rule's words are. Words that are not of the form stand for others.
+pub fn undo_in(alloc: Global, rule: Rule, words: Words<'_>) -> Result<Undo, AllocError>
+    ensures { IfOk result (λ undo. undo ≡ undo_of rule (words_left words.entry)) }
+{
+    match rule {
+        Rule::K2 => Ok(singleton_row(words)),
+        Rule::K3 => fixed_column(alloc, words),
+        Rule::K7 => forcing_row(alloc, words),
+        Rule::K8 => tighten_bound(alloc, words),
+        Rule::K12 => doubleton(alloc, words),
+        Rule::K13 => free_singleton(alloc, words),
+        Rule::K14 => slack_singleton(alloc, words),
+        Rule::K15 => parallel_rows(alloc, words),
+        Rule::K16 => Ok(parallel_columns(words)),
+        other => Ok(ids_alone(other, words)),
+    }
+}

@@ -1,0 +1,96 @@
+-- What a book that was opened with a program's problem says of the program.
+use Rattle.std.proofs.Common.{◌≡◌, ◌≢◌, ℕ, Bool, true, false, length, map, sym, refl, ap, ◌∙◌, subst, Option, Some, None, IfSome}
+use Rattle.std.specs.Prelude.{not, if◌then◌else◌}
+use Rattle.rational.specs.Number.{Number}
+use Rattle.rational.specs.Compare.{le_ℚ}
+use Rattle.fractions.specs.declared.Numbers.{Numbers}
+use Rattle.lp_model.specs.ProgramData.{ProgramData}
+use Rattle.lp_model.specs.Meaning.{meaning}
+use Rattle.lp_model.specs.Verdicts.{NoPoint}
+use Rattle.lp_model.specs.Writable.{EntriesAscend, Writable}
+use Rattle.lp_theory.specs.Turning.{signed}
+use Rattle.lp_theory.proofs.Turns.{no_point_in}
+use Rattle.undo_records.specs.Postsolve.{Postsolve}
+use Rattle.undo_records.specs.Walk.{AreSound}
+use Rattle.presolve_model.specs.declared.part.Contents.TheVariants as holds
+use Rattle.presolve_model.specs.declared.instance.Instance.TheVariants as at
+use Rattle.presolve_model.specs.declared.instance.Verdict.{Verdict}
+use Rattle.presolve_model.specs.declared.instance.Verdict.TheVariants as verdict
+use Rattle.presolve_model.specs.Accounts.{Walked}
+use Rattle.presolve_model.specs.Conditions.{are_crossed}
+use Rattle.presolve_model.specs.Enabled.{enabled_on}
+use Rattle.presolve_model.specs.EndTests.{is_in_order}
+use Rattle.presolve_model.specs.Ledger.{Ledger, Stands}
+use Rattle.presolve_model.specs.Problems.{IsSparse, row_at, sides_at}
+use Rattle.presolve_model.specs.Programs.{IsProblemOf, written_program}
+use Rattle.presolve_model.specs.Replay.{replay}
+use Rattle.presolve_model.specs.Showing.{shown}
+use Rattle.presolve_model.specs.Sparse.{Sparse}
+use Rattle.presolve_model.specs.Stuck.{IsUndecided}
+use Rattle.presolve_model.specs.Writing.{IsWritable}
+use Rattle.program_laws.specs.Shapes.{IsOf, NoCrossedSides}
+use Rattle.program_laws.proofs.ProblemsShow.{problem_shows_program}
+use Rattle.program_laws.proofs.WrittenShow.{written_ascends}
+use Rattle.program_laws.proofs.Writing.{problem_writable, written_writable}
+use Rattle.history_laws.proofs.Keeping.{sparse_replay, verdict_means, writable_replay}
+use Rattle.history_laws.proofs.Sizes.{replay_size}
+use Rattle.history_laws.proofs.Walks.{is_of, walked_sound}
+use Rattle.round_laws.specs.Telling.{IsToldOf, are_live}
+
+-- ---- the walk
+pub walked : (program : ProgramData) (b : Ledger) (told : Postsolve) → IsProblemOf program b.start → Stands b → IsToldOf program b told → Walked b.numbers program (written_program program b.problem) told
+walked program b told o s t = record {
+  start = b.start;
+  history = b.history;
+  opened = o;
+  replays = s.replays;
+  undos = t.undos ∙ s.records;
+  written = ap (written_program program) s.problem;
+  offset = t.offset ∙ ap (λ (q : Sparse). signed program.sense q.offset) s.problem;
+  rows = t.rows ∙ ap (λ (q : Sparse). are_live q.matrix.rows) s.problem;
+  columns = t.columns ∙ ap (λ (q : Sparse). are_live q.matrix.columns) s.problem;
+}
+
+pub told_sound : (program : ProgramData) (b : Ledger) (told : Postsolve) → IsProblemOf program b.start → Stands b → IsToldOf program b told → AreSound told
+told_sound program b told o s t = walked_sound b.numbers program (written_program program b.problem) told (walked program b told o s t)
+
+-- ---- the program that is written
+pub problem_is_of : (program : ProgramData) (b : Ledger) → IsProblemOf program b.start → Stands b → IsOf program b.problem
+problem_is_of program b o s =
+    let size = replay_size b.start b.history in
+    subst (IsOf program) (sym s.problem) (is_of program b.start (replay b.start b.history) o size.rows size.columns size.constant)
+
+problem_sparse : (b : Ledger) → Stands b → IsSparse b.problem
+problem_sparse b s = subst IsSparse (sym s.problem) (sparse_replay b.numbers b.start b.history s.sound s.replays)
+
+by_not : (a : Bool) → not a ≡ false → a ≡ true
+by_not true e = refl
+by_not false e = absurd (let f = e in cc)
+
+uncrossed : (on : Bool) (l u : Option Number) → on ≡ true → are_crossed (if on then holds.Sides l u else holds.Gone) ≡ false → is_in_order l u ≡ true
+uncrossed true None u live e = refl
+uncrossed true (Some l) None live e = refl
+uncrossed true (Some l) (Some u) live e = by_not (le_ℚ l u) e
+uncrossed false l u live e = absurd (let f = live in cc)
+
+pub no_crossed_sides : (q : Sparse) → IsUndecided q → NoCrossedSides q
+no_crossed_sides q h i live = uncrossed (row_at q i).live (sides_at q i).lower (sides_at q i).upper live (h (verdict.CrossedSides i))
+
+pub program_written : (program : ProgramData) (b : Ledger) → Writable b.numbers program → IsProblemOf program b.start → Stands b → IsUndecided b.problem → Writable b.numbers (written_program program b.problem)
+program_written program b w o s h =
+    written_writable b.numbers program b.problem (problem_sparse b s) (problem_is_of program b o s)
+    (subst (IsWritable b.numbers) (sym s.problem) (writable_replay b.numbers b.start b.history s.sound s.writable s.replays))
+    (no_crossed_sides b.problem h) w.constant
+
+pub program_ascends : (program : ProgramData) (b : Ledger) → IsProblemOf program b.start → Stands b → EntriesAscend (written_program program b.problem)
+program_ascends program b o s = written_ascends program b.problem (problem_sparse b s) (problem_is_of program b o s)
+
+-- ---- a verdict
+verdict_says : (program : ProgramData) (b : Ledger) (o : Option Verdict) → IsProblemOf program b.start → Stands b → IfSome o (λ v. enabled_on b.problem (at.Verdict v) ≡ true) → o ≢ None → NoPoint (meaning program)
+verdict_says program b None o s e h = absurd (h refl)
+verdict_says program b (Some v) o s e h =
+    no_point_in program.sense (meaning program) (subst NoPoint (problem_shows_program program b.start o)
+    (verdict_means b.numbers b.start b.history v s.sound s.replays (subst (λ (q : Sparse). enabled_on q (at.Verdict v) ≡ true) s.problem e)))
+
+pub decided_infeasible : (program : ProgramData) (b : Ledger) → IsProblemOf program b.start → Stands b → b.verdict ≢ None → NoPoint (meaning program)
+decided_infeasible program b o s = verdict_says program b b.verdict o s s.verdict

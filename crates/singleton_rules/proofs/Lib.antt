@@ -1,0 +1,2 @@
+pub mod Recorded
+mod WritableSides

@@ -1,0 +1,226 @@
+//! Books.
+
+ghost use Rattle.std.specs.Prelude.{◌≡◌, ◌<◌, [], length, true, None, IfOk, IfSome};
+ghost use Rattle.std.specs.Bool.{MatchBool};
+ghost use Rattle.rational.specs.Number.{◌-ℚ◌};
+ghost use Rattle.lp_model.specs.declared.program.Sense.TheVariants.{Min};
+ghost use Rattle.lp_model.specs.Reductions.{Reduces};
+ghost use Rattle.lp_model.specs.Verdicts.{NoPoint};
+ghost use Rattle.undo_records.specs.Lift.{lift};
+ghost use Rattle.presolve_model.specs.declared.instance.Instance.TheVariants as at;
+ghost use Rattle.presolve_model.specs.Commits.{Allows, HasRoom, IsFull, left_by, next_place, with_instance};
+ghost use Rattle.presolve_model.specs.Enabled.{enabled_on};
+ghost use Rattle.presolve_model.specs.Ledger.{Stands};
+ghost use Rattle.presolve_model.specs.Showing.{shown};
+ghost use Rattle.presolve_model.specs.Worlds.{version_of};
+ghost use Rattle.presolve_model.specs.Writing.{IsWritable};
+ghost use Rattle.txn_book.specs.Applying.{Applies, outcome_of};
+
+use crate::version::Version;
+use fractions::Numbers;
+use instances::Proposal;
+use presolve_model::{Instance, Outcome, Reduction, Refusal, Verdict};
+use singleton_changes::after;
+use problem_parts::Problem;
+use std::alloc::{AllocError, Global};
+use std::marker::Model;
+use std::snapshot::Snapshot;
+use undo_records::Undo;
+
+/// A problem, and what was done to it: the reductions that were applied, first one first, with the record of each, and the verdict that
+/// closed the book. The problem is always what the history makes of the one that the book was opened with.
+#[derive(Drop)]
+pub struct Book {
+    start: Snapshot<Problem>,
+    problem: Problem,
+    history: Vec<Reduction>,
+    verdict: Option<Verdict>,
+    records: Vec<Undo>,
+    numbers: Numbers,
+    limit: u64,
+}
+
+impl Model for Book {
+    ghost use Rattle.std.specs.Coded.{codes};
+    ghost use Rattle.rational.specs.Lowest.{number_code};
+    ghost use Rattle.presolve_model.specs.Ledger.{Ledger};
+
+    ghost Value = { Ledger };
+
+    ghost coded = { Prim.hlevel (codes, number_code) };
+
+    ghost use Rattle.presolve_model.specs.Ledger.{Stands};
+
+    ghost view = { λ b. record { start = b.start.value; problem = b.problem; history = b.history.items; verdict = b.verdict; records = b.records.items; numbers = b.numbers; limit = b.limit } };
+
+    ghost invariant = { λ b. Stands (record { start = b.start.value; problem = b.problem; history = b.history.items; verdict = b.verdict; records = b.records.items; numbers = b.numbers; limit = b.limit }) };
+}
+
+/// What a book leaves when it is closed.
+#[derive(Drop)]
+pub struct Ended {
+    /// The present problem.
+    pub problem: Problem,
+    /// The reductions that were applied, first one first.
+    pub history: Vec<Reduction>,
+    /// The verdict that was applied, if any.
+    pub verdict: Option<Verdict>,
+    /// The record of each reduction.
+    pub records: Vec<Undo>,
+}
+
+/// The answer to a commit that applies a reduction.
+fn outcome_of(applied: Result<usize, Refusal>) -> Outcome
+    ensures { result ≡ outcome_of applied }
+{
+    match applied {
+        Ok(place) => Outcome::Applied { place },
+        Err(Refusal::Past) => Outcome::Past,
+        Err(Refusal::NotDecimal) => Outcome::NotDecimal,
+        Err(Refusal::NoMemory) => Outcome::NoMemory,
+    }
+}
+
+impl Book {
+    /// A book of a problem, to which at most `limit` reductions are applied.
+    pub fn open(alloc: Global, problem: Problem, numbers: Numbers, limit: u64) -> Book
+        requires { IsWritable numbers problem }
+        ensures { result ≡ record { start = problem; problem = problem; history = []; verdict = None; records = []; numbers = numbers; limit = limit } }
+    {
+        problem.is_sparse();
+        Book {
+            start: Snapshot::of(&problem),
+            problem,
+            history: Vec::new(alloc),
+            verdict: None,
+            records: Vec::new(alloc),
+            numbers,
+            limit,
+        }
+    }
+
+    /// The present problem.
+    pub fn problem(&self) -> &Problem
+        ensures { result.now ≡ self.now.problem }
+    {
+        &self.problem
+    }
+
+    /// How many reductions were applied.
+    pub fn applied(&self) -> u64
+        ensures { result ≡ length self.now.history }
+    {
+        self.history.len() as u64
+    }
+
+    /// The verdict that was applied, if any.
+    pub fn verdict(&self) -> Option<Verdict>
+        ensures { result ≡ self.now.verdict }
+    {
+        self.verdict
+    }
+
+    /// How many reductions may be applied.
+    pub fn limit(&self) -> u64
+        ensures { result ≡ self.now.limit }
+    {
+        self.limit
+    }
+
+    /// What a book keeps, and what it means: the linear program that was shown at first is reduced to the one that is shown now, undone by
+    /// the records; and a verdict says that no point was feasible at first. Says so, and does nothing.
+    pub fn stands(&self)
+        ensures stands { Stands self.now }
+        ensures reduces { Reduces Min (shown self.now.start) (shown self.now.problem) (lift self.now.records) (self.now.problem.offset -ℚ self.now.start.offset) }
+        ensures verdict { IfSome self.now.verdict (λ _. NoPoint (shown self.now.start)) }
+    {
+        let _ = &self.limit;
+    }
+
+    /// A copy of the present problem, with how many reductions were applied.
+    pub fn freeze(&self, alloc: Global) -> Result<Version, AllocError>
+        ensures { IfOk result (λ v. v ≡ version_of self.now) }
+    {
+        let problem = self.problem.copy(alloc)?;
+        Ok(Version::new(problem, self.applied()))
+    }
+
+    /// Whether so many reductions were applied as are allowed. A verdict always has room.
+    fn is_full(&self, instance: Instance) -> bool
+        ensures { MatchBool result (IsFull self.now instance) (HasRoom self.now instance) }
+    {
+        match instance {
+            Instance::Reduction(_) => self.applied() >= self.limit,
+            Instance::Verdict(_) => false,
+        }
+    }
+
+    /// Applies a reduction, keeps its record, and gives its place in the history. All room is made before anything is changed.
+    fn apply(&mut self, alloc: Global, reduction: Reduction) -> Result<usize, Refusal>
+        requires undecided { self.old.verdict ≡ None }
+        requires room { length self.old.history < self.old.limit }
+        requires enabled { enabled_on self.old.problem (at.Reduction reduction) ≡ true }
+        ensures { Applies self.old reduction result self.new }
+    {
+        self.history.reserve(1)?;
+        self.records.reserve(1)?;
+        let undo = match after(&mut self.problem, alloc, reduction, self.numbers) {
+            Ok(undo) => undo,
+            Err(refusal) => return Err(refusal),
+        };
+        self.records.push_reserved(undo);
+        self.history.push_reserved(reduction);
+        Ok(self.history.len())
+    }
+
+    /// Closes the book with a verdict, and gives the verdict's place after the history.
+    fn decide(&mut self, verdict: Verdict) -> usize
+        requires { enabled_on self.old.problem (at.Verdict verdict) ≡ true }
+        ensures place { result ≡ next_place self.old }
+        ensures left { self.new ≡ with_instance self.old (at.Verdict verdict) }
+    {
+        self.verdict = Some(verdict);
+        self.history.len() + 1
+    }
+
+    /// Commits a proposal: applies its instance if no verdict stands, there is room, and each part stands as it was read. Anything else
+    /// leaves the book as it is.
+    pub fn commit(&mut self, alloc: Global, proposal: &Proposal) -> Outcome
+        ensures outcome { Allows self.old proposal.now result }
+        ensures left { self.new ≡ left_by self.old proposal.now result }
+    {
+        if let Some(verdict) = self.verdict {
+            return Outcome::Closed { verdict };
+        }
+        let instance = proposal.instance();
+        if self.is_full(instance) {
+            return Outcome::Full;
+        }
+        if let Err(differs) = proposal.reading().agrees(&self.problem) {
+            return Outcome::Stale {
+                place: differs.place,
+            };
+        }
+        match instance {
+            Instance::Reduction(reduction) => outcome_of(self.apply(alloc, reduction)),
+            Instance::Verdict(verdict) => Outcome::Applied {
+                place: self.decide(verdict),
+            },
+        }
+    }
+
+    /// Closes the book for good: its problem, its history, its verdict and its records.
+    pub fn close(self) -> Ended
+        ensures problem { result.problem ≡ self.problem }
+        ensures history { result.history.items ≡ self.history }
+        ensures verdict { result.verdict ≡ self.verdict }
+        ensures records { result.records.items ≡ self.records }
+    {
+        Ended {
+            problem: self.problem,
+            history: self.history,
+            verdict: self.verdict,
+            records: self.records,
+        }
+    }
+}
