@@ -8,7 +8,7 @@ use Rattle.endings.specs.Moments.{Moment, Reads}
 use Rattle.endings.specs.ProgramTexts.{IsProgramOf, SaysFaultOf}
 use Rattle.endings.specs.declared.reads.TheConstants.{INPUT_LIMIT, SOLUTION_LIMIT}
 use Rattle.endings.specs.declared.ending.Ending.{Ending}
-use Rattle.endings.specs.declared.ending.Ending.TheVariants.{Done, Usage, Refused, ReadFault, WriteFault, NoMemory, NoRoom, RecordsRefused, SolutionRefused, Violated}
+use Rattle.endings.specs.declared.ending.Ending.TheVariants.{Done, Usage, Refused, ReadFault, WriteFault, NoMemory, NoRoom, RecordsRefused, SolutionRefused, Violated, Infeasible}
 use Rattle.check_command.specs.Checked.{EndsCheck, IsChecked, RefusesSolution, SaysCheck, SaysSolution, check_dialect}
 
 -- what is said of the solution is said of both texts
@@ -26,6 +26,7 @@ solution_said names before now program (NoRoom line) read h = (program, read, h)
 solution_said names before now program (RecordsRefused line) read h = absurd h
 solution_said names before now program (SolutionRefused line) read h = (program, read, h)
 solution_said names before now program (Violated line) read h = (program, read, h)
+solution_said names before now program Infeasible read h = h
 
 pub check_fault : (names : CheckNames) (ending : Ending) (before now : Moment) (old new : Option (List ℕ)) → EndsCheck names ending before now → status_of ending ≡ 2
     → Grown old new (text_of ending) → (said : List ℕ) × SaysFaultOf INPUT_LIMIT (check_dialect names) names.input said before now × Grown old new said
@@ -39,6 +40,7 @@ check_fault names (NoRoom line) before now old new ends is grown = absurd (omega
 check_fault names (RecordsRefused line) before now old new ends is grown = absurd ends.0
 check_fault names (SolutionRefused line) before now old new ends is grown = absurd (omega arith)
 check_fault names (Violated line) before now old new ends is grown = absurd (omega arith)
+check_fault names Infeasible before now old new ends is grown = absurd ends.0
 
 pub solution_fault : (names : CheckNames) (ending : Ending) (before now : Moment) (old new : Option (List ℕ)) → EndsCheck names ending before now → status_of ending ≡ 8
     → Grown old new (text_of ending) → (said : List ℕ) × RefusesSolution names said before now × Grown old new said
@@ -52,6 +54,7 @@ solution_fault names (NoRoom line) before now old new ends is grown = absurd (om
 solution_fault names (RecordsRefused line) before now old new ends is grown = absurd ends.0
 solution_fault names (SolutionRefused line) before now old new ends is grown = (line.items, ends.0, grown)
 solution_fault names (Violated line) before now old new ends is grown = absurd (omega arith)
+solution_fault names Infeasible before now old new ends is grown = absurd ends.0
 
 -- a verdict's status, of an ending with another one
 other_status : {A : Type 0} (k status : ℕ) → k ≡ status → (k ≡ 0 → ⊥) → (k ≡ 6 → ⊥) → (k ≡ 9 → ⊥) → (status ≡ 0) ⊎ (status ≡ 6) ⊎ (status ≡ 9) → A
@@ -75,3 +78,4 @@ check_verdict names (NoRoom line) before now status old new ends is which grown 
 check_verdict names (RecordsRefused line) before now status old new ends is which grown = absurd ends.0
 check_verdict names (SolutionRefused line) before now status old new ends is which grown = other_status 8 status is (λ e. omega arith) (λ e. omega arith) (λ e. omega arith) which
 check_verdict names (Violated line) before now status old new ends is which grown = judged names 9 status line.items before.told old new is ends.0 grown
+check_verdict names Infeasible before now status old new ends is which grown = absurd ends.0

@@ -1,5 +1,5 @@
 -- What an ending of a check says of the files.
-use Rattle.std.specs.Prelude.{◌≡◌, ◌⊎◌, ℕ, List, true}
+use Rattle.std.specs.Prelude.{◌≡◌, ◌⊎◌, ℕ, List}
 use Rattle.rational.specs.Number.{Number}
 use Rattle.file_ports.specs.Ports.{Told, Rose}
 use Rattle.command_line.specs.Line.{CheckNames}
@@ -8,19 +8,20 @@ use Rattle.lp_model.specs.Vectors.{vector_of}
 use Rattle.lp_model.specs.Meaning.{meaning}
 use Rattle.lp_check.specs.Deciding.{Decides}
 use Rattle.lp_check.specs.declared.verdicts.Verdict.{Verdict}
+use Rattle.fractions.specs.declared.Numbers.TheVariants.{Fractions}
 use Rattle.mps_profile.specs.declared.dialect.Dialect.{Dialect}
-use Rattle.endings.specs.Dialects.{dialect_of}
+use Rattle.endings.specs.Dialects.{format_of}
 use Rattle.endings.specs.Moments.{Moment, Reads}
 use Rattle.endings.specs.ProgramTexts.{IsProgramOf, SaysFaultOf}
 use Rattle.endings.specs.SolutionTexts.{IsPointOf, SaysSolutionFault}
 use Rattle.endings.specs.declared.reads.TheConstants.{INPUT_LIMIT, SOLUTION_LIMIT}
 use Rattle.endings.specs.declared.ending.Ending.{Ending}
-use Rattle.endings.specs.declared.ending.Ending.TheVariants.{Done, Usage, Refused, ReadFault, WriteFault, NoMemory, NoRoom, RecordsRefused, SolutionRefused, Violated}
+use Rattle.endings.specs.declared.ending.Ending.TheVariants.{Done, Usage, Refused, ReadFault, WriteFault, NoMemory, NoRoom, RecordsRefused, SolutionRefused, Violated, Infeasible}
 use Rattle.check_command.specs.VerdictText.{status_of_verdict, verdict_text}
 
 -- how IN is read
 abbrev pub check_dialect : CheckNames → Dialect
-check_dialect names = dialect_of (record { fractions = true; fixed = names.fixed })
+check_dialect names = record { format = format_of names.fixed; numbers = Fractions }
 
 -- an ending by a verdict, with its line
 abbrev pub TellsVerdict : ProgramData → Verdict → Ending → Type 0
@@ -70,6 +71,7 @@ SaysCheck names (NoRoom line) before now = IsChecked names 6 line.items before.t
 SaysCheck names (RecordsRefused line) before now = ⊥
 SaysCheck names (SolutionRefused line) before now = RefusesSolution names line.items before now
 SaysCheck names (Violated line) before now = IsChecked names 9 line.items before.told
+SaysCheck names Infeasible before now = ⊥
 
 -- what an ending of a check says; nothing that is told changes
 abbrev pub EndsCheck : CheckNames → Ending → Moment → Moment → Type 0

@@ -4,12 +4,14 @@ ghost use Rattle.std.specs.Prelude.{◌≡◌, ◌≤◌, ◌⊎◌, length, opt
 ghost use Rattle.file_ports.specs.Ports.{Rose};
 ghost use Rattle.command_line.specs.Seen.{check_names_of};
 ghost use Rattle.endings.specs.Moments.{Finds};
-ghost use Rattle.check_command.specs.Checked.{EndsCheck};
+ghost use Rattle.check_command.specs.Checked.{EndsCheck, check_dialect};
 
 use crate::judging::judge;
-use command_line::{CheckWords, PresolveOptions};
-use endings::{Ending, INPUT_LIMIT, SOLUTION_LIMIT, Unread, dialect_of, read_within};
+use command_line::CheckWords;
+use endings::{Ending, INPUT_LIMIT, SOLUTION_LIMIT, Unread, format_of, read_within};
 use file_ports::Files;
+use fractions::Numbers;
+use mps_reader::Dialect;
 use std::alloc::{AllocError, Global};
 
 /// The bytes of IN and of SOL; none of a name that holds more than is read.
@@ -40,6 +42,16 @@ fn read_both<F: Files>(
     Ok(BothTexts { input, solution })
 }
 
+/// How IN is read.
+fn dialect_of(words: &CheckWords<'_>) -> Dialect
+    ensures { result ≡ check_dialect (check_names_of words.now) }
+{
+    Dialect {
+        format: format_of(words.fixed),
+        numbers: Numbers::Fractions,
+    }
+}
+
 /// Reads a program and a solution, and says whether the solution's point meets the program. No file is written.
 pub fn check<F: Files>(
     alloc: Global,
@@ -51,10 +63,7 @@ pub fn check<F: Files>(
         (record { told = F.told files.new; reads = F.read_faults files.new; writes = F.write_faults files.new; overlong = F.overlong files.new })) }
     ensures no_memory { OnErr result (F.told files.new ≡ F.told files.old) }
 {
-    let dialect = dialect_of(PresolveOptions {
-        fractions: true,
-        fixed: words.fixed,
-    });
+    let dialect = dialect_of(words);
     match read_both(alloc, words.input, words.solution, files) {
         Ok(BothTexts { input, solution }) => judge(alloc, input, solution, dialect),
         Err(Unread::Failed) => Ok(Ending::ReadFault),

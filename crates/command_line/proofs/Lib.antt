@@ -1,2 +1,3 @@
 mod Simple
 mod Pairs
+mod Limits

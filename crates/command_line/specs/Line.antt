@@ -1,15 +1,23 @@
 -- The command line, as clap's own definitions speak of it, and what words ask for.
-use Rattle.std.specs.Prelude.{◌≢◌, List, [], ◌∷◌, codes, true, false, Bool, if◌then◌else◌, Option, Some, None, String, map, string_bytes}
+use Rattle.std.specs.Prelude.{◌≢◌, ◌≤◌, ℕ, List, [], ◌∷◌, codes, true, false, Bool, if◌then◌else◌, Option, Some, None, String, map, string_bytes}
 use Rattle.std.specs.Option.{option_map}
 use Rattle.std.specs.Str.{bytes_eq}
+use Rattle.std.specs.Str.Parse.{digits_value, without_leading_plus}
 use Rattle.std.specs.declared.alloc.Global.{Global}
 use Rattle.clap.specs.Words.{App, Row, Rule, Text, first_of, new_app, new_rule, subcommand_of, takes, fault_of, Kinds, with_rule, with_subcommand}
+use Rattle.clap.specs.ValueTests.{accepts}
+use Rattle.clap.specs.declared.builder.value_parser.ValueParser.TheVariants.{Unsigned}
 use Rattle.command_line.specs.declared.reading.PresolveOptions.{PresolveOptions}
+use Rattle.command_line.specs.declared.reading.TheConstants.{MOST_RECORDS}
 use Rattle.clap.specs.declared.builder.ArgAction.TheVariants.{Set, SetTrue}
 
 -- a required word
 abbrev pub word_rule : Text → Rule
 word_rule id = record (new_rule id) { action = Some Set; required = true }
+
+-- a number from 1 up to this, after `--id`
+abbrev pub number_rule : Text → ℕ → Rule
+number_rule id most = record (new_rule id) { long = Some id; parser = Some (Unsigned 1 most) }
 
 -- an option `--id`
 abbrev pub flag_rule : Text → Rule
@@ -19,9 +27,13 @@ flag_rule id = record (new_rule id) { long = Some id; action = Some SetTrue }
 unfoldable pub presolve_words : App
 presolve_words = with_rule (with_rule (with_rule (new_app (codes "presolve")) (word_rule (codes "in"))) (word_rule (codes "out"))) (word_rule (codes "rec"))
 
--- presolve IN OUT REC [--fractions] [--fixed]
+-- presolve IN OUT REC [--limit N]
+unfoldable pub limited_app : App
+limited_app = with_rule presolve_words (number_rule (codes "limit") MOST_RECORDS)
+
+-- presolve IN OUT REC [--limit N] [--fractions] [--fixed]
 unfoldable pub presolve_app : App
-presolve_app = with_rule (with_rule presolve_words (flag_rule (codes "fractions"))) (flag_rule (codes "fixed"))
+presolve_app = with_rule (with_rule limited_app (flag_rule (codes "fractions"))) (flag_rule (codes "fixed"))
 
 -- check IN SOL [--fixed]
 unfoldable pub check_app : App
@@ -70,8 +82,18 @@ abbrev pub is_on : Option Text → Bool
 is_on None = false
 is_on (Some text) = bytes_eq text (codes "true")
 
-abbrev pub options_of : List Row → PresolveOptions
-options_of rows = record { fractions = is_on (first_of (codes "fractions") rows); fixed = is_on (first_of (codes "fixed") rows) }
+-- the number that a text says, where clap's parser of numbers takes it as one from 1 to the most
+unfoldable pub limit_in : Text → Option ℕ
+limit_in text = if accepts false (Unsigned 1 MOST_RECORDS) text then Some (digits_value 10 (without_leading_plus text)) else None
+
+-- the limit that is given, or else the most
+abbrev pub limit_of : Option Text → Option ℕ
+limit_of None = Some MOST_RECORDS
+limit_of (Some text) = limit_in text
+
+abbrev pub options_of : List Row → Option PresolveOptions
+options_of rows = option_map (λ limit. record { fractions = is_on (first_of (codes "fractions") rows); fixed = is_on (first_of (codes "fixed") rows); limit = limit })
+    (limit_of (first_of (codes "limit") rows))
 
 -- the names that check works on, and whether IN has the fixed format
 pub record CheckNames : Type 0 where
@@ -98,9 +120,15 @@ HasTwoOutputs (Presolve names) = names.output ≢ names.records
 HasTwoOutputs (Check names) = Unit {0}
 HasTwoOutputs (Postsolve names) = Unit {0}
 
--- three names, of which OUT and REC differ
-abbrev pub presolve_names : Option Text → Option Text → Option Text → PresolveOptions → Option PresolveNames
-presolve_names (Some input) (Some output) (Some records) options =
+-- a run may make at least one record, and no more than the most
+abbrev pub HasLimit : Request → Type 0
+HasLimit (Presolve names) = (1 ≤ names.options.limit) × (names.options.limit ≤ MOST_RECORDS)
+HasLimit (Check names) = Unit {0}
+HasLimit (Postsolve names) = Unit {0}
+
+-- three names, of which OUT and REC differ, and the options
+abbrev pub presolve_names : Option Text → Option Text → Option Text → Option PresolveOptions → Option PresolveNames
+presolve_names (Some input) (Some output) (Some records) (Some options) =
     if bytes_eq output records then None else Some (record { input = input; output = output; records = records; options = options })
 presolve_names input output records options = None
 

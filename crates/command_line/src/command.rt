@@ -2,9 +2,10 @@
 ghost use Rattle.std.specs.Prelude.{◌≡◌, ◌≢◌, [], Err, false, IfOk, OnOk, OnErr};
 ghost use Rattle.clap.specs.Words.{app_of, kind_of, rule_of, subcommand_rows_of};
 ghost use Rattle.clap.specs.declared.builder.command.Command.TheViews.{out-Command};
-ghost use Rattle.command_line.specs.Line.{check_app, faults, first_app, flag_rule, found_in, is_taken, line_app, postsolve_app, postsolve_words, presolve_app, presolve_words, texts, word_rule};
+ghost use Rattle.command_line.specs.Line.{check_app, faults, first_app, flag_rule, found_in, is_taken, limited_app, line_app, number_rule, postsolve_app, postsolve_words, presolve_app, presolve_words, texts, word_rule};
 
-use crate::Refusal;
+use crate::reading::{MOST_RECORDS, Refusal};
+use clap::builder::ValueParser;
 use clap::error::ErrorKind;
 use clap::{Arg, ArgAction, ArgMatches, Command, Error};
 use std::alloc::{AllocError, Global};
@@ -15,6 +16,16 @@ fn word<'a>(alloc: Global, id: &'a str) -> Arg<'a>
     ensures local { result.global ≡ false }
 {
     Arg::new(alloc, id).action(ArgAction::Set).required(true)
+}
+
+// A number from 1 to `most`, behind its name.
+fn number<'a>(alloc: Global, id: &'a str, most: u64) -> Arg<'a>
+    ensures rule { rule_of result ≡ number_rule id.entry.now most }
+    ensures local { result.global ≡ false }
+{
+    Arg::new(alloc, id)
+        .long(id)
+        .value_parser(ValueParser::Unsigned(1, most))
 }
 
 // An option that is given or not.
@@ -36,12 +47,20 @@ fn presolve_words<'a>(alloc: Global) -> Result<Command<'a>, AllocError>
         .arg(word(alloc, "rec"))
 }
 
+#[tactic(auto, unfolding(crate::specs::Line::limited_app))]
+fn limited<'a>(alloc: Global) -> Result<Command<'a>, AllocError>
+    ensures app { IfOk result (λ command. app_of command ≡ limited_app) }
+    ensures local { IfOk result (λ command. (out-Command command).has_globals ≡ false) }
+{
+    presolve_words(alloc)?.arg(number(alloc, "limit", MOST_RECORDS))
+}
+
 #[tactic(auto, unfolding(crate::specs::Line::presolve_app))]
 fn presolve<'a>(alloc: Global) -> Result<Command<'a>, AllocError>
     ensures app { IfOk result (λ command. app_of command ≡ presolve_app) }
     ensures local { IfOk result (λ command. (out-Command command).has_globals ≡ false) }
 {
-    presolve_words(alloc)?
+    limited(alloc)?
         .arg(flag(alloc, "fractions"))?
         .arg(flag(alloc, "fixed"))
 }

@@ -8,5 +8,6 @@ mod command;
 mod reading;
 
 pub use reading::{
-    CheckWords, PostsolveWords, PresolveOptions, PresolveWords, Refusal, Request, read,
+    CheckWords, MOST_RECORDS, PostsolveWords, PresolveOptions, PresolveWords, Refusal, Request,
+    read,
 };

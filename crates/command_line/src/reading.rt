@@ -1,12 +1,16 @@
 // What the words ask for.
-ghost use Rattle.std.specs.Prelude.{◌≡◌, ◌≢◌, ◌⊎◌, IfSome, None, [], Some, Err, false, option_map, IfOk, OnOk};
-ghost use Rattle.clap.specs.Words.{first_of, found_of, rows_of, subcommand_rows_of};
-ghost use Rattle.command_line.specs.Line.{HasTwoOutputs, asked, check_of, faults, is_on, is_taken, options_of, postsolve_of, presolve_of, request_of, selected, selected_in, texts};
+ghost use Rattle.std.specs.Prelude.{◌≡◌, ◌≢◌, ◌≤◌, ◌⊎◌, codes, IfSome, None, [], Some, Err, false, option_map, IfOk, OnOk};
+ghost use Rattle.std.specs.Str.Parse.{digits_value, without_leading_plus};
+ghost use Rattle.clap.specs.Words.{IsUnsignedIn, first_of, found_of, rows_of, subcommand_rows_of};
+ghost use Rattle.command_line.specs.Line.{HasLimit, HasTwoOutputs, asked, check_of, faults, is_on, is_taken, limit_in, limit_of, options_of, postsolve_of, presolve_of, request_of, selected, selected_in, texts};
 ghost use Rattle.command_line.specs.Seen.{check_names_of, names_of, postsolve_names_of, seen};
 
 use crate::command::matches;
 use clap::ArgMatches;
 use std::alloc::Global;
+
+/// The most records that a run may be allowed to make; so many where no limit is given.
+pub const MOST_RECORDS: u64 = 1_000_000_000;
 
 /// The options of `presolve`.
 #[derive(Clone, Copy, Debug, PartialEq, Eq)]
@@ -15,6 +19,8 @@ pub struct PresolveOptions {
     pub fractions: bool,
     /// IN has the fixed format.
     pub fixed: bool,
+    /// How many reductions may be applied: from 1 to `MOST_RECORDS`.
+    pub limit: u64,
 }
 
 /// The names that `presolve IN OUT REC` works on, of which `output` and `records` differ, and the options.
@@ -78,32 +84,74 @@ fn is_given(found: &ArgMatches, id: &str) -> bool
     }
 }
 
-// The options for `presolve`.
-fn options(found: &ArgMatches) -> PresolveOptions
-    ensures { result ≡ options_of (rows_of (found_of found.now)) }
+// The number that a text says, where it is from 1 to `MOST_RECORDS`.
+fn number_in(text: &str) -> Option<u64>
+    ensures given { IfSome result (λ number. IsUnsignedIn 1 MOST_RECORDS text.now × (number ≡ digits_value 10 (without_leading_plus text.now))) }
+    ensures none { result ≡ None → IsUnsignedIn 1 MOST_RECORDS text.now → ⊥ }
 {
-    PresolveOptions {
+    match text.parse::<u64>() {
+        Ok(number) => {
+            if 1 <= number && number <= MOST_RECORDS {
+                Some(number)
+            } else {
+                None
+            }
+        }
+        Err(_) => None,
+    }
+}
+
+// The limit that a text says.
+fn limit_in(text: &str) -> Option<u64>
+    ensures said { result ≡ limit_in text.now }
+    ensures within { IfSome result (λ limit. (1 ≤ limit) × (limit ≤ MOST_RECORDS)) }
+{
+    number_in(text)
+}
+
+// The limit that is given, or the greatest.
+fn limit(found: &ArgMatches) -> Option<u64>
+    ensures said { result ≡ limit_of (first_of (codes "limit") (rows_of (found_of found.now))) }
+    ensures within { IfSome result (λ limit. (1 ≤ limit) × (limit ≤ MOST_RECORDS)) }
+{
+    match value(found, "limit") {
+        Some(text) => limit_in(text),
+        None => Some(MOST_RECORDS),
+    }
+}
+
+// The options for `presolve`.
+fn options(found: &ArgMatches) -> Option<PresolveOptions>
+    ensures given { result ≡ options_of (rows_of (found_of found.now)) }
+    ensures limited { IfSome result (λ options. (1 ≤ options.limit) × (options.limit ≤ MOST_RECORDS)) }
+{
+    let limit = limit(found)?;
+    Some(PresolveOptions {
         fractions: is_given(found, "fractions"),
         fixed: is_given(found, "fixed"),
-    }
+        limit,
+    })
 }
 
 // The names for `presolve`. OUT and REC may not be one name.
 fn presolve<'a>(found: &ArgMatches<'a>) -> Option<PresolveWords<'a>>
     ensures names { option_map names_of result ≡ presolve_of (rows_of (found_of found.now)) }
     ensures differ { IfSome result (λ words. words.output.now ≢ words.records.now) }
+    ensures limited { IfSome result (λ words. (1 ≤ words.options.limit) × (words.options.limit ≤ MOST_RECORDS)) }
 {
     let input = value(found, "in");
     let output = value(found, "out");
     let records = value(found, "rec");
     let options = options(found);
-    match (input, output, records) {
-        (Some(input), Some(output), Some(records)) if output != records => Some(PresolveWords {
-            input,
-            output,
-            records,
-            options,
-        }),
+    match (input, output, records, options) {
+        (Some(input), Some(output), Some(records), Some(options)) if output != records => {
+            Some(PresolveWords {
+                input,
+                output,
+                records,
+                options,
+            })
+        }
         _ => None,
     }
 }
@@ -149,6 +197,7 @@ fn command<'m, 'a>(found: &'m ArgMatches<'a>) -> Option<(&'a str, &'m ArgMatches
 fn named_request<'a>(name: &str, given: &ArgMatches<'a>) -> Option<Request<'a>>
     ensures named { option_map seen result ≡ request_of name.now (rows_of (found_of given.now)) }
     ensures differ { IfSome result (λ request. HasTwoOutputs (seen request)) }
+    ensures limited { IfSome result (λ request. HasLimit (seen request)) }
 {
     match name {
         "presolve" => Some(Request::Presolve(presolve(given)?)),
@@ -162,6 +211,7 @@ fn named_request<'a>(name: &str, given: &ArgMatches<'a>) -> Option<Request<'a>>
 fn selected_request<'a>(found: &ArgMatches<'a>) -> Option<Request<'a>>
     ensures selected { option_map seen result ≡ selected_in (subcommand_rows_of found.now) }
     ensures differ { IfSome result (λ request. HasTwoOutputs (seen request)) }
+    ensures limited { IfSome result (λ request. HasLimit (seen request)) }
 {
     let (name, given) = command(found)?;
     named_request(name, given)
@@ -170,10 +220,12 @@ fn selected_request<'a>(found: &ArgMatches<'a>) -> Option<Request<'a>>
 /// The command that the words ask for; the first word is the program's own name.
 ///
 /// # Errors
-/// `Words` where `clap` names a fault in them, or OUT and REC are equal words. `NoMemory`.
+/// `Words` where `clap` names a fault in them, as at a limit that is no number from 1 to `MOST_RECORDS`, or OUT and REC are equal words.
+/// `NoMemory`.
 pub fn read<'a>(alloc: Global, words: &'a [String]) -> Result<Request<'a>, Refusal>
     ensures asked { IfOk result (λ request. asked (texts words.entry.now) ≡ Some (seen request)) }
     ensures differ { IfOk result (λ request. HasTwoOutputs (seen request)) }
+    ensures limited { IfOk result (λ request. HasLimit (seen request)) }
     ensures refused { result ≡ Err Refusal.Words → asked (texts words.entry.now) ≡ None }
     ensures taken { OnOk result (faults (texts words.entry.now) ≡ []) }
     ensures untaken { result ≡ Err Refusal.Words → (is_taken (texts words.entry.now) ≡ false) ⊎ (selected (texts words.entry.now) ≡ None) }

@@ -1,7 +1,7 @@
 -- The status of an ending, and what is printed at it.
 use Rattle.std.specs.Prelude.{ℕ, List, [], ◌∷◌, ◌++◌, codes}
 use Rattle.endings.specs.declared.ending.Ending.{Ending}
-use Rattle.endings.specs.declared.ending.Ending.TheVariants.{Done, Usage, Refused, ReadFault, WriteFault, NoMemory, NoRoom, RecordsRefused, SolutionRefused, Violated}
+use Rattle.endings.specs.declared.ending.Ending.TheVariants.{Done, Usage, Refused, ReadFault, WriteFault, NoMemory, NoRoom, RecordsRefused, SolutionRefused, Violated, Infeasible}
 
 abbrev pub status_of : Ending → ℕ
 status_of (Done text) = 0
@@ -14,6 +14,7 @@ status_of (NoRoom line) = 6
 status_of (RecordsRefused line) = 7
 status_of (SolutionRefused line) = 8
 status_of (Violated line) = 9
+status_of Infeasible = 20
 
 abbrev pub text_of : Ending → List ℕ
 text_of (Done text) = text.items
@@ -26,3 +27,4 @@ text_of (NoRoom line) = line.items
 text_of (RecordsRefused line) = line.items
 text_of (SolutionRefused line) = line.items
 text_of (Violated line) = line.items
+text_of Infeasible = codes "infeasible" ++ 10 ∷ []

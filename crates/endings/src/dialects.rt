@@ -1,22 +1,25 @@
 //! How a program is read.
 
 ghost use Rattle.std.specs.Prelude.{◌≡◌};
-ghost use Rattle.endings.specs.Dialects.{dialect_of};
+ghost use Rattle.endings.specs.Dialects.{dialect_of, format_of};
 
 use command_line::PresolveOptions;
 use fractions::Numbers;
 use mps_reader::{Dialect, Format};
 
-/// How a program is read.
+/// The fixed format, or the free one.
+pub fn format_of(fixed: bool) -> Format
+    ensures { result ≡ format_of fixed }
+{
+    if fixed { Format::Fixed } else { Format::Free }
+}
+
+/// How presolve reads a program.
 pub fn dialect_of(options: PresolveOptions) -> Dialect
     ensures { result ≡ dialect_of options }
 {
     Dialect {
-        format: if options.fixed {
-            Format::Fixed
-        } else {
-            Format::Free
-        },
+        format: format_of(options.fixed),
         numbers: if options.fractions {
             Numbers::Fractions
         } else {

@@ -25,6 +25,8 @@ pub enum Ending {
     SolutionRefused(Vec<u8>),
     /// The point does not meet the program; the line that says where.
     Violated(Vec<u8>),
+    /// The program has no feasible point.
+    Infeasible,
 }
 
 impl Ending {
@@ -45,6 +47,7 @@ impl Ending {
             Ending::RecordsRefused(_) => 7,
             Ending::SolutionRefused(_) => 8,
             Ending::Violated(_) => 9,
+            Ending::Infeasible => 20,
         }
     }
 
@@ -63,6 +66,7 @@ impl Ending {
             Ending::RecordsRefused(line) => line.as_slice(),
             Ending::SolutionRefused(line) => line.as_slice(),
             Ending::Violated(line) => line.as_slice(),
+            Ending::Infeasible => b"infeasible\n",
         }
     }
 }

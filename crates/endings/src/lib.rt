@@ -9,7 +9,7 @@ mod ending;
 mod faults;
 mod reads;
 
-pub use dialects::dialect_of;
+pub use dialects::{dialect_of, format_of};
 pub use ending::Ending;
 pub use faults::{fault_line, solution_fault_line};
 pub use reads::{INPUT_LIMIT, SOLUTION_LIMIT, Unread, read_within};

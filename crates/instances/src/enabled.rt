@@ -11,7 +11,7 @@ use crate::ends::{apart, broken, crossed, fixed, holds_zero, in_order, place};
 use fractions::ext::Ext;
 use fractions::frac::Frac;
 use presolve_model::{Instance, Reduction, Verdict};
-use problem_parts::Problem;
+use sparse_problem::Problem;
 
 /// K1: a row without entries whose sides hold 0.
 fn is_empty_row(problem: &Problem, row: u32) -> bool

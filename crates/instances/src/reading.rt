@@ -5,7 +5,7 @@ ghost use Rattle.presolve_model.specs.Enabled.{Agrees, DiffersAt};
 
 use crate::parts::stands;
 use presolve_model::Read;
-use problem_parts::Problem;
+use sparse_problem::Problem;
 use std::marker::Model;
 
 /// What an instance read, part by part.

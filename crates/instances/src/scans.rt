@@ -1,16 +1,19 @@
 //! Scans for enabled instances.
 
-ghost use Rattle.std.specs.Prelude.{◌≡◌, ◌++◌, ◌∷◌, [], true, map, IfOk, OnOk};
-ghost use Rattle.std.specs.List.{filter};
+ghost use Rattle.std.specs.Prelude.{◌≡◌, ◌+◌, ◌<◌, ◌^◌, ◌++◌, ◌∷◌, [], true, map, IfOk, OnOk};
+ghost use Rattle.std.specs.List.{filter, range_with_len};
 ghost use Rattle.presolve_model.specs.Enabled.{enabled_on, reading_of, read_of, read_by, looked_at_by};
-ghost use Rattle.presolve_model.specs.Scans.{instance_at, proposal_of, found_at};
+ghost use Rattle.presolve_model.specs.Scans.{instance_at, proposal_of, found_at, found_in};
+ghost use Rattle.instances.specs.Ids.{id_count};
 
+use crate::chunk::Chunk;
 use crate::enabled::is_enabled;
 use crate::parts::read;
 use crate::proposal::Proposal;
 use crate::reading::Reading;
+use crate::tally::Tally;
 use presolve_model::{Instance, Part, Read, Reduction, Rule, Verdict};
-use problem_parts::Problem;
+use sparse_problem::Problem;
 use std::alloc::{AllocError, Global};
 
 /// A rule at an id of a row or a column.
@@ -131,4 +134,70 @@ pub fn scan_at(
         visit(alloc, problem, version, instance_of(rule, *id), &mut found)?;
     }
     Ok(found)
+}
+
+/// How many ids a rule has: those of the rows, or those of the columns. No instance is enabled at an id past them.
+fn ids_of(problem: &Problem, rule: Rule) -> u64
+    ensures count { result ≡ id_count problem.now rule }
+    ensures few { result < 2 ^ 32 }
+{
+    match rule {
+        Rule::CrossedSides | Rule::EmptyRow | Rule::SingletonRow => problem.row_count() as u64,
+        Rule::CrossedBounds | Rule::FixedColumn | Rule::RoundBounds | Rule::EmptyColumn => {
+            problem.column_count() as u64
+        }
+    }
+}
+
+/// Adds the instance of a rule at an id, if it is enabled. The id may be past the problem's.
+fn visit_at(
+    alloc: Global,
+    problem: &Problem,
+    version: u64,
+    rule: Rule,
+    id: u64,
+    found: &mut Vec<Proposal>,
+) -> Result<(), AllocError>
+    ensures { OnOk result (found.new.items ≡ found.old.items ++ found_at problem.now version rule (id ∷ [])) }
+{
+    if id >= ids_of(problem, rule) {
+        return Ok(());
+    }
+    visit(alloc, problem, version, instance_of(rule, id as u32), found)?;
+    Ok(())
+}
+
+/// The enabled instances of a rule at so many ids in a row, in their order, each with its reading.
+fn scan_row(
+    alloc: Global,
+    problem: &Problem,
+    version: u64,
+    rule: Rule,
+    first: u64,
+    count: u64,
+) -> Result<Vec<Proposal>, AllocError>
+    requires { first + count < 2 ^ 64 }
+    ensures { IfOk result (λ found. found.items ≡ found_at problem.now version rule (range_with_len first count)) }
+{
+    let mut found = Vec::new(alloc);
+    for passed in 0..count {
+        visit_at(alloc, problem, version, rule, first + passed, &mut found)?;
+    }
+    Ok(found)
+}
+
+/// The enabled instances of a rule in a chunk of ids, in their order, each with its reading. No rule here reads the tally.
+pub fn scan(
+    alloc: Global,
+    problem: &Problem,
+    tally: &Tally,
+    version: u64,
+    rule: Rule,
+    chunk: Chunk,
+) -> Result<Vec<Proposal>, AllocError>
+    ensures { IfOk result (λ found. found.items ≡ found_in problem.now version rule chunk) }
+{
+    let _ = tally;
+    let start = chunk.first();
+    scan_row(alloc, problem, version, rule, start, 1024)
 }

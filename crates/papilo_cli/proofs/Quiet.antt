@@ -4,7 +4,7 @@ use Rattle.command_line.specs.Line.{PostsolveNames, PresolveNames, Request, Pres
 use Rattle.endings.specs.Ending.{status_of}
 use Rattle.endings.specs.Moments.{Moment}
 use Rattle.endings.specs.declared.ending.Ending.{Ending}
-use Rattle.endings.specs.declared.ending.Ending.TheVariants.{Done, Usage, Refused, ReadFault, WriteFault, NoMemory, NoRoom, RecordsRefused, SolutionRefused, Violated}
+use Rattle.endings.specs.declared.ending.Ending.TheVariants.{Done, Usage, Refused, ReadFault, WriteFault, NoMemory, NoRoom, RecordsRefused, SolutionRefused, Violated, Infeasible}
 use Rattle.presolve_command.specs.Presolved.{EndsPresolve}
 use Rattle.postsolve_command.specs.Postsolved.{EndsPostsolve}
 use Rattle.papilo_cli.specs.Runs.{Ends}
@@ -20,6 +20,7 @@ quiet_presolve names (NoRoom line) before now ends done unwritten = absurd ends
 quiet_presolve names (RecordsRefused line) before now ends done unwritten = absurd ends
 quiet_presolve names (SolutionRefused line) before now ends done unwritten = absurd ends
 quiet_presolve names (Violated line) before now ends done unwritten = absurd ends
+quiet_presolve names Infeasible before now ends done unwritten = ends.1
 
 quiet_postsolve : (names : PostsolveNames) (ending : Ending) (before now : Moment) → EndsPostsolve names ending before now → (status_of ending ≡ 0 → ⊥) → (status_of ending ≡ 4 → ⊥) → now.told ≡ before.told
 quiet_postsolve names (Done text) before now ends done unwritten = absurd (done refl)
@@ -32,6 +33,7 @@ quiet_postsolve names (NoRoom line) before now ends done unwritten = ends.1
 quiet_postsolve names (RecordsRefused line) before now ends done unwritten = ends.1
 quiet_postsolve names (SolutionRefused line) before now ends done unwritten = ends.1
 quiet_postsolve names (Violated line) before now ends done unwritten = absurd ends
+quiet_postsolve names Infeasible before now ends done unwritten = absurd ends
 
 pub quiet : (asked : Option Request) (ending : Ending) (before now : Moment) (status : ℕ) → Ends asked ending before now → status ≡ status_of ending
     → (status ≡ 0 → ⊥) → (status ≡ 4 → ⊥) → now.told ≡ before.told

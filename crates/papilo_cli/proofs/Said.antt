@@ -1,5 +1,5 @@
 -- What a run printed, by what was asked for and by its status.
-use Rattle.std.proofs.Common.{◌≡◌, ℕ, List, ◌⊎◌, Option, Some, sym, ◌∙◌, subst}
+use Rattle.std.proofs.Common.{◌≡◌, ℕ, List, [], ◌∷◌, ◌++◌, codes, ◌≤◌, ◌⊎◌, inl, inr, Option, Some, arith, sym, ◌∙◌, subst}
 use Rattle.file_ports.specs.Ports.{Grown}
 use Rattle.command_line.specs.Line.{CheckNames, PostsolveNames, PresolveNames, Request, Presolve, Check, Postsolve}
 use Rattle.endings.specs.Ending.{status_of, text_of}
@@ -7,8 +7,9 @@ use Rattle.endings.specs.Moments.{Moment}
 use Rattle.endings.specs.ProgramTexts.{SaysFaultOf}
 use Rattle.endings.specs.declared.reads.TheConstants.{INPUT_LIMIT}
 use Rattle.endings.specs.declared.ending.Ending.{Ending}
-use Rattle.presolve_command.specs.Presolved.{EndsPresolve, IsPresolved, SaysFault}
-use Rattle.presolve_command.proofs.Said.{presolve_done, presolve_fault}
+use Rattle.endings.specs.declared.ending.Ending.TheVariants.{Done, Usage, Refused, ReadFault, WriteFault, NoMemory, NoRoom, RecordsRefused, SolutionRefused, Violated, Infeasible}
+use Rattle.presolve_command.specs.Presolved.{EndsPresolve, IsInfeasible, IsPresolved, SaysFault}
+use Rattle.presolve_command.proofs.Said.{presolve_done, presolve_fault, presolve_infeasible}
 use Rattle.check_command.specs.Checked.{EndsCheck, IsChecked, RefusesSolution, check_dialect}
 use Rattle.check_command.proofs.Said.{check_fault, check_verdict, solution_fault}
 use Rattle.postsolve_command.specs.Given.{reduced_dialect}
@@ -86,3 +87,23 @@ pub presolve_printed : (asked : Option Request) (names : PresolveNames) (ending 
     → (printed : List ℕ) × IsPresolved names printed before.told now.told × Grown old new printed
 presolve_printed asked names ending before now status text old new ends answers prints grown is at =
     presolve_done names ending before now old new (of_presolve asked names ending before now is ends) (sym answers ∙ at) (subst (Grown old new) prints grown)
+
+pub found_infeasible : (asked : Option Request) (names : PresolveNames) (ending : Ending) (before now : Moment) (status : ℕ) (text : List ℕ) (old new : Option (List ℕ))
+    → Ends asked ending before now → status ≡ status_of ending → text ≡ text_of ending → Grown old new text → asked ≡ Some (Presolve names) → status ≡ 20
+    → IsInfeasible names before.told × (now.told ≡ before.told) × Grown old new (codes "infeasible" ++ 10 ∷ [])
+found_infeasible asked names ending before now status text old new ends answers prints grown is at =
+    presolve_infeasible names ending before now old new (of_presolve asked names ending before now is ends) (sym answers ∙ at) (subst (Grown old new) prints grown)
+
+-- the statuses that there are
+pub status_known : (ending : Ending) (status : ℕ) → status ≡ status_of ending → (status ≤ 9) ⊎ (status ≡ 20)
+status_known (Done text) status is = inl (omega arith)
+status_known Usage status is = inl (omega arith)
+status_known (Refused line) status is = inl (omega arith)
+status_known ReadFault status is = inl (omega arith)
+status_known WriteFault status is = inl (omega arith)
+status_known NoMemory status is = inl (omega arith)
+status_known (NoRoom line) status is = inl (omega arith)
+status_known (RecordsRefused line) status is = inl (omega arith)
+status_known (SolutionRefused line) status is = inl (omega arith)
+status_known (Violated line) status is = inl (omega arith)
+status_known Infeasible status is = inr is

@@ -1,12 +1,12 @@
 //! The whole program, over files, a sink and a gate that its caller hands in.
 
-ghost use Rattle.std.specs.Prelude.{◌≡◌, ◌≢◌, ◌≤◌, ◌⊎◌, ℕ, List, None, Some};
+ghost use Rattle.std.specs.Prelude.{◌≡◌, ◌≢◌, ◌≤◌, ◌⊎◌, ◌++◌, [], ◌∷◌, ℕ, List, codes, None, Some};
 ghost use Rattle.file_ports.specs.Ports.{Rose, Grown, KeepsOthers};
 ghost use Rattle.command_line.specs.Line.{asked, texts, Check, CheckNames, Postsolve, PostsolveNames, Presolve, PresolveNames};
 ghost use Rattle.endings.specs.Moments.{KeepsAllBut};
 ghost use Rattle.endings.specs.ProgramTexts.{SaysFaultOf};
 ghost use Rattle.endings.specs.declared.reads.TheConstants.{INPUT_LIMIT};
-ghost use Rattle.presolve_command.specs.Presolved.{IsPresolved, SaysFault};
+ghost use Rattle.presolve_command.specs.Presolved.{IsInfeasible, IsPresolved, SaysFault};
 ghost use Rattle.check_command.specs.Checked.{IsChecked, RefusesSolution, check_dialect};
 ghost use Rattle.postsolve_command.specs.declared.given.TheConstants.{PROGRAM_LIMIT};
 ghost use Rattle.postsolve_command.specs.Given.{reduced_dialect};
@@ -56,7 +56,7 @@ pub fn run<R, F: Files, S: Sink, G: Gate>(
         × Prints result e (S.taken out.old) (S.taken out.new) (S.faults out.old) (S.faults out.new) }
 
     // The same, answer by answer.
-    ensures known { result ≤ 9 }
+    ensures known { (result ≤ 9) ⊎ (result ≡ 20) }
     ensures usage { result ≡ 1 → asked (texts words.now) ≡ None }
     ensures read_fault { (names : PresolveNames) → asked (texts words.now) ≡ Some (Presolve names) → result ≡ 3
         → Rose (F.read_faults files.old names.input) (F.read_faults files.new names.input) }
@@ -67,6 +67,8 @@ pub fn run<R, F: Files, S: Sink, G: Gate>(
     ensures sink_fault { asked (texts words.now) ≡ None → result ≡ 4 → Rose (S.faults out.old) (S.faults out.new) }
     ensures presolved { (names : PresolveNames) → asked (texts words.now) ≡ Some (Presolve names) → result ≡ 0
         → (printed : List ℕ) × IsPresolved names printed (F.told files.old) (F.told files.new) × Grown (S.taken out.old) (S.taken out.new) printed }
+    ensures infeasible { (names : PresolveNames) → asked (texts words.now) ≡ Some (Presolve names) → result ≡ 20
+        → IsInfeasible names (F.told files.old) × (F.told files.new ≡ F.told files.old) × Grown (S.taken out.old) (S.taken out.new) (codes "infeasible" ++ 10 ∷ []) }
     ensures refused_text { (names : PresolveNames) → asked (texts words.now) ≡ Some (Presolve names) → result ≡ 2
         → (said : List ℕ) × SaysFault names said
         (record { told = F.told files.old; reads = F.read_faults files.old; writes = F.write_faults files.old; overlong = F.overlong files.old })

@@ -19,7 +19,83 @@ RHS
 ENDATA
 ";
 
+// All of it is taken out: x by its own row, y by the row that is left, at the bound where it costs least.
 const SMALL_REDUCED: &str = "NAME presolved
+ROWS
+ N COST
+COLUMNS
+ENDATA
+";
+
+const SMALL_RECORDS: &str = "papilo-records 1
+sense min
+duals no
+columns 2
+gone x
+gone y
+rows 2
+gone C1
+gone C2
+offset 7
+records 5
+K2 0 0 1 0 inf
+K3 0 3 1 1 1 1
+K2 1 1 1 0 inf
+K17 1
+K3 1 2 2 0
+end
+";
+
+const SMALL_REPORT: &str = "rows 2 -> 0
+columns 2 -> 0
+entries 3 -> 0
+records 5
+offset 7
+end fixpoint
+skipped 0
+";
+
+// The same program by no more than one reduction, and by no more than three.
+const ONE_REDUCED: &str = "NAME presolved
+ROWS
+ N COST
+ G C2
+COLUMNS
+ x COST 1
+ x C2 1
+ y COST 2
+ y C2 1
+RHS
+ RHS C2 5
+BOUNDS
+ FX BND x 3
+ENDATA
+";
+
+const ONE_RECORDS: &str = "papilo-records 1
+sense min
+duals no
+columns 2
+live x
+live y
+rows 2
+gone C1
+live C2
+offset 0
+records 1
+K2 0 0 1 0 inf
+end
+";
+
+const ONE_REPORT: &str = "rows 2 -> 1
+columns 2 -> 2
+entries 3 -> 2
+records 1
+offset 0
+end limit
+";
+
+const THREE_REDUCED: &str = "NAME presolved
 ROWS
  N COST
 COLUMNS
@@ -29,7 +105,7 @@ BOUNDS
 ENDATA
 ";
 
-const SMALL_RECORDS: &str = "papilo-records 1
+const THREE_RECORDS: &str = "papilo-records 1
 sense min
 duals no
 columns 2
@@ -46,13 +122,12 @@ K2 1 1 1 0 inf
 end
 ";
 
-const SMALL_REPORT: &str = "rows 2 -> 0
+const THREE_REPORT: &str = "rows 2 -> 0
 columns 2 -> 1
 entries 3 -> 0
 records 3
 offset 3
-end fixpoint
-skipped 0
+end limit
 ";
 
 const USAGE: &str = "usage: presolve, postsolve, check or gen\n";
@@ -73,7 +148,7 @@ struct Case<'a> {
 
 const PRESOLVE: &[&str] = &["presolve", "IN", "OUT", "REC"];
 
-const CASES: [Case<'static>; 12] = [
+const CASES: [Case<'static>; 20] = [
     Case {
         words: PRESOLVE,
         input: SMALL,
@@ -84,6 +159,97 @@ const CASES: [Case<'static>; 12] = [
         printed: SMALL_REPORT,
         output: Some(SMALL_REDUCED),
         records: Some(SMALL_RECORDS),
+    },
+    // Limits: of one reduction, of three with a sign and zeros before the number, of the greatest number; and what is no limit.
+    Case {
+        words: &["presolve", "IN", "OUT", "REC", "--limit", "1"],
+        input: SMALL,
+        reads: &[],
+        writes: &[],
+        puts: &[],
+        status: 0,
+        printed: ONE_REPORT,
+        output: Some(ONE_REDUCED),
+        records: Some(ONE_RECORDS),
+    },
+    Case {
+        words: &["presolve", "--limit=+003", "IN", "OUT", "REC"],
+        input: SMALL,
+        reads: &[],
+        writes: &[],
+        puts: &[],
+        status: 0,
+        printed: THREE_REPORT,
+        output: Some(THREE_REDUCED),
+        records: Some(THREE_RECORDS),
+    },
+    Case {
+        words: &["presolve", "IN", "OUT", "REC", "--limit", "1000000000"],
+        input: SMALL,
+        reads: &[],
+        writes: &[],
+        puts: &[],
+        status: 0,
+        printed: SMALL_REPORT,
+        output: Some(SMALL_REDUCED),
+        records: Some(SMALL_RECORDS),
+    },
+    Case {
+        words: &["presolve", "IN", "OUT", "REC", "--limit", "0"],
+        input: SMALL,
+        reads: &[],
+        writes: &[],
+        puts: &[],
+        status: 1,
+        printed: USAGE,
+        output: None,
+        records: None,
+    },
+    Case {
+        words: &["presolve", "IN", "OUT", "REC", "--limit", "x"],
+        input: SMALL,
+        reads: &[],
+        writes: &[],
+        puts: &[],
+        status: 1,
+        printed: USAGE,
+        output: None,
+        records: None,
+    },
+    Case {
+        words: &["presolve", "IN", "OUT", "REC", "--limit", "1000000001"],
+        input: SMALL,
+        reads: &[],
+        writes: &[],
+        puts: &[],
+        status: 1,
+        printed: USAGE,
+        output: None,
+        records: None,
+    },
+    // The least x of at least 0 and at most -1, which no point is.
+    Case {
+        words: PRESOLVE,
+        input: "ROWS\n N COST\n L C1\nCOLUMNS\n x COST 1 C1 1\nRHS\n RHS C1 -1\nENDATA\n",
+        reads: &[],
+        writes: &[],
+        puts: &[],
+        status: 20,
+        printed: "infeasible\n",
+        output: None,
+        records: None,
+    },
+    // A verdict that can't be printed.
+    Case {
+        words: PRESOLVE,
+        input: "ROWS\n N COST\n L C1\nCOLUMNS\n x COST 1 C1 1\nRHS\n RHS C1 -1\nENDATA\n",
+        reads: &[],
+        writes: &[],
+        puts: &[1],
+        status: 4,
+        printed: "",
+        output: None,
+        records: None,
     },
     // Neither rows nor columns.
     Case {
@@ -343,7 +509,7 @@ K12 0 0 1 1 10000000000 0 -inf inf 0 0
 end
 ";
 
-// The small program's records, with z in the place of y.
+// The records of three reductions, with z in the place of y.
 const OTHER_RECORDS: &str = "papilo-records 1
 sense min
 duals no
@@ -377,11 +543,22 @@ struct PostsolveCase<'a> {
 
 const POSTSOLVE: &[&str] = &["postsolve", "OUT", "REC", "SOL", "RESULT"];
 
-const LIFTS: [PostsolveCase<'static>; 15] = [
+const LIFTS: [PostsolveCase<'static>; 16] = [
     PostsolveCase {
         words: POSTSOLVE,
         program: SMALL_REDUCED,
         records: SMALL_RECORDS,
+        solution: "",
+        reads: &[],
+        writes: &[],
+        status: 0,
+        printed: "columns 0 -> 2\n",
+        result: Some("x 3\ny 2\n"),
+    },
+    PostsolveCase {
+        words: POSTSOLVE,
+        program: THREE_REDUCED,
+        records: THREE_RECORDS,
         solution: "y 2\n",
         reads: &[],
         writes: &[],
@@ -392,8 +569,8 @@ const LIFTS: [PostsolveCase<'static>; 15] = [
     // A column without a line is 0.
     PostsolveCase {
         words: POSTSOLVE,
-        program: SMALL_REDUCED,
-        records: SMALL_RECORDS,
+        program: THREE_REDUCED,
+        records: THREE_RECORDS,
         solution: "",
         reads: &[],
         writes: &[],
@@ -439,7 +616,7 @@ const LIFTS: [PostsolveCase<'static>; 15] = [
     },
     PostsolveCase {
         words: POSTSOLVE,
-        program: SMALL_REDUCED,
+        program: THREE_REDUCED,
         records: "papilo-records 1\nsense min\nduals no\ncolumns 2\ngone x\nlive y\nrows 2\ngone C1\ngone C2\noffset 3\nrecords 3\n",
         solution: "w 1\n",
         reads: &[],
@@ -450,7 +627,7 @@ const LIFTS: [PostsolveCase<'static>; 15] = [
     },
     PostsolveCase {
         words: POSTSOLVE,
-        program: SMALL_REDUCED,
+        program: THREE_REDUCED,
         records: "papilo-records 1\nsense min\nduals no\ncolumns 2\ngone x\nlive y\nrows 2\ngone C1\ngone C2\noffset 3\nrecords 3\nK2 0 0 1 0 inf\nK3 0 3 1 1 1 1\nK3 0 3 1 1 1 1\nK2 1 1 1 0 inf\nend\n",
         solution: "w 1\n",
         reads: &[],
@@ -461,7 +638,7 @@ const LIFTS: [PostsolveCase<'static>; 15] = [
     },
     PostsolveCase {
         words: POSTSOLVE,
-        program: SMALL_REDUCED,
+        program: THREE_REDUCED,
         records: OTHER_RECORDS,
         solution: "w 1\n",
         reads: &[],
@@ -472,8 +649,8 @@ const LIFTS: [PostsolveCase<'static>; 15] = [
     },
     PostsolveCase {
         words: POSTSOLVE,
-        program: SMALL_REDUCED,
-        records: SMALL_RECORDS,
+        program: THREE_REDUCED,
+        records: THREE_RECORDS,
         solution: "z 1\n",
         reads: &[],
         writes: &[],
@@ -528,8 +705,8 @@ const LIFTS: [PostsolveCase<'static>; 15] = [
     },
     PostsolveCase {
         words: POSTSOLVE,
-        program: SMALL_REDUCED,
-        records: SMALL_RECORDS,
+        program: THREE_REDUCED,
+        records: THREE_RECORDS,
         solution: "y 2\n",
         reads: &[],
         writes: &[1],
@@ -539,8 +716,8 @@ const LIFTS: [PostsolveCase<'static>; 15] = [
     },
     PostsolveCase {
         words: &["postsolve", "OUT", "REC", "SOL"],
-        program: SMALL_REDUCED,
-        records: SMALL_RECORDS,
+        program: THREE_REDUCED,
+        records: THREE_RECORDS,
         solution: "y 2\n",
         reads: &[],
         writes: &[],

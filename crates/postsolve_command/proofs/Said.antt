@@ -6,7 +6,7 @@ use Rattle.endings.specs.Ending.{status_of, text_of}
 use Rattle.endings.specs.Moments.{Moment}
 use Rattle.endings.specs.ProgramTexts.{SaysFaultOf}
 use Rattle.endings.specs.declared.ending.Ending.{Ending}
-use Rattle.endings.specs.declared.ending.Ending.TheVariants.{Done, Usage, Refused, ReadFault, WriteFault, NoMemory, NoRoom, RecordsRefused, SolutionRefused, Violated}
+use Rattle.endings.specs.declared.ending.Ending.TheVariants.{Done, Usage, Refused, ReadFault, WriteFault, NoMemory, NoRoom, RecordsRefused, SolutionRefused, Violated, Infeasible}
 use Rattle.postsolve_command.specs.Given.{reduced_dialect}
 use Rattle.postsolve_command.specs.Postsolved.{EndsPostsolve, IsPostsolved, IsStopped, RefusesPoint, RefusesRecords}
 use Rattle.postsolve_command.specs.declared.given.TheConstants.{PROGRAM_LIMIT}
@@ -23,6 +23,7 @@ postsolve_done names (NoRoom line) before now old new ends is grown = absurd (om
 postsolve_done names (RecordsRefused line) before now old new ends is grown = absurd (omega arith)
 postsolve_done names (SolutionRefused line) before now old new ends is grown = absurd (omega arith)
 postsolve_done names (Violated line) before now old new ends is grown = absurd ends
+postsolve_done names Infeasible before now old new ends is grown = absurd ends
 
 pub program_fault : (names : PostsolveNames) (ending : Ending) (before now : Moment) (old new : Option (List ℕ)) → EndsPostsolve names ending before now → status_of ending ≡ 2
     → Grown old new (text_of ending) → (said : List ℕ) × SaysFaultOf PROGRAM_LIMIT reduced_dialect names.program said before now × Grown old new said
@@ -36,6 +37,7 @@ program_fault names (NoRoom line) before now old new ends is grown = absurd (ome
 program_fault names (RecordsRefused line) before now old new ends is grown = absurd (omega arith)
 program_fault names (SolutionRefused line) before now old new ends is grown = absurd (omega arith)
 program_fault names (Violated line) before now old new ends is grown = absurd ends
+program_fault names Infeasible before now old new ends is grown = absurd ends
 
 pub lift_stopped : (names : PostsolveNames) (ending : Ending) (before now : Moment) (old new : Option (List ℕ)) → EndsPostsolve names ending before now → status_of ending ≡ 6
     → Grown old new (text_of ending) → (said : List ℕ) × IsStopped names said before.told × Grown old new said
@@ -49,6 +51,7 @@ lift_stopped names (NoRoom line) before now old new ends is grown = (line.items,
 lift_stopped names (RecordsRefused line) before now old new ends is grown = absurd (omega arith)
 lift_stopped names (SolutionRefused line) before now old new ends is grown = absurd (omega arith)
 lift_stopped names (Violated line) before now old new ends is grown = absurd ends
+lift_stopped names Infeasible before now old new ends is grown = absurd ends
 
 pub records_fault : (names : PostsolveNames) (ending : Ending) (before now : Moment) (old new : Option (List ℕ)) → EndsPostsolve names ending before now → status_of ending ≡ 7
     → Grown old new (text_of ending) → (said : List ℕ) × RefusesRecords names said before now × Grown old new said
@@ -62,6 +65,7 @@ records_fault names (NoRoom line) before now old new ends is grown = absurd (ome
 records_fault names (RecordsRefused line) before now old new ends is grown = (line.items, ends.0, grown)
 records_fault names (SolutionRefused line) before now old new ends is grown = absurd (omega arith)
 records_fault names (Violated line) before now old new ends is grown = absurd ends
+records_fault names Infeasible before now old new ends is grown = absurd ends
 
 pub point_fault : (names : PostsolveNames) (ending : Ending) (before now : Moment) (old new : Option (List ℕ)) → EndsPostsolve names ending before now → status_of ending ≡ 8
     → Grown old new (text_of ending) → (said : List ℕ) × RefusesPoint names said before now × Grown old new said
@@ -75,3 +79,4 @@ point_fault names (NoRoom line) before now old new ends is grown = absurd (omega
 point_fault names (RecordsRefused line) before now old new ends is grown = absurd (omega arith)
 point_fault names (SolutionRefused line) before now old new ends is grown = (line.items, ends.0, grown)
 point_fault names (Violated line) before now old new ends is grown = absurd ends
+point_fault names Infeasible before now old new ends is grown = absurd ends

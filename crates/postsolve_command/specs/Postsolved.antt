@@ -96,3 +96,4 @@ EndsPostsolve names (endings.NoRoom line) before now = IsStopped names line.item
 EndsPostsolve names (endings.RecordsRefused line) before now = RefusesRecords names line.items before now × (now.told ≡ before.told)
 EndsPostsolve names (endings.SolutionRefused line) before now = RefusesPoint names line.items before now × (now.told ≡ before.told)
 EndsPostsolve names (endings.Violated line) before now = ⊥
+EndsPostsolve names endings.Infeasible before now = ⊥

@@ -8,7 +8,9 @@ use lp_model::{Name, Point, Sense, Term, Terms};
 use std::alloc::{AllocError, Global};
 use std::process::Abort;
 use std::test::Fail;
-use undo_records::{Label, Records, RowFate, Side, Undo};
+use undo_records::{
+    EndApart, KeptEnd, KeptNumber, Label, NumberApart, Records, RowFate, Side, TermsApart, Undo,
+};
 
 /// A numerator over a denominator.
 type Number = (i128, u128);
@@ -338,6 +340,18 @@ fn end_at(end: Option<Number>) -> Ext {
     }
 }
 
+fn kept(alloc: Global, each: Number) -> Result<KeptNumber, AllocError> {
+    KeptNumber::new(alloc, number(each))
+}
+
+fn apart(alloc: Global, each: Number) -> Result<NumberApart, AllocError> {
+    NumberApart::new(alloc, number(each))
+}
+
+fn end_apart(alloc: Global, end: Option<Number>) -> Result<EndApart, AllocError> {
+    EndApart::new(alloc, end_at(end))
+}
+
 fn terms(alloc: Global, entries: &[Entry]) -> Result<Terms, AllocError> {
     let mut terms = Vec::new(alloc);
     for (id, value) in entries {
@@ -350,13 +364,13 @@ fn terms(alloc: Global, entries: &[Entry]) -> Result<Terms, AllocError> {
 }
 
 /// The parts of a record that undoing does not read are 1, or nothing.
-fn fixed(alloc: Global, column: u32, value: Number) -> Undo {
-    Undo::FixedColumn {
+fn fixed(alloc: Global, column: u32, value: Number) -> Result<Undo, AllocError> {
+    Ok(Undo::FixedColumn {
         column,
-        value: number(value),
-        cost: Frac::one(),
+        value: kept(alloc, value)?,
+        cost: kept(alloc, ONE)?,
         entries: Terms::empty(alloc),
-    }
+    })
 }
 
 fn solved(
@@ -366,28 +380,28 @@ fn solved(
     value: Number,
     kept_value: Number,
     equal: Number,
-) -> Undo {
-    Undo::Doubleton {
+) -> Result<Undo, AllocError> {
+    Ok(Undo::Doubleton {
         row,
         column,
         kept: 1,
-        value: number(value),
-        kept_value: number(kept_value),
-        equal: number(equal),
-        lower: Ext::none(),
-        upper: Ext::none(),
-        cost: Frac::one(),
-        entries: Terms::empty(alloc),
-    }
+        value: apart(alloc, value)?,
+        kept_value: apart(alloc, kept_value)?,
+        equal: apart(alloc, equal)?,
+        lower: end_apart(alloc, None)?,
+        upper: end_apart(alloc, None)?,
+        cost: apart(alloc, ONE)?,
+        entries: TermsApart::new(alloc, Terms::empty(alloc))?,
+    })
 }
 
 fn free(alloc: Global, value: Number, at: Number, entries: &[Entry]) -> Result<Undo, AllocError> {
     Ok(Undo::FreeSingleton {
         column: 0,
         row: 0,
-        value: number(value),
-        at: number(at),
-        price: Frac::one(),
+        value: apart(alloc, value)?,
+        at: apart(alloc, at)?,
+        price: apart(alloc, ONE)?,
         entries: terms(alloc, entries)?,
     })
 }
@@ -403,39 +417,44 @@ fn slack(
     Ok(Undo::SlackSingleton {
         column: 0,
         row: 0,
-        value: number(value),
-        price: Frac::one(),
-        lower_side: end_at(sides.0),
-        upper_side: end_at(sides.1),
-        lower: end_at(bounds.0),
-        upper: end_at(bounds.1),
+        value: apart(alloc, value)?,
+        price: apart(alloc, ONE)?,
+        lower_side: end_apart(alloc, sides.0)?,
+        upper_side: end_apart(alloc, sides.1)?,
+        lower: end_apart(alloc, bounds.0)?,
+        upper: end_apart(alloc, bounds.1)?,
         fate,
-        entries: terms(alloc, entries)?,
+        entries: TermsApart::new(alloc, terms(alloc, entries)?)?,
     })
 }
 
-fn merged(factor: Number, bounds: Ends, kept_bounds: Ends) -> Undo {
-    Undo::ParallelColumns {
+fn merged(
+    alloc: Global,
+    factor: Number,
+    bounds: Ends,
+    kept_bounds: Ends,
+) -> Result<Undo, AllocError> {
+    Ok(Undo::ParallelColumns {
         column: 0,
         kept: 1,
-        factor: number(factor),
-        lower: end_at(bounds.0),
-        upper: end_at(bounds.1),
-        kept_lower: end_at(kept_bounds.0),
-        kept_upper: end_at(kept_bounds.1),
-    }
+        factor: apart(alloc, factor)?,
+        lower: end_apart(alloc, bounds.0)?,
+        upper: end_apart(alloc, bounds.1)?,
+        kept_lower: end_apart(alloc, kept_bounds.0)?,
+        kept_upper: end_apart(alloc, kept_bounds.1)?,
+    })
 }
 
 fn recorded(alloc: Global, change: &Change) -> Result<Undo, AllocError> {
     match change {
-        Change::Fixed { column, value } => Ok(fixed(alloc, *column, *value)),
+        Change::Fixed { column, value } => fixed(alloc, *column, *value),
         Change::Solved {
             row,
             column,
             value,
             kept_value,
             equal,
-        } => Ok(solved(alloc, *row, *column, *value, *kept_value, *equal)),
+        } => solved(alloc, *row, *column, *value, *kept_value, *equal),
         Change::Free { value, at, entries } => free(alloc, *value, *at, entries),
         Change::Slack {
             value,
@@ -448,7 +467,7 @@ fn recorded(alloc: Global, change: &Change) -> Result<Undo, AllocError> {
             factor,
             bounds,
             kept_bounds,
-        } => Ok(merged(*factor, *bounds, *kept_bounds)),
+        } => merged(alloc, *factor, *bounds, *kept_bounds),
     }
 }
 
@@ -548,15 +567,15 @@ fn changes_are_undone(rt: HostRuntime) -> Result<(), Fail> {
 }
 
 /// Records of rows alone, of which none changes the point. Of six rows the last one is left.
-fn of_rows(alloc: Global) -> [Undo; 6] {
-    [
+fn of_rows(alloc: Global) -> Result<[Undo; 6], AllocError> {
+    Ok([
         Undo::EmptyRow { row: 0 },
         Undo::SingletonRow {
             row: 1,
             column: 0,
-            value: Frac::one(),
-            lower: Ext::none(),
-            upper: Ext::none(),
+            value: kept(alloc, ONE)?,
+            lower: KeptEnd::new(alloc, Ext::none())?,
+            upper: KeptEnd::new(alloc, Ext::none())?,
         },
         Undo::RedundantRow { row: 2 },
         Undo::RedundantSide { row: 4 },
@@ -568,12 +587,12 @@ fn of_rows(alloc: Global) -> [Undo; 6] {
         Undo::ParallelRows {
             row: 4,
             kept: 5,
-            factor: Frac::one(),
-            lower: Ext::none(),
-            upper: Ext::none(),
+            factor: apart(alloc, ONE)?,
+            lower: end_apart(alloc, None)?,
+            upper: end_apart(alloc, None)?,
             entries: Terms::empty(alloc),
         },
-    ]
+    ])
 }
 
 /// Records of bounds and entries, of which none changes the point.
@@ -584,7 +603,7 @@ fn of_bounds(alloc: Global) -> Result<[Undo; 6], AllocError> {
             row: 0,
             column: 0,
             side: Side::Lower,
-            bound: Ext::none(),
+            bound: KeptEnd::new(alloc, Ext::none())?,
             entries: terms(alloc, &[(0, ONE)])?,
         },
         Undo::TightenCoefficient { row: 0, column: 0 },
@@ -604,7 +623,7 @@ fn other_records_leave_the_point(rt: HostRuntime) -> Result<(), Fail> {
     let alloc = rt.alloc();
     let all = [true; 3];
     let before = [(1, 2), (-3, 1), (4, 1)];
-    let undos = Vec::from_array(alloc, of_rows(alloc))?;
+    let undos = Vec::from_array(alloc, of_rows(alloc)?)?;
     let of_rows = records(&rt, alloc, &all, &LAST, undos)?;
     check(&rt, alloc, &all, &of_rows, &before, &Ok(before))?;
     let undos = Vec::from_array(alloc, of_bounds(alloc)?)?;
@@ -616,7 +635,7 @@ fn other_records_leave_the_point(rt: HostRuntime) -> Result<(), Fail> {
 #[test]
 fn a_reduced_point_has_its_place(rt: HostRuntime) -> Result<(), Fail> {
     let alloc = rt.alloc();
-    let undos = vec![in alloc; fixed(alloc, 1, ONE)]?;
+    let undos = vec![in alloc; fixed(alloc, 1, ONE)?]?;
     let records = records(&rt, alloc, &[true, false, true], &[], undos)?;
     let reduced = point(alloc, &[(7, 1), (8, 3)])?;
     let buffer = PointBuf::new(alloc, &records, &reduced)?;

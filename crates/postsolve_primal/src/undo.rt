@@ -188,9 +188,16 @@ fn undo_within(undo: &Undo, point: &mut [Frac]) -> Result<(), Past>
             entries,
             ..
         } => {
-            let sides = Range::between(lower_side, upper_side);
-            let bounds = Range::between(lower, upper);
-            undo_slack_singleton(point, *column, value, sides, bounds, entries.as_slice())
+            let sides = Range::between(&lower_side.get(), &upper_side.get());
+            let bounds = Range::between(&lower.get(), &upper.get());
+            undo_slack_singleton(
+                point,
+                *column,
+                &value.get(),
+                sides,
+                bounds,
+                entries.as_slice(),
+            )
         }
         Undo::ParallelColumns {
             column,
@@ -201,9 +208,9 @@ fn undo_within(undo: &Undo, point: &mut [Frac]) -> Result<(), Past>
             kept_lower,
             kept_upper,
         } => {
-            let bounds = Range::between(lower, upper);
-            let kept_bounds = Range::between(kept_lower, kept_upper);
-            undo_parallel_columns(point, *column, *kept, factor, bounds, kept_bounds)
+            let bounds = Range::between(&lower.get(), &upper.get());
+            let kept_bounds = Range::between(&kept_lower.get(), &kept_upper.get());
+            undo_parallel_columns(point, *column, *kept, &factor.get(), bounds, kept_bounds)
         }
         _ => Ok(()),
     }
@@ -221,7 +228,7 @@ pub fn undo_one(undo: &Undo, point: &mut [Frac]) -> Result<(), Past>
 {
     match undo {
         Undo::FixedColumn { column, value, .. } => {
-            set_number(point, *column, *value);
+            set_number(point, *column, value.get());
             Ok(())
         }
         Undo::Doubleton {
@@ -231,14 +238,21 @@ pub fn undo_one(undo: &Undo, point: &mut [Frac]) -> Result<(), Past>
             kept_value,
             equal,
             ..
-        } => undo_doubleton(point, *column, *kept, value, kept_value, equal),
+        } => undo_doubleton(
+            point,
+            *column,
+            *kept,
+            &value.get(),
+            &kept_value.get(),
+            &equal.get(),
+        ),
         Undo::FreeSingleton {
             column,
             value,
             at,
             entries,
             ..
-        } => undo_free_singleton(point, *column, value, at, entries.as_slice()),
+        } => undo_free_singleton(point, *column, &value.get(), &at.get(), entries.as_slice()),
         Undo::SlackSingleton { .. } | Undo::ParallelColumns { .. } => undo_within(undo, point),
         _ => Ok(()),
     }

@@ -16,8 +16,9 @@ use Rattle.mps_written_lines.specs.Formats.{free_format}
 use Rattle.mps_profile.specs.Reading.{first_fault}
 use Rattle.mps_profile.specs.Program.{program_of}
 use Rattle.mps_round_trip.proofs.Round.{no_fault, again}
-use Rattle.presolve_rounds.specs.Runs.{names_in, live_names}
-use Rattle.presolve_command.specs.Texts.{Outcome, Carries, ReadsBack}
+use Rattle.round_laws.specs.Telling.{names_in}
+use Rattle.presolve_rounds.specs.Conclusions.{CarriesNames, live_names}
+use Rattle.presolve_command.specs.Texts.{Outcome, ReadsBack}
 
 -- what holds of all names holds of those that are live
 live_all : (P : List ℕ → Type 0) (labels : List Label) → All P (names_in labels) → All P (live_names labels)
@@ -42,30 +43,28 @@ live_differ_from : (first : List ℕ) (labels : List Label) → Differ (first �
 live_differ_from first labels h =
     differ_cons first (live_names labels) (live_all (λ (other : List ℕ). first ≢ other) labels (differ_head first (names_in labels) h)) (live_differ labels (differ_tail first (names_in labels) h))
 
-plain_kept : (o : Outcome) → Carries o.records o.source → o.program.objective ≡ o.source.objective → names_of_rows o.program.rows ≡ live_names o.records.rows
-    → names_of_columns o.program.columns ≡ live_names o.records.columns → Plain o.source → Plain o.program
-plain_kept o carried objective rows columns h = record {
-  objective = subst (λ (name : List ℕ). IsRowName name) (sym objective) h.objective;
+plain_kept : (o : Outcome) → CarriesNames o.source o.program o.records → Plain o.source → Plain o.program
+plain_kept o carried h = record {
+  objective = subst (λ (name : List ℕ). IsRowName name) (sym carried.objective) h.objective;
   rows = all_names (λ (name : List ℕ). IsRowName name) (λ (r : RowDef). r.name) o.program.rows
-      (subst (λ (ns : List (List ℕ)). All (λ (name : List ℕ). IsRowName name) ns) (sym rows) (live_all (λ (name : List ℕ). IsRowName name) o.records.rows
+      (subst (λ (ns : List (List ℕ)). All (λ (name : List ℕ). IsRowName name) ns) (sym carried.live_rows) (live_all (λ (name : List ℕ). IsRowName name) o.records.rows
       (subst (λ (ns : List (List ℕ)). All (λ (name : List ℕ). IsRowName name) ns) (sym carried.rows) (All-map (λ (name : List ℕ). IsRowName name) (λ (r : RowDef). r.name) o.source.rows h.rows))));
   columns = all_names (λ (name : List ℕ). IsWord name) (λ (c : ColumnDef). c.name) o.program.columns
-      (subst (λ (ns : List (List ℕ)). All (λ (name : List ℕ). IsWord name) ns) (sym columns) (live_all (λ (name : List ℕ). IsWord name) o.records.columns
+      (subst (λ (ns : List (List ℕ)). All (λ (name : List ℕ). IsWord name) ns) (sym carried.live_columns) (live_all (λ (name : List ℕ). IsWord name) o.records.columns
       (subst (λ (ns : List (List ℕ)). All (λ (name : List ℕ). IsWord name) ns) (sym carried.columns) (All-map (λ (name : List ℕ). IsWord name) (λ (c : ColumnDef). c.name) o.source.columns h.columns))));
   differ = record {
-    rows = subst (λ (ns : List (List ℕ)). Differ (o.program.objective ∷ ns)) (sym rows)
-        (subst (λ (name : List ℕ). Differ (name ∷ live_names o.records.rows)) (sym objective)
+    rows = subst (λ (ns : List (List ℕ)). Differ (o.program.objective ∷ ns)) (sym carried.live_rows)
+        (subst (λ (name : List ℕ). Differ (name ∷ live_names o.records.rows)) (sym carried.objective)
         (live_differ_from o.source.objective o.records.rows (subst (λ (ns : List (List ℕ)). Differ (o.source.objective ∷ ns)) (sym carried.rows) h.differ.rows)));
-    columns = subst (λ (ns : List (List ℕ)). Differ ns) (sym columns)
+    columns = subst (λ (ns : List (List ℕ)). Differ ns) (sym carried.live_columns)
         (live_differ o.records.columns (subst (λ (ns : List (List ℕ)). Differ ns) (sym carried.columns) h.differ.columns));
   };
 }
 
-pub reads_back : (numbers : Numbers) (o : Outcome) (text : List ℕ) → Carries o.records o.source → o.program.objective ≡ o.source.objective → names_of_rows o.program.rows ≡ live_names o.records.rows
-    → names_of_columns o.program.columns ≡ live_names o.records.columns
+pub reads_back : (numbers : Numbers) (o : Outcome) (text : List ℕ) → CarriesNames o.source o.program o.records
     → Writable numbers o.program → EntriesAscend o.program → text ≡ mps_text o.program → ReadsBack numbers o text
-reads_back numbers o text carried objective rows columns w a is = λ h.
-    let plain = plain_kept o carried objective rows columns h in record {
+reads_back numbers o text carried w a is = λ h.
+    let plain = plain_kept o carried h in record {
       sound = ap (λ (t : List ℕ). first_fault (free_format numbers) t) is ∙ no_fault numbers o.program plain w a;
       same = ap (λ (t : List ℕ). program_of (free_format numbers) t) is ∙ again numbers o.program plain w a;
     }

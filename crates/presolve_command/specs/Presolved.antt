@@ -7,13 +7,20 @@ use Rattle.endings.specs.Moments.{Moment, KeepsAllBut, Reads}
 use Rattle.endings.specs.ProgramTexts.{IsProgramOf, SaysFaultOf}
 use Rattle.endings.specs.declared.reads.TheConstants.{INPUT_LIMIT}
 use Rattle.endings.specs.declared.ending.Ending.{Ending}
-use Rattle.endings.specs.declared.ending.Ending.TheVariants.{Done, Usage, Refused, ReadFault, WriteFault, NoMemory, NoRoom, RecordsRefused, SolutionRefused, Violated}
-use Rattle.presolve_command.specs.Texts.{Outcome, AreTexts, ReadsBack}
+use Rattle.endings.specs.declared.ending.Ending.TheVariants.{Done, Usage, Refused, ReadFault, WriteFault, NoMemory, NoRoom, RecordsRefused, SolutionRefused, Violated, Infeasible}
+use Rattle.presolve_rounds.specs.Conclusions.{Concluded}
+use Rattle.presolve_rounds.specs.declared.outcome.Options.{Options}
+use Rattle.presolve_command.specs.Texts.{Outcome, AreTexts, HasNoPoint, ReadsBack, options_for}
 
--- the texts of some outcome of IN's program were written, and its report goes with them
+-- what presolve is told by the words
+abbrev pub options_in : PresolveNames → Options
+options_in names = options_for (dialect_of names.options) names.options.limit
+
+-- presolve concluded some outcome of IN's program; its texts were written, and its report goes with them
 pub record IsPresolved (names : PresolveNames) (printed : List ℕ) (old new : List ℕ → Told) : Type 0 where
   pub outcome : Outcome
   pub source : Reads (old names.input) (λ text. IsProgramOf (dialect_of names.options) text outcome.source)
+  pub concluded : Concluded (options_in names) outcome.source outcome.program outcome.records outcome.report.end
   pub program : List ℕ
   pub records : List ℕ
   pub texts : AreTexts outcome program records printed
@@ -25,6 +32,10 @@ pub record IsPresolved (names : PresolveNames) (printed : List ℕ) (old new : L
 -- what is said of IN's text
 abbrev pub SaysFault : PresolveNames → List ℕ → Moment → Moment → Type 0
 SaysFault names said before now = SaysFaultOf INPUT_LIMIT (dialect_of names.options) names.input said before now
+
+-- IN's text has no fault, and its program has no feasible point
+abbrev pub IsInfeasible : PresolveNames → (List ℕ → Told) → Type 0
+IsInfeasible names told = Reads (told names.input) (λ text. HasNoPoint (dialect_of names.options) text)
 
 -- Of two writes one failed: the first, and all other names stand; or the second, and the first text was written.
 -- What was told before and is told now, and the counts of write faults before and now, are by name.
@@ -41,9 +52,11 @@ EndsPresolve names (Refused line) before now = SaysFault names line.items before
 EndsPresolve names ReadFault before now = (now.told ≡ before.told) × Rose (before.reads names.input) (now.reads names.input)
 EndsPresolve names WriteFault before now = (outcome : Outcome) × (program records printed : List ℕ) × AreTexts outcome program records printed
     × Reads (before.told names.input) (λ text. IsProgramOf (dialect_of names.options) text outcome.source)
+    × Concluded (options_in names) outcome.source outcome.program outcome.records outcome.report.end
     × FailsBetween names.output program names.records before.told now.told before.writes now.writes
 EndsPresolve names NoMemory before now = now.told ≡ before.told
 EndsPresolve names (NoRoom line) before now = ⊥
 EndsPresolve names (RecordsRefused line) before now = ⊥
 EndsPresolve names (SolutionRefused line) before now = ⊥
 EndsPresolve names (Violated line) before now = ⊥
+EndsPresolve names Infeasible before now = IsInfeasible names before.told × (now.told ≡ before.told)

@@ -2,14 +2,16 @@
 use Rattle.std.specs.Prelude.{◌≡◌, ℕ, ◌-◌, ◌^◌, List, length, min, Some, None, Result, Ok, Err}
 use Rattle.std.specs.List.{sum_by}
 use Rattle.lp_model.specs.ProgramData.{ProgramData}
-use Rattle.lp_model.specs.Names.{names_of_rows, names_of_columns}
+use Rattle.lp_model.specs.Meaning.{meaning}
+use Rattle.lp_model.specs.Verdicts.{NoPoint}
 use Rattle.fractions.specs.declared.Numbers.{Numbers}
 use Rattle.mps_profile.specs.Reading.{first_fault}
 use Rattle.mps_profile.specs.Program.{program_of}
 use Rattle.mps_written_lines.specs.Formats.{free_format}
 use Rattle.mps_round_trip.specs.Plain.{Plain}
 use Rattle.mps_profile.specs.declared.dialect.Dialect.{Dialect}
-use Rattle.presolve_rounds.specs.Runs.{names_in}
+use Rattle.presolve_rounds.specs.Conclusions.{Concluded}
+use Rattle.presolve_rounds.specs.declared.outcome.Options.{Options}
 use Rattle.mps_writer.specs.MpsText.{mps_text}
 use Rattle.record_file.specs.RecordText.{record_text}
 use Rattle.undo_records.specs.Postsolve.{Postsolve}
@@ -17,7 +19,7 @@ use Rattle.endings.specs.ProgramTexts.{IsProgramOf}
 use Rattle.presolve_command.specs.declared.report.Report.{Report}
 use Rattle.presolve_command.specs.declared.reduce.Texts.{Texts}
 use Rattle.presolve_command.specs.declared.reduce.NotReduced.{NotReduced}
-use Rattle.presolve_command.specs.declared.reduce.NotReduced.TheVariants.{Fault, NoMemory}
+use Rattle.presolve_command.specs.declared.reduce.NotReduced.TheVariants.{Fault, Infeasible, NoMemory}
 use Rattle.presolve_command.specs.Report.{report_text}
 
 -- a program, what is left of it, the records of how that came about, and the report
@@ -31,15 +33,8 @@ pub record Outcome : Type 0 where
 abbrev pub entries_of : ProgramData → ℕ
 entries_of program = min (sum_by (λ column. length column.entries) program.columns) (2 ^ 64 - 1)
 
--- the records carry the program's sense and names
-pub record Carries (records : Postsolve) (source : ProgramData) : Type 0 where
-  pub sense : records.sense ≡ source.sense
-  pub rows : names_in records.rows ≡ names_of_rows source.rows
-  pub columns : names_in records.columns ≡ names_of_columns source.columns
-
 -- the report counts the rows, columns and entries of the program and of what is left, and the records, and gives their offset
 pub record Tells (outcome : Outcome) : Type 0 where
-  pub carried : Carries outcome.records outcome.source
   pub rows_before : outcome.report.rows.before ≡ length outcome.source.rows
   pub rows_after : outcome.report.rows.after ≡ length outcome.program.rows
   pub columns_before : outcome.report.columns.before ≡ length outcome.source.columns
@@ -65,10 +60,33 @@ pub record TextReads (numbers : Numbers) (text : List ℕ) (program : ProgramDat
 abbrev pub ReadsBack : Numbers → Outcome → List ℕ → Type 0
 ReadsBack numbers outcome text = Plain outcome.source → TextReads numbers text outcome.program
 
--- the texts of an outcome whose program is that of a text, or the text's first fault
-abbrev pub IsReduced : Dialect → List ℕ → Result Texts NotReduced → Type 0
-IsReduced dialect text (Ok texts) =
-    (outcome : Outcome) × AreTexts outcome texts.program.items texts.records.items texts.report.items × IsProgramOf dialect text outcome.source
-    × ReadsBack dialect.numbers outcome texts.program.items
-IsReduced dialect text (Err (Fault fault)) = first_fault dialect text ≡ Some (fault.kind, fault.line)
-IsReduced dialect text (Err NoMemory) = Unit {0}
+-- presolve, told this, concludes this outcome of its program, and these are its texts, of which the program's reads back
+pub record IsConcluded (options : Options) (outcome : Outcome) (program records printed : List ℕ) : Type 0 where
+  pub concluded : Concluded options outcome.source outcome.program outcome.records outcome.report.end
+  pub texts : AreTexts outcome program records printed
+  pub reads_back : ReadsBack options.numbers outcome program
+
+-- what is made of a program: the texts of an outcome of it, or that it has no feasible point
+abbrev pub IsMade : Options → ProgramData → Result Texts NotReduced → Type 0
+IsMade options program (Ok texts) =
+    (outcome : Outcome) × (outcome.source ≡ program) × IsConcluded options outcome texts.program.items texts.records.items texts.report.items
+IsMade options program (Err (Fault fault)) = ⊥
+IsMade options program (Err Infeasible) = NoPoint (meaning program)
+IsMade options program (Err NoMemory) = Unit {0}
+
+-- what presolve is told of a text that is read so
+abbrev pub options_for : Dialect → ℕ → Options
+options_for dialect limit = record { numbers = dialect.numbers; limit = limit }
+
+-- a text has no fault, and its program has no feasible point
+abbrev pub HasNoPoint : Dialect → List ℕ → Type 0
+HasNoPoint dialect text = (first_fault dialect text ≡ None) × NoPoint (meaning (program_of dialect text))
+
+-- what is made of a text: the texts of an outcome of its program, that this has no feasible point, or the text's first fault
+abbrev pub IsReduced : Dialect → ℕ → List ℕ → Result Texts NotReduced → Type 0
+IsReduced dialect limit text (Ok texts) =
+    (outcome : Outcome) × IsProgramOf dialect text outcome.source
+    × IsConcluded (options_for dialect limit) outcome texts.program.items texts.records.items texts.report.items
+IsReduced dialect limit text (Err (Fault fault)) = first_fault dialect text ≡ Some (fault.kind, fault.line)
+IsReduced dialect limit text (Err Infeasible) = HasNoPoint dialect text
+IsReduced dialect limit text (Err NoMemory) = Unit {0}

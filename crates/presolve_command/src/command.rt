@@ -1,4 +1,4 @@
-//! The command `presolve IN OUT REC [--fractions] [--fixed]`.
+//! The command `presolve IN OUT REC [--fractions] [--fixed] [--limit N]`.
 
 ghost use Rattle.std.specs.Prelude.{◌≡◌, ◌≢◌, IfOk, OnOk, OnErr};
 ghost use Rattle.file_ports.specs.Ports.{Written};
@@ -30,7 +30,7 @@ fn write_both<F: Files>(
     files.write(records, &texts.records)
 }
 
-/// Reads a program, writes the reduced one and its records. All that is written and printed is made before the first write.
+/// Reads a program, writes the reduced one and its records; nothing where it has no feasible point. All that is written and printed is made before the first write.
 pub fn presolve<F: Files>(
     alloc: Global,
     words: &PresolveWords<'_>,
@@ -50,9 +50,10 @@ pub fn presolve<F: Files>(
         }
         Err(ReadErr::NoMemory) => return Err(AllocError),
     };
-    let texts = match reduce(alloc, &text, dialect_of(words.options)) {
+    let texts = match reduce(alloc, &text, dialect_of(words.options), words.options.limit) {
         Ok(texts) => texts,
         Err(NotReduced::Fault(fault)) => return Ok(Ending::Refused(fault_line(alloc, fault)?)),
+        Err(NotReduced::Infeasible) => return Ok(Ending::Infeasible),
         Err(NotReduced::NoMemory) => return Err(AllocError),
     };
     match write_both(words.output, words.records, &texts, files) {

@@ -3,21 +3,17 @@
 ghost use Rattle.std.specs.Prelude.{◌≡◌, ◌<◌, ◌≤◌, ◌^◌, ◌-◌, length, min, IfOk};
 ghost use Rattle.std.specs.List.{sum_by};
 ghost use Rattle.lp_model.specs.ProgramData.{ProgramData};
-ghost use Rattle.presolve_command.specs.Texts.{AreTexts, Carries, IsReduced, Outcome, ReadsBack, Tells, entries_of};
+ghost use Rattle.presolve_command.specs.Texts.{AreTexts, IsMade, IsReduced, Tells, entries_of};
 ghost use Rattle.lp_model.specs.Writable.{EntriesAscend, Writable};
 ghost use Rattle.mps_writer.specs.MpsText.{mps_text, WidthsFit};
 
 use crate::report::{Change, Report, report_of};
-use fractions::Numbers;
 use lp_model::{ColumnDef, Program};
 use mps_reader::{Dialect, MpsError, MpsFault, read_mps};
 use mps_writer::{WriteError, write_mps};
-use presolve_rounds::{Options, Presolved, presolve};
+use presolve_rounds::{Options, Presolved, ReducedProgram, presolve};
 use record_file::write_records;
 use std::alloc::{AllocError, Global};
-
-/// The most records of a run.
-const RECORD_LIMIT: u64 = 1_000_000_000;
 
 /// All that a presolve writes and prints.
 #[derive(Drop)]
@@ -30,7 +26,10 @@ pub struct Texts {
 /// Why a text was not presolved.
 #[derive(Clone, Copy)]
 pub enum NotReduced {
+    /// The text's first fault.
     Fault(MpsFault),
+    /// The text's program has no feasible point.
+    Infeasible,
     NoMemory,
 }
 
@@ -89,13 +88,13 @@ fn program_text(alloc: Global, program: &Program) -> Result<Vec<u8>, AllocError>
 }
 
 // The report of a presolve of a program of this size.
-fn report_for(presolved: &Presolved, before: Size) -> Report
-    ensures { (source : ProgramData) → Carries presolved.now.records source → before.rows ≡ length source.rows
-        → before.columns ≡ length source.columns → before.entries ≡ entries_of source
-        → Tells (record { source = source; program = presolved.now.program; records = presolved.now.records; report = result }) }
+fn report_for(made: &ReducedProgram, before: Size) -> Report
+    ensures told { (source : ProgramData) → before.rows ≡ length source.rows → before.columns ≡ length source.columns → before.entries ≡ entries_of source
+        → Tells (record { source = source; program = made.now.program; records = made.now.records; report = result }) }
+    ensures end { result.end ≡ made.now.end }
 {
-    let left = size_of(&presolved.program);
-    let records = &presolved.records;
+    let left = size_of(&made.program);
+    let records = &made.records;
     Report {
         rows: Change {
             before: before.rows,
@@ -111,19 +110,19 @@ fn report_for(presolved: &Presolved, before: Size) -> Report
         },
         records: records.undos().len() as u64,
         offset: records.offset(),
-        end: presolved.end,
+        end: made.end,
     }
 }
 
-fn texts_of(alloc: Global, presolved: &Presolved, report: &Report) -> Result<Texts, AllocError>
-    requires { WidthsFit presolved.now.program.rows }
+fn texts_of(alloc: Global, made: &ReducedProgram, report: &Report) -> Result<Texts, AllocError>
+    requires { WidthsFit made.now.program.rows }
     ensures { IfOk result (λ texts. (source : ProgramData)
-        → Tells (record { source = source; program = presolved.now.program; records = presolved.now.records; report = report.now })
-        → AreTexts (record { source = source; program = presolved.now.program; records = presolved.now.records; report = report.now })
+        → Tells (record { source = source; program = made.now.program; records = made.now.records; report = report.now })
+        → AreTexts (record { source = source; program = made.now.program; records = made.now.records; report = report.now })
         texts.program.items texts.records.items texts.report.items) }
 {
-    let program = program_text(alloc, &presolved.program)?;
-    let records = write_records(alloc, &presolved.records)?;
+    let program = program_text(alloc, &made.program)?;
+    let records = write_records(alloc, &made.records)?;
     let report = report_of(alloc, report)?;
     Ok(Texts {
         program,
@@ -133,39 +132,39 @@ fn texts_of(alloc: Global, presolved: &Presolved, report: &Report) -> Result<Tex
 }
 
 // Reduces a program, and makes the texts of what is left.
-fn reduce_program(alloc: Global, program: Program, numbers: Numbers) -> Result<Texts, AllocError>
+fn reduce_program(alloc: Global, program: Program, options: &Options) -> Result<Texts, NotReduced>
     requires few_rows { length program.rows < 2 ^ 32 }
     requires few_columns { length program.columns < 2 ^ 32 }
     requires ascends { EntriesAscend program }
-    requires writable { Writable numbers program }
-    ensures { IfOk result (λ texts. (outcome : Outcome) × (outcome.source ≡ program)
-        × AreTexts outcome texts.program.items texts.records.items texts.report.items
-        × ReadsBack numbers outcome texts.program.items) }
+    requires writable { Writable options.now.numbers program }
+    ensures { IsMade options.now program result }
 {
     let before = size_of(&program);
-    let options = Options {
-        numbers,
-        limit: RECORD_LIMIT,
-    };
-    let presolved = presolve(alloc, program, &options)?;
-    let report = report_for(&presolved, before);
-    let texts = texts_of(alloc, &presolved, &report)?;
-    Ok(texts)
-}
-
-/// Reads a program, reduces it, and makes the texts of what is left.
-///
-/// # Errors
-/// The first fault of the text, or want of memory.
-pub fn reduce(alloc: Global, text: &[u8], dialect: Dialect) -> Result<Texts, NotReduced>
-    requires { length text.now < 2 ^ 32 }
-    ensures { IsReduced dialect text.now result }
-{
-    match read_mps(alloc, text, dialect) {
-        Ok(program) => {
-            let texts = reduce_program(alloc, program, dialect.numbers)?;
+    match presolve(alloc, program, options) {
+        Ok(Presolved::Reduced(made)) => {
+            let report = report_for(&made, before);
+            let texts = texts_of(alloc, &made, &report)?;
             Ok(texts)
         }
+        Ok(Presolved::Infeasible) => Err(NotReduced::Infeasible),
+        Err(AllocError) => Err(NotReduced::NoMemory),
+    }
+}
+
+/// Reads a program, reduces it by as many reductions as the limit allows, and makes the texts of what is left.
+///
+/// # Errors
+/// The first fault of the text, that the program has no feasible point, or want of memory.
+pub fn reduce(alloc: Global, text: &[u8], dialect: Dialect, limit: u64) -> Result<Texts, NotReduced>
+    requires { length text.now < 2 ^ 32 }
+    ensures { IsReduced dialect limit text.now result }
+{
+    let options = Options {
+        numbers: dialect.numbers,
+        limit,
+    };
+    match read_mps(alloc, text, dialect) {
+        Ok(program) => reduce_program(alloc, program, &options),
         Err(MpsError::Fault(fault)) => Err(NotReduced::Fault(fault)),
         Err(MpsError::NoMemory) => Err(NotReduced::NoMemory),
     }

@@ -1,1 +1,2 @@
-mod Running
+pub mod Ending
+pub mod Concluding

@@ -1,12 +1,15 @@
-//! Presolve: the rules applied in rounds, until nothing more can be done or the limit is reached.
+//! Presolve: rounds of scans and commits on a book, until nothing more can be done or the limit is reached.
 #![tactic(auto)]
 
+mod commits;
 mod ids;
-mod proposal;
+mod labels;
+mod looks;
+mod outcome;
 mod reduce;
-mod run;
+mod rounds;
 #[cfg(test)]
 mod tests;
 
-pub use reduce::{Options, Presolved, presolve};
-pub use run::End;
+pub use outcome::{End, Options, Presolved, ReducedProgram};
+pub use reduce::presolve;

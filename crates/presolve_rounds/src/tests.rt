@@ -1,438 +1,441 @@
 //! Programs worked by hand.
 
-use crate::ids::Ids;
+ghost use Rattle.std.specs.Prelude.{◌<◌, ◌^◌, ◌↔◌, length, IsTrue, IfSome};
+ghost use Rattle.std.specs.List.{All};
+ghost use Rattle.rational.specs.Order.{◌<ℚ◌};
+ghost use Rattle.lp_model.specs.Sparse.{Ascends};
+ghost use Rattle.lp_model.specs.Writable.{EntriesAscend, IsNear, Writable, WritableBound, WritableColumn, WritableNumber, WritableRow};
+
 use crate::{End, Options, Presolved, presolve};
 use fractions::Numbers;
 use fractions::ext::Ext;
 use fractions::frac::Frac;
 use fractions::whole::Whole;
-use lp_model::{Program, Term, Terms};
-use mps_reader::{Dialect, Format, MpsError, read_mps};
-use sparse_problem::Problem;
+use lp_model::{ColumnDef, Name, Program, RowDef, Sense, Term, Terms, names_differ};
+use number_texts::is_decimal;
 use std::alloc::{AllocError, Global};
 use std::process::Abort;
 use std::test::Fail;
-use undo_records::{RowFate, Side, Undo};
+use undo_records::Undo;
 
-/// A program, and what becomes of it.
-struct Case<'a> {
-    text: &'a str,
-    limit: u64,
-    /// The rules by number, with their row and column.
-    applied: &'a [(u8, u32, u32)],
-    offset: i32,
-    end: End,
-    /// The rows and the columns left.
-    left: (usize, usize),
+/// A lower and an upper end.
+type Ends = (Option<i8>, Option<i8>);
+
+/// A cost, the bounds, whether the values are whole, and the entries.
+struct Column(i8, Ends, bool, &'static [(u32, i8)]);
+
+/// What becomes of a program: the rules that were applied by number with their row and column, the offset, the end, and how many rows and
+/// columns are left.
+enum Made {
+    Infeasible,
+    Reduced(&'static [(u8, u32, u32)], i8, End, (usize, usize)),
 }
 
-fn number(n: i32) -> Frac {
+/// The sides of the rows, and the columns.
+struct Table {
+    rows: &'static [Ends],
+    columns: &'static [Column],
+}
+
+struct Case {
+    sense: Sense,
+    table: Table,
+    numbers: Numbers,
+    limit: u64,
+    made: Made,
+}
+
+const FREE: Ends = (None, None);
+
+const FROM_0: Ends = (Some(0), None);
+
+const FIXPOINT: End = End::Fixpoint { skipped: 0 };
+
+/// x + 2 y, where x = 3 and x + y >= 5
+const CHAIN: Table = Table {
+    rows: &[(Some(3), Some(3)), (Some(5), None)],
+    columns: &[
+        Column(1, FROM_0, false, &[(0, 1), (1, 1)]),
+        Column(2, FROM_0, false, &[(1, 1)]),
+    ],
+};
+
+/// x, where x <= -1
+const BELOW_0: Table = Table {
+    rows: &[(None, Some(-1))],
+    columns: &[Column(1, FROM_0, false, &[(0, 1)])],
+};
+
+/// -x, where 3 x <= 1 and x is whole
+const THIRD: Table = Table {
+    rows: &[(None, Some(1))],
+    columns: &[Column(-1, FROM_0, true, &[(0, 3)])],
+};
+
+/// x + 2 y, where x = 3, x + 2 y <= 8 and y is whole
+const WHOLE: Table = Table {
+    rows: &[(Some(3), Some(3)), (None, Some(8))],
+    columns: &[
+        Column(1, FROM_0, false, &[(0, 1), (1, 1)]),
+        Column(2, FROM_0, true, &[(1, 2)]),
+    ],
+};
+
+/// 0 x, where x is free
+const FREE_ALONE: Table = Table {
+    rows: &[],
+    columns: &[Column(0, FREE, false, &[])],
+};
+
+const EMPTY: Table = Table {
+    rows: &[],
+    columns: &[],
+};
+
+const CASES: [Case; 11] = [
+    Case {
+        sense: Sense::Min,
+        table: CHAIN,
+        numbers: Numbers::Decimal,
+        limit: 100,
+        made: Made::Reduced(
+            &[(2, 0, 0), (3, 0, 0), (2, 1, 1), (17, 0, 1), (3, 0, 1)],
+            7,
+            FIXPOINT,
+            (0, 0),
+        ),
+    },
+    Case {
+        sense: Sense::Min,
+        table: CHAIN,
+        numbers: Numbers::Decimal,
+        limit: 1,
+        made: Made::Reduced(&[(2, 0, 0)], 0, End::LimitReached, (1, 2)),
+    },
+    Case {
+        sense: Sense::Min,
+        table: CHAIN,
+        numbers: Numbers::Decimal,
+        limit: 0,
+        made: Made::Reduced(&[], 0, End::LimitReached, (2, 2)),
+    },
+    // the row gives the column an upper bound below its lower one
+    Case {
+        sense: Sense::Min,
+        table: BELOW_0,
+        numbers: Numbers::Decimal,
+        limit: 100,
+        made: Made::Infeasible,
+    },
+    // so it does with the last reduction that is allowed
+    Case {
+        sense: Sense::Min,
+        table: BELOW_0,
+        numbers: Numbers::Decimal,
+        limit: 1,
+        made: Made::Infeasible,
+    },
+    // but no bounds are crossed at the start
+    Case {
+        sense: Sense::Min,
+        table: BELOW_0,
+        numbers: Numbers::Decimal,
+        limit: 0,
+        made: Made::Reduced(&[], 0, End::LimitReached, (1, 1)),
+    },
+    // 1/3 is no decimal number
+    Case {
+        sense: Sense::Min,
+        table: THIRD,
+        numbers: Numbers::Decimal,
+        limit: 100,
+        made: Made::Reduced(&[], 0, End::Fixpoint { skipped: 1 }, (1, 1)),
+    },
+    Case {
+        sense: Sense::Min,
+        table: THIRD,
+        numbers: Numbers::Fractions,
+        limit: 100,
+        made: Made::Reduced(&[(2, 0, 0), (4, 0, 0), (3, 0, 0)], 0, FIXPOINT, (0, 0)),
+    },
+    // the offset is in the sense of the program
+    Case {
+        sense: Sense::Max,
+        table: WHOLE,
+        numbers: Numbers::Decimal,
+        limit: 100,
+        made: Made::Reduced(
+            &[
+                (2, 0, 0),
+                (3, 0, 0),
+                (2, 1, 1),
+                (4, 0, 1),
+                (17, 0, 1),
+                (3, 0, 1),
+            ],
+            7,
+            FIXPOINT,
+            (0, 0),
+        ),
+    },
+    Case {
+        sense: Sense::Min,
+        table: FREE_ALONE,
+        numbers: Numbers::Decimal,
+        limit: 100,
+        made: Made::Reduced(&[(17, 0, 0), (3, 0, 0)], 0, FIXPOINT, (0, 0)),
+    },
+    Case {
+        sense: Sense::Min,
+        table: EMPTY,
+        numbers: Numbers::Decimal,
+        limit: 100,
+        made: Made::Reduced(&[], 0, FIXPOINT, (0, 0)),
+    },
+];
+
+fn number(n: i8) -> Frac {
     Frac::whole(Whole::new(i128::from(n)))
 }
 
-/// How the texts are read.
-const DIALECT: Dialect = Dialect {
-    format: Format::Free,
-    numbers: Numbers::Decimal,
-};
-
-/// The reduced program of a text. No text has a fault.
-fn reduced(alloc: Global, text: &str, limit: u64) -> Result<Presolved, MpsError> {
-    if text.len() >= 1 << 32 {
-        return Err(MpsError::NoMemory);
-    }
-    let program = read_mps(alloc, text.as_bytes(), DIALECT)?;
-    let options = Options {
-        numbers: Numbers::Decimal,
-        limit,
-    };
-    match presolve(alloc, program, &options) {
-        Ok(made) => Ok(made),
-        Err(AllocError) => Err(MpsError::NoMemory),
+fn end_at(end: Option<i8>) -> Ext {
+    match end {
+        Some(n) => Ext::at(number(n)),
+        None => Ext::none(),
     }
 }
 
-/// The problem of a text.
-fn problem_of(alloc: Global, text: &str) -> Result<Problem, MpsError> {
-    if text.len() >= 1 << 32 {
-        return Err(MpsError::NoMemory);
+/// The name of a row or a column by its id.
+fn name_of(alloc: Global, id: usize) -> Result<Name, AllocError> {
+    Name::from_slice(alloc, &[b'A', (id % 256) as u8])
+}
+
+fn rows_of(alloc: Global, table: &[Ends]) -> Result<Vec<RowDef>, AllocError> {
+    let mut rows = Vec::new(alloc);
+    for (i, (lower, upper)) in table.iter().enumerate() {
+        rows.push(RowDef {
+            name: name_of(alloc, i)?,
+            lower: end_at(*lower),
+            upper: end_at(*upper),
+        })?;
     }
-    let program = read_mps(alloc, text.as_bytes(), DIALECT)?;
-    match Problem::from_program(alloc, &program) {
-        Ok(problem) => Ok(problem),
-        Err(AllocError) => Err(MpsError::NoMemory),
+    Ok(rows)
+}
+
+fn terms_of(alloc: Global, entries: &[(u32, i8)]) -> Result<Terms, AllocError> {
+    let mut terms = Vec::new(alloc);
+    for (id, n) in entries {
+        terms.push(Term {
+            id: *id,
+            value: number(*n),
+        })?;
     }
+    Ok(Terms::new(terms))
+}
+
+fn columns_of(alloc: Global, table: &[Column]) -> Result<Vec<ColumnDef>, AllocError> {
+    let mut columns = Vec::new(alloc);
+    for (j, column) in table.iter().enumerate() {
+        let Column(cost, (lower, upper), whole, entries) = column;
+        columns.push(ColumnDef {
+            name: name_of(alloc, j)?,
+            cost: number(*cost),
+            lower: end_at(*lower),
+            upper: end_at(*upper),
+            whole: *whole,
+            entries: terms_of(alloc, entries)?,
+        })?;
+    }
+    Ok(columns)
+}
+
+/// The program of a case, with the constant 7.
+fn program_of(rt: &impl Abort, alloc: Global, case: &Case) -> Result<Program, AllocError> {
+    let rows = rows_of(alloc, case.table.rows)?;
+    let columns = columns_of(alloc, case.table.columns)?;
+    let objective = Name::from_slice(alloc, b"COST")?;
+    assert!(rt; names_differ(&objective, rows.as_slice(), columns.as_slice()));
+    Ok(Program::new(case.sense, objective, number(7), rows, columns))
+}
+
+/// Whether a number is below another.
+fn is_below(number: &Frac, limit: &Frac) -> bool
+    ensures { IsTrue result ↔ (number.now <ℚ limit.now) }
+{
+    number.lt(limit)
+}
+
+/// Whether a number's magnitude is below 10^20.
+fn is_near(number: &Frac) -> bool
+    ensures { IsTrue result ↔ IsNear number.now }
+{
+    let limit = Frac::whole(Whole::natural(100_000_000_000_000_000_000));
+    is_below(&limit.neg(), number) && is_below(number, &limit)
+}
+
+/// Whether a number can stand in any place of a program.
+fn is_fit(numbers: Numbers, number: &Frac) -> bool
+    ensures { IsTrue result → WritableBound numbers number.now }
+{
+    let _ = number.parts();
+    let _ = numbers;
+    if !is_near(number) {
+        return false;
+    }
+    is_decimal(number)
+}
+
+fn is_end_fit(numbers: Numbers, end: &Ext) -> bool
+    ensures { IsTrue result → IfSome end.now (WritableBound numbers) }
+{
+    match end.number() {
+        Some(number) => is_fit(numbers, &number),
+        None => true,
+    }
+}
+
+/// Whether a row has one side, or two that are the same.
+fn is_row_fit(numbers: Numbers, row: &RowDef) -> bool
+    ensures { IsTrue result → WritableRow numbers row.now }
+{
+    match row.lower.number() {
+        None => match row.upper.number() {
+            None => false,
+            Some(upper) => is_fit(numbers, &upper),
+        },
+        Some(lower) => match row.upper.number() {
+            None => is_fit(numbers, &lower),
+            Some(upper) => {
+                if !upper.is_same(&lower) {
+                    return false;
+                }
+                is_fit(numbers, &lower)
+            }
+        },
+    }
+}
+
+fn are_rows_fit(numbers: Numbers, rows: &[RowDef]) -> bool
+    ensures { IsTrue result → All (WritableRow numbers) rows.now }
+{
+    for row in rows {
+        if !is_row_fit(numbers, row) {
+            return false;
+        }
+    }
+    true
+}
+
+fn are_terms_fit(numbers: Numbers, terms: &[Term]) -> bool
+    ensures { IsTrue result → All (λ (term : Term). WritableNumber numbers term.value) terms.now }
+{
+    for term in terms {
+        if !is_fit(numbers, &term.value) {
+            return false;
+        }
+    }
+    true
+}
+
+/// Whether the ids of terms ascend, all among so many, and no number is 0.
+fn ascend(terms: &[Term], count: usize) -> bool
+    ensures { IsTrue result → Ascends 0 count terms.now }
+{
+    let mut least = 0;
+    let mut rest = terms;
+    while let [term, after @ ..] = rest {
+        let id = term.id as usize;
+        if id < least || count <= id || term.value.is_zero() {
+            return false;
+        }
+        least = id + 1;
+        rest = after;
+    }
+    true
+}
+
+fn is_column_fit(numbers: Numbers, column: &ColumnDef) -> bool
+    ensures { IsTrue result → WritableColumn numbers column.now }
+{
+    is_fit(numbers, &column.cost)
+        && is_end_fit(numbers, &column.lower)
+        && is_end_fit(numbers, &column.upper)
+        && are_terms_fit(numbers, column.entries.as_slice())
+}
+
+fn are_columns_fit(numbers: Numbers, columns: &[ColumnDef], rows: usize) -> bool
+    ensures writable { IsTrue result → All (WritableColumn numbers) columns.now }
+    ensures ascend { IsTrue result → All (λ (column : ColumnDef). Ascends 0 rows column.entries) columns.now }
+{
+    for column in columns {
+        if !is_column_fit(numbers, column) {
+            return false;
+        }
+        if !ascend(column.entries.as_slice(), rows) {
+            return false;
+        }
+    }
+    true
+}
+
+/// Whether a program can be presolved.
+fn is_program_fit(numbers: Numbers, program: &Program) -> bool
+    ensures few_rows { IsTrue result → length program.now.rows < 2 ^ 32 }
+    ensures few_columns { IsTrue result → length program.now.columns < 2 ^ 32 }
+    ensures ascends { IsTrue result → EntriesAscend program.now }
+    ensures writable { IsTrue result → Writable numbers program.now }
+{
+    let rows = program.rows();
+    let columns = program.columns();
+    rows.len() < 10
+        && columns.len() < 10
+        && is_fit(numbers, &program.constant())
+        && are_rows_fit(numbers, rows)
+        && are_columns_fit(numbers, columns, rows.len())
 }
 
 /// The number of a rule, with its row and column.
-fn applied(undo: &Undo) -> (u8, u32, u32) {
+fn applied_by(undo: &Undo) -> (u8, u32, u32) {
     match undo {
         Undo::EmptyRow { row } => (1, *row, 0),
         Undo::SingletonRow { row, column, .. } => (2, *row, *column),
         Undo::FixedColumn { column, .. } => (3, 0, *column),
         Undo::RoundBounds { column } => (4, 0, *column),
-        Undo::RedundantRow { row } => (5, *row, 0),
-        Undo::RedundantSide { row } => (6, *row, 0),
-        Undo::ForcingRow { row, .. } => (7, *row, 0),
-        Undo::TightenBound { row, column, .. } => (8, *row, *column),
-        Undo::TightenCoefficient { row, column } => (9, *row, *column),
-        Undo::DualFix { column } => (10, 0, *column),
-        Undo::Dominated { row, column, .. } => (11, *row, *column),
-        Undo::Doubleton { row, column, .. } => (12, *row, *column),
-        Undo::FreeSingleton { row, column, .. } => (13, *row, *column),
-        Undo::SlackSingleton { row, column, .. } => (14, *row, *column),
-        Undo::ParallelRows { row, .. } => (15, *row, 0),
-        Undo::ParallelColumns { column, .. } => (16, 0, *column),
         Undo::EmptyColumn { column } => (17, 0, *column),
+        _ => (0, 0, 0),
     }
 }
 
-fn check(rt: &impl Abort, case: &Case<'_>, made: &Presolved) {
-    assert!(rt; made.end == case.end);
-    assert!(rt; made.offset.is_same(&number(case.offset)));
-    assert!(rt; made.program.constant().is_same(&number(7)));
-    assert_eq!(rt; made.program.rows().len(), case.left.0);
-    assert_eq!(rt; made.program.columns().len(), case.left.1);
-    let undos = made.records.undos();
-    assert_eq!(rt; undos.len(), case.applied.len());
-    for (undo, wanted) in undos.iter().zip(case.applied) {
-        assert!(rt; applied(undo) == *wanted);
+fn check(rt: &impl Abort, wanted: &Made, made: &Presolved) {
+    match (wanted, made) {
+        (Made::Infeasible, Presolved::Infeasible) => {}
+        (Made::Reduced(applied, offset, end, left), Presolved::Reduced(made)) => {
+            assert!(rt; made.end == *end);
+            assert!(rt; made.records.offset().is_same(&number(*offset)));
+            assert!(rt; made.program.constant().is_same(&number(7)));
+            assert_eq!(rt; made.program.rows().len(), left.0);
+            assert_eq!(rt; made.program.columns().len(), left.1);
+            assert_eq!(rt; made.records.undos().len(), applied.len());
+            for (undo, rule) in made.records.undos().iter().zip(*applied) {
+                assert!(rt; applied_by(undo) == *rule);
+            }
+        }
+        _ => panic!(rt; "another end"),
     }
 }
-
-const FIXPOINT: End = End::Fixpoint { skipped: 0 };
-
-/// min x + 2y + 7; x = 3; x + y >= 5
-const CHAIN: &str = "NAME
-ROWS
- N cost
- E first
- G second
-COLUMNS
- x cost 1
- x first 1
- x second 1
- y cost 2
- y second 1
-RHS
- RHS cost -7
- RHS first 3
- RHS second 5
-ENDATA
-";
-
-/// The same for max.
-const GREATEST: &str = "NAME
-OBJSENSE
- MAX
-ROWS
- N cost
- E first
- G second
-COLUMNS
- x cost 1
- x first 1
- x second 1
- y cost 2
- y second 1
-RHS
- RHS cost -7
- RHS first 3
- RHS second 5
-ENDATA
-";
-
-/// min -x + 7; 3x <= 1: 1/3 is no decimal number
-const THIRD: &str = "NAME
-ROWS
- N cost
- L first
-COLUMNS
- x cost -1
- x first 3
-RHS
- RHS cost -7
- RHS first 1
-ENDATA
-";
-
-/// min x + 7; -2x >= -4 gives x <= 2; 0 >= -1 has no entries
-const HALVED: &str = "NAME
-ROWS
- N cost
- G first
- G second
-COLUMNS
- x cost 1
- x first -2
-RHS
- RHS cost -7
- RHS first -4
- RHS second -1
-ENDATA
-";
-
-/// Nothing at all but the constant 7.
-const NOTHING: &str = "NAME
-ROWS
- N cost
-COLUMNS
-RHS
- RHS cost -7
-ENDATA
-";
-
-const CASES: [Case<'static>; 6] = [
-    Case {
-        text: CHAIN,
-        limit: 100,
-        applied: &[(2, 0, 0), (3, 0, 0), (2, 1, 1)],
-        offset: 3,
-        end: FIXPOINT,
-        left: (0, 1),
-    },
-    // costs and offset are in the file's sense
-    Case {
-        text: GREATEST,
-        limit: 100,
-        applied: &[(2, 0, 0), (3, 0, 0), (2, 1, 1)],
-        offset: 3,
-        end: FIXPOINT,
-        left: (0, 1),
-    },
-    // cut off
-    Case {
-        text: CHAIN,
-        limit: 1,
-        applied: &[(2, 0, 0)],
-        offset: 0,
-        end: End::LimitReached,
-        left: (1, 2),
-    },
-    Case {
-        text: THIRD,
-        limit: 100,
-        applied: &[],
-        offset: 0,
-        end: End::Fixpoint { skipped: 1 },
-        left: (1, 1),
-    },
-    Case {
-        text: HALVED,
-        limit: 100,
-        applied: &[(1, 1, 0), (2, 0, 0)],
-        offset: 0,
-        end: FIXPOINT,
-        left: (0, 1),
-    },
-    Case {
-        text: NOTHING,
-        limit: 100,
-        applied: &[],
-        offset: 0,
-        end: FIXPOINT,
-        left: (0, 0),
-    },
-];
 
 #[test]
 fn reduces_programs(rt: HostRuntime) -> Result<(), Fail> {
     let alloc = rt.alloc();
     for case in &CASES {
-        match reduced(alloc, case.text, case.limit) {
-            Ok(made) => check(&rt, case, &made),
-            Err(_) => panic!(rt; "no program"),
-        }
-    }
-    Ok(())
-}
-
-/// x in the first two rows, y in the first and the third, z in the second and the third.
-const TRIANGLE: &str = "NAME
-ROWS
- N cost
- G first
- G second
- G third
-COLUMNS
- x cost 1
- x first 1
- x second 1
- y cost 1
- y first 1
- y third 1
- z cost 1
- z second 1
- z third 1
-ENDATA
-";
-
-/// The rows and the columns that the record of each kind says to look at again, with y deleted. K14 has two, for a row that is kept and
-/// one that is dropped.
-const CHANGED: [(&[u32], &[u32]); 18] = [
-    (&[], &[]),
-    (&[], &[2]),
-    (&[0, 2], &[]),
-    (&[], &[2]),
-    (&[], &[0]),
-    (&[1], &[]),
-    (&[], &[0, 2]),
-    (&[], &[2]),
-    (&[1], &[2]),
-    (&[], &[2]),
-    (&[], &[2]),
-    (&[0, 2], &[2]),
-    (&[], &[0, 2]),
-    (&[1], &[0, 2]),
-    (&[], &[0, 2]),
-    (&[2], &[0, 2]),
-    (&[0, 1], &[2]),
-    (&[], &[2]),
-];
-
-/// Entries at 0 and 2.
-fn two_entries(alloc: Global) -> Result<Terms, AllocError> {
-    let mut terms = Vec::new(alloc);
-    terms.push(Term {
-        id: 0,
-        value: number(1),
-    })?;
-    terms.push(Term {
-        id: 2,
-        value: number(1),
-    })?;
-    Ok(Terms::new(terms))
-}
-
-/// K1 to K7.
-fn records_to_forcing(alloc: Global) -> Result<Vec<Undo>, Fail> {
-    Ok(vec![in alloc;
-        Undo::EmptyRow { row: 1 },
-        Undo::SingletonRow {
-            row: 1,
-            column: 2,
-            value: number(1),
-            lower: Ext::none(),
-            upper: Ext::none()
-        },
-        Undo::FixedColumn {
-            column: 1,
-            value: number(1),
-            cost: number(1),
-            entries: two_entries(alloc)?
-        },
-        Undo::RoundBounds { column: 2 },
-        Undo::RedundantRow { row: 0 },
-        Undo::RedundantSide { row: 1 },
-        Undo::ForcingRow {
-            row: 1,
-            side: Side::Lower,
-            entries: two_entries(alloc)?
-        },
-    ]?)
-}
-
-/// K8 to K12.
-fn records_to_doubleton(alloc: Global) -> Result<Vec<Undo>, Fail> {
-    Ok(vec![in alloc;
-        Undo::TightenBound {
-            row: 1,
-            column: 2,
-            side: Side::Upper,
-            bound: Ext::none(),
-            entries: two_entries(alloc)?
-        },
-        Undo::TightenCoefficient { row: 1, column: 2 },
-        Undo::DualFix { column: 2 },
-        Undo::Dominated {
-            row: 1,
-            better: 0,
-            column: 2
-        },
-        Undo::Doubleton {
-            row: 1,
-            column: 0,
-            kept: 2,
-            value: number(1),
-            kept_value: number(1),
-            equal: number(1),
-            lower: Ext::none(),
-            upper: Ext::none(),
-            cost: number(1),
-            entries: two_entries(alloc)?
-        },
-    ]?)
-}
-
-/// K14.
-fn slack(alloc: Global, fate: RowFate) -> Result<Undo, AllocError> {
-    Ok(Undo::SlackSingleton {
-        column: 1,
-        row: 1,
-        value: number(1),
-        price: number(1),
-        lower_side: Ext::none(),
-        upper_side: Ext::none(),
-        lower: Ext::none(),
-        upper: Ext::none(),
-        fate,
-        entries: two_entries(alloc)?,
-    })
-}
-
-/// K13 to K17.
-fn records_from_free(alloc: Global) -> Result<Vec<Undo>, Fail> {
-    Ok(vec![in alloc;
-        Undo::FreeSingleton {
-            column: 1,
-            row: 1,
-            value: number(1),
-            at: number(1),
-            price: number(1),
-            entries: two_entries(alloc)?
-        },
-        slack(alloc, RowFate::Kept)?,
-        slack(alloc, RowFate::Dropped)?,
-        Undo::ParallelRows {
-            row: 1,
-            kept: 2,
-            factor: number(1),
-            lower: Ext::none(),
-            upper: Ext::none(),
-            entries: two_entries(alloc)?
-        },
-        Undo::ParallelColumns {
-            column: 0,
-            kept: 2,
-            factor: number(1),
-            lower: Ext::none(),
-            upper: Ext::none(),
-            kept_lower: Ext::none(),
-            kept_upper: Ext::none()
-        },
-        Undo::EmptyColumn { column: 2 },
-    ]?)
-}
-
-#[test]
-fn looks_again_where_a_record_changed(rt: HostRuntime) -> Result<(), Fail> {
-    let alloc = rt.alloc();
-    let mut problem = match problem_of(alloc, TRIANGLE) {
-        Ok(problem) => problem,
-        Err(_) => panic!(rt; "no program"),
-    };
-    assert!(rt; problem.is_column_live(1));
-    problem.delete_column(1);
-    let mut undos = records_to_forcing(alloc)?;
-    undos.append(&mut records_to_doubleton(alloc)?)?;
-    undos.append(&mut records_from_free(alloc)?)?;
-    assert_eq!(rt; undos.len(), CHANGED.len());
-    for (undo, (rows, columns)) in undos.iter().zip(&CHANGED) {
-        let mut ids = Ids::new(alloc);
-        ids.add_changed(&problem, undo)?;
-        ids.sort();
-        assert!(rt; ids.rows() == *rows);
-        assert!(rt; ids.columns() == *columns);
+        let program = program_of(&rt, alloc, case)?;
+        let options = Options {
+            numbers: case.numbers,
+            limit: case.limit,
+        };
+        assert!(rt; is_program_fit(case.numbers, &program));
+        let made = presolve(alloc, program, &options)?;
+        check(&rt, &case.made, &made);
     }
     Ok(())
 }

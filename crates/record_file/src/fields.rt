@@ -75,8 +75,8 @@ fn push_row_fields(out: &mut Vec<u8>, undo: &Undo) -> Result<(), AllocError>
             upper,
         } => {
             push_ids(out, &[*row, *column])?;
-            push_ratio(out, value)?;
-            push_bounds(out, *lower, *upper)
+            push_ratio(out, &value.get())?;
+            push_bounds(out, lower.get(), upper.get())
         }
         Undo::ForcingRow { row, side, entries } => {
             push_id(out, *row)?;
@@ -92,8 +92,8 @@ fn push_row_fields(out: &mut Vec<u8>, undo: &Undo) -> Result<(), AllocError>
             entries,
         } => {
             push_ids(out, &[*row, *kept])?;
-            push_ratio(out, factor)?;
-            push_bounds(out, *lower, *upper)?;
+            push_ratio(out, &factor.get())?;
+            push_bounds(out, lower.get(), upper.get())?;
             push_terms(out, entries.as_slice())
         }
         _ => Ok(()),
@@ -113,7 +113,7 @@ fn push_bound_fields(out: &mut Vec<u8>, undo: &Undo) -> Result<(), AllocError>
             entries,
         } => {
             push_id(out, *column)?;
-            push_ratios(out, &[*value, *cost])?;
+            push_ratios(out, &[value.get(), cost.get()])?;
             push_terms(out, entries.as_slice())
         }
         Undo::TightenBound {
@@ -124,7 +124,7 @@ fn push_bound_fields(out: &mut Vec<u8>, undo: &Undo) -> Result<(), AllocError>
             entries,
         } => {
             push_ids(out, &[*row, *column])?;
-            push_bound(out, *side, *bound)?;
+            push_bound(out, *side, bound.get())?;
             push_terms(out, entries.as_slice())
         }
         _ => Ok(()),
@@ -146,7 +146,7 @@ fn push_singleton_fields(out: &mut Vec<u8>, undo: &Undo) -> Result<(), AllocErro
             entries,
         } => {
             push_ids(out, &[*column, *row])?;
-            push_ratios(out, &[*value, *at, *price])?;
+            push_ratios(out, &[value.get(), at.get(), price.get()])?;
             push_terms(out, entries.as_slice())
         }
         Undo::SlackSingleton {
@@ -162,9 +162,9 @@ fn push_singleton_fields(out: &mut Vec<u8>, undo: &Undo) -> Result<(), AllocErro
             entries,
         } => {
             push_ids(out, &[*column, *row])?;
-            push_ratios(out, &[*value, *price])?;
-            push_bounds(out, *lower_side, *upper_side)?;
-            push_bounds(out, *lower, *upper)?;
+            push_ratios(out, &[value.get(), price.get()])?;
+            push_bounds(out, lower_side.get(), upper_side.get())?;
+            push_bounds(out, lower.get(), upper.get())?;
             push_fate(out, *fate)?;
             push_terms(out, entries.as_slice())
         }
@@ -191,9 +191,9 @@ fn push_pair_fields(out: &mut Vec<u8>, undo: &Undo) -> Result<(), AllocError>
             entries,
         } => {
             push_ids(out, &[*row, *column, *kept])?;
-            push_ratios(out, &[*value, *kept_value, *equal])?;
-            push_bounds(out, *lower, *upper)?;
-            push_ratio(out, cost)?;
+            push_ratios(out, &[value.get(), kept_value.get(), equal.get()])?;
+            push_bounds(out, lower.get(), upper.get())?;
+            push_ratio(out, &cost.get())?;
             push_terms(out, entries.as_slice())
         }
         Undo::ParallelColumns {
@@ -206,9 +206,9 @@ fn push_pair_fields(out: &mut Vec<u8>, undo: &Undo) -> Result<(), AllocError>
             kept_upper,
         } => {
             push_ids(out, &[*column, *kept])?;
-            push_ratio(out, factor)?;
-            push_bounds(out, *lower, *upper)?;
-            push_bounds(out, *kept_lower, *kept_upper)
+            push_ratio(out, &factor.get())?;
+            push_bounds(out, lower.get(), upper.get())?;
+            push_bounds(out, kept_lower.get(), kept_upper.get())
         }
         _ => Ok(()),
     }

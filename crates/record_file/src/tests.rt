@@ -5,7 +5,9 @@ use lp_model::{Name, Sense, Term, Terms};
 use number_texts::{Numbers, read};
 use std::alloc::{AllocError, Global};
 use std::test::Fail;
-use undo_records::{Label, Records, RowFate, Side, Undo};
+use undo_records::{
+    EndApart, KeptEnd, KeptNumber, Label, NumberApart, Records, RowFate, Side, TermsApart, Undo,
+};
 
 /// Two columns and two rows: the first row fixes x at 3, the second one is then a bound of y.
 const TWO_COLUMNS: &[u8] =
@@ -97,6 +99,22 @@ fn end_at(text: &[u8]) -> Result<Ext, Fail> {
     }
 }
 
+fn kept(alloc: Global, text: &[u8]) -> Result<KeptNumber, Fail> {
+    Ok(KeptNumber::new(alloc, number(text)?)?)
+}
+
+fn kept_end(alloc: Global, text: &[u8]) -> Result<KeptEnd, Fail> {
+    Ok(KeptEnd::new(alloc, end_at(text)?)?)
+}
+
+fn apart(alloc: Global, text: &[u8]) -> Result<NumberApart, Fail> {
+    Ok(NumberApart::new(alloc, number(text)?)?)
+}
+
+fn end_apart(alloc: Global, text: &[u8]) -> Result<EndApart, Fail> {
+    Ok(EndApart::new(alloc, end_at(text)?)?)
+}
+
 fn terms(alloc: Global, pairs: &[(u32, &[u8])]) -> Result<Terms, Fail> {
     let mut terms = Vec::new(alloc);
     for (id, value) in pairs {
@@ -108,13 +126,17 @@ fn terms(alloc: Global, pairs: &[(u32, &[u8])]) -> Result<Terms, Fail> {
     Ok(Terms::new(terms))
 }
 
-fn singleton(row: u32, column: u32) -> Result<Undo, Fail> {
+fn terms_apart(alloc: Global, pairs: &[(u32, &[u8])]) -> Result<TermsApart, Fail> {
+    Ok(TermsApart::new(alloc, terms(alloc, pairs)?)?)
+}
+
+fn singleton(alloc: Global, row: u32, column: u32) -> Result<Undo, Fail> {
     Ok(Undo::SingletonRow {
         row,
         column,
-        value: number(b"1")?,
-        lower: Ext::at(Frac::zero()),
-        upper: Ext::none(),
+        value: kept(alloc, b"1")?,
+        lower: kept_end(alloc, b"0")?,
+        upper: kept_end(alloc, b"inf")?,
     })
 }
 
@@ -122,8 +144,8 @@ fn fixed(alloc: Global, value: &[u8], cost: &[u8], entries: &[Term]) -> Result<U
     let entries = Vec::from_slice(alloc, entries)?;
     Ok(Undo::FixedColumn {
         column: 0,
-        value: number(value)?,
-        cost: number(cost)?,
+        value: kept(alloc, value)?,
+        cost: kept(alloc, cost)?,
         entries: Terms::new(entries),
     })
 }
@@ -138,9 +160,9 @@ fn writes_a_run(rt: HostRuntime) -> Result<(), Fail> {
         value: number(b"1")?,
     }];
     let undos = vec![in alloc;
-        singleton(0, 0)?,
+        singleton(alloc, 0, 0)?,
         fixed(alloc, b"3", b"1", &entries)?,
-        singleton(1, 1)?,
+        singleton(alloc, 1, 1)?,
     ]?;
     let records = Records::checked(alloc, Sense::Min, columns, rows, number(b"3")?, undos)?;
     let text = write_records(alloc, &records.expect(&rt, "sound records"))?;
@@ -172,9 +194,9 @@ fn writes_each_form(rt: HostRuntime) -> Result<(), Fail> {
     let bounded = Undo::SingletonRow {
         row: 2,
         column: 0,
-        value: third,
-        lower: Ext::none(),
-        upper: Ext::at(number(b"2.5")?),
+        value: KeptNumber::new(alloc, third)?,
+        lower: kept_end(alloc, b"-inf")?,
+        upper: kept_end(alloc, b"2.5")?,
     };
     let undos = vec![in alloc;
         bounded,
@@ -187,144 +209,172 @@ fn writes_each_form(rt: HostRuntime) -> Result<(), Fail> {
     Ok(())
 }
 
-/// K1 to K7.
-fn records_to_forcing(alloc: Global) -> Result<Vec<Undo>, Fail> {
-    Ok(vec![in alloc;
-        Undo::EmptyRow { row: 4 },
-        Undo::SingletonRow {
-            row: 3,
-            column: 2,
-            value: number(b"-1/2")?,
-            lower: end_at(b"-inf")?,
-            upper: end_at(b"7")?
-        },
-        Undo::FixedColumn {
-            column: 1,
-            value: number(b"5/2")?,
-            cost: number(b"-3")?,
-            entries: terms(alloc, &[(0, b"1"), (6, b"-1/3")])?
-        },
-        Undo::RoundBounds { column: 6 },
-        Undo::RedundantRow { row: 5 },
-        Undo::RedundantSide { row: 8 },
-        Undo::ForcingRow {
-            row: 1,
-            side: Side::Lower,
-            entries: terms(alloc, &[(0, b"1"), (3, b"-2")])?
-        },
-        Undo::ForcingRow {
-            row: 2,
-            side: Side::Upper,
-            entries: terms(alloc, &[])?
-        },
-    ]?)
+/// K2.
+fn bounded(alloc: Global) -> Result<Undo, Fail> {
+    Ok(Undo::SingletonRow {
+        row: 3,
+        column: 2,
+        value: kept(alloc, b"-1/2")?,
+        lower: kept_end(alloc, b"-inf")?,
+        upper: kept_end(alloc, b"7")?,
+    })
 }
 
-/// K8 to K11.
-fn records_to_dominated(alloc: Global) -> Result<Vec<Undo>, Fail> {
-    Ok(vec![in alloc;
-        Undo::TightenBound {
-            row: 6,
-            column: 2,
-            side: Side::Lower,
-            bound: end_at(b"-inf")?,
-            entries: terms(alloc, &[(2, b"3"), (4, b"1")])?
-        },
-        Undo::TightenBound {
-            row: 7,
-            column: 4,
-            side: Side::Upper,
-            bound: end_at(b"9/2")?,
-            entries: terms(alloc, &[(4, b"-1")])?
-        },
-        Undo::TightenCoefficient { row: 6, column: 5 },
-        Undo::DualFix { column: 7 },
-        Undo::Dominated {
-            row: 6,
-            better: 5,
-            column: 3
-        },
-    ]?)
+/// K3.
+fn at_value(alloc: Global) -> Result<Undo, Fail> {
+    Ok(Undo::FixedColumn {
+        column: 1,
+        value: kept(alloc, b"5/2")?,
+        cost: kept(alloc, b"-3")?,
+        entries: terms(alloc, &[(0, b"1"), (6, b"-1/3")])?,
+    })
 }
 
-/// K12 and K13.
-fn records_to_free(alloc: Global) -> Result<Vec<Undo>, Fail> {
-    Ok(vec![in alloc;
-        Undo::Doubleton {
-            row: 7,
-            column: 2,
-            kept: 3,
-            value: number(b"4")?,
-            kept_value: number(b"-5")?,
-            equal: number(b"6")?,
-            lower: end_at(b"0")?,
-            upper: end_at(b"inf")?,
-            cost: number(b"7")?,
-            entries: terms(alloc, &[(0, b"8")])?
-        },
-        Undo::FreeSingleton {
-            column: 3,
-            row: 8,
-            value: number(b"2")?,
-            at: number(b"5")?,
-            price: number(b"-1/2")?,
-            entries: terms(alloc, &[(4, b"3"), (6, b"1/7")])?
-        },
-    ]?)
+/// K7.
+fn forcing(alloc: Global, row: u32, side: Side, pairs: &[(u32, &[u8])]) -> Result<Undo, Fail> {
+    let entries = terms(alloc, pairs)?;
+    Ok(Undo::ForcingRow { row, side, entries })
 }
 
-/// K14, with its row kept and dropped.
-fn slack_records(alloc: Global) -> Result<Vec<Undo>, Fail> {
-    Ok(vec![in alloc;
-        Undo::SlackSingleton {
-            column: 5,
-            row: 9,
-            value: number(b"1")?,
-            price: number(b"-4")?,
-            lower_side: end_at(b"-inf")?,
-            upper_side: end_at(b"9")?,
-            lower: end_at(b"0")?,
-            upper: end_at(b"5/2")?,
-            fate: RowFate::Kept,
-            entries: terms(alloc, &[(6, b"8")])?
-        },
-        Undo::SlackSingleton {
-            column: 7,
-            row: 10,
-            value: number(b"2")?,
-            price: number(b"0")?,
-            lower_side: end_at(b"-1")?,
-            upper_side: end_at(b"3")?,
-            lower: end_at(b"-inf")?,
-            upper: end_at(b"inf")?,
-            fate: RowFate::Dropped,
-            entries: terms(alloc, &[])?
-        },
-    ]?)
+/// K8 of a lower bound.
+fn tightened_lower(alloc: Global) -> Result<Undo, Fail> {
+    Ok(Undo::TightenBound {
+        row: 6,
+        column: 2,
+        side: Side::Lower,
+        bound: kept_end(alloc, b"-inf")?,
+        entries: terms(alloc, &[(2, b"3"), (4, b"1")])?,
+    })
 }
 
-/// K15 to K17.
-fn parallel_records(alloc: Global) -> Result<Vec<Undo>, Fail> {
-    Ok(vec![in alloc;
-        Undo::ParallelRows {
-            row: 9,
-            kept: 6,
-            factor: number(b"-2")?,
-            lower: end_at(b"0")?,
-            upper: end_at(b"inf")?,
-            entries: terms(alloc, &[(4, b"3")])?
-        },
-        Undo::ParallelColumns {
-            column: 8,
-            kept: 6,
-            factor: number(b"3")?,
-            lower: end_at(b"0")?,
-            upper: end_at(b"4")?,
-            kept_lower: end_at(b"-inf")?,
-            kept_upper: end_at(b"5")?
-        },
-        Undo::EmptyColumn { column: 9 },
-    ]?)
+/// K8 of an upper bound.
+fn tightened_upper(alloc: Global) -> Result<Undo, Fail> {
+    Ok(Undo::TightenBound {
+        row: 7,
+        column: 4,
+        side: Side::Upper,
+        bound: kept_end(alloc, b"9/2")?,
+        entries: terms(alloc, &[(4, b"-1")])?,
+    })
+}
+
+/// K12.
+fn doubleton(alloc: Global) -> Result<Undo, Fail> {
+    Ok(Undo::Doubleton {
+        row: 7,
+        column: 2,
+        kept: 3,
+        value: apart(alloc, b"4")?,
+        kept_value: apart(alloc, b"-5")?,
+        equal: apart(alloc, b"6")?,
+        lower: end_apart(alloc, b"0")?,
+        upper: end_apart(alloc, b"inf")?,
+        cost: apart(alloc, b"7")?,
+        entries: terms_apart(alloc, &[(0, b"8")])?,
+    })
+}
+
+/// K13.
+fn free(alloc: Global) -> Result<Undo, Fail> {
+    Ok(Undo::FreeSingleton {
+        column: 3,
+        row: 8,
+        value: apart(alloc, b"2")?,
+        at: apart(alloc, b"5")?,
+        price: apart(alloc, b"-1/2")?,
+        entries: terms(alloc, &[(4, b"3"), (6, b"1/7")])?,
+    })
+}
+
+/// K14 with its row kept.
+fn kept_slack(alloc: Global) -> Result<Undo, Fail> {
+    Ok(Undo::SlackSingleton {
+        column: 5,
+        row: 9,
+        value: apart(alloc, b"1")?,
+        price: apart(alloc, b"-4")?,
+        lower_side: end_apart(alloc, b"-inf")?,
+        upper_side: end_apart(alloc, b"9")?,
+        lower: end_apart(alloc, b"0")?,
+        upper: end_apart(alloc, b"5/2")?,
+        fate: RowFate::Kept,
+        entries: terms_apart(alloc, &[(6, b"8")])?,
+    })
+}
+
+/// K14 with its row dropped.
+fn dropped_slack(alloc: Global) -> Result<Undo, Fail> {
+    Ok(Undo::SlackSingleton {
+        column: 7,
+        row: 10,
+        value: apart(alloc, b"2")?,
+        price: apart(alloc, b"0")?,
+        lower_side: end_apart(alloc, b"-1")?,
+        upper_side: end_apart(alloc, b"3")?,
+        lower: end_apart(alloc, b"-inf")?,
+        upper: end_apart(alloc, b"inf")?,
+        fate: RowFate::Dropped,
+        entries: terms_apart(alloc, &[])?,
+    })
+}
+
+/// K15.
+fn parallel_rows(alloc: Global) -> Result<Undo, Fail> {
+    Ok(Undo::ParallelRows {
+        row: 9,
+        kept: 6,
+        factor: apart(alloc, b"-2")?,
+        lower: end_apart(alloc, b"0")?,
+        upper: end_apart(alloc, b"inf")?,
+        entries: terms(alloc, &[(4, b"3")])?,
+    })
+}
+
+/// K16.
+fn parallel_columns(alloc: Global) -> Result<Undo, Fail> {
+    Ok(Undo::ParallelColumns {
+        column: 8,
+        kept: 6,
+        factor: apart(alloc, b"3")?,
+        lower: end_apart(alloc, b"0")?,
+        upper: end_apart(alloc, b"4")?,
+        kept_lower: end_apart(alloc, b"-inf")?,
+        kept_upper: end_apart(alloc, b"5")?,
+    })
+}
+
+/// Puts K1 to K8 behind others.
+fn push_to_bounds(alloc: Global, undos: &mut Vec<Undo>) -> Result<(), Fail> {
+    undos.push(Undo::EmptyRow { row: 4 })?;
+    undos.push(bounded(alloc)?)?;
+    undos.push(at_value(alloc)?)?;
+    undos.push(Undo::RoundBounds { column: 6 })?;
+    undos.push(Undo::RedundantRow { row: 5 })?;
+    undos.push(Undo::RedundantSide { row: 8 })?;
+    undos.push(forcing(alloc, 1, Side::Lower, &[(0, b"1"), (3, b"-2")])?)?;
+    undos.push(forcing(alloc, 2, Side::Upper, &[])?)?;
+    undos.push(tightened_lower(alloc)?)?;
+    undos.push(tightened_upper(alloc)?)?;
+    Ok(())
+}
+
+/// Puts K9 to K17 behind others.
+fn push_from_coefficients(alloc: Global, undos: &mut Vec<Undo>) -> Result<(), Fail> {
+    undos.push(Undo::TightenCoefficient { row: 6, column: 5 })?;
+    undos.push(Undo::DualFix { column: 7 })?;
+    undos.push(Undo::Dominated {
+        row: 6,
+        better: 5,
+        column: 3,
+    })?;
+    undos.push(doubleton(alloc)?)?;
+    undos.push(free(alloc)?)?;
+    undos.push(kept_slack(alloc)?)?;
+    undos.push(dropped_slack(alloc)?)?;
+    undos.push(parallel_rows(alloc)?)?;
+    undos.push(parallel_columns(alloc)?)?;
+    undos.push(Undo::EmptyColumn { column: 9 })?;
+    Ok(())
 }
 
 /// The record text of these lines.
@@ -341,11 +391,9 @@ fn text_of(alloc: Global, lines: &[&[u8]]) -> Result<Vec<u8>, AllocError> {
 #[test]
 fn writes_each_kind(rt: HostRuntime) -> Result<(), Fail> {
     let alloc = rt.alloc();
-    let mut undos = records_to_forcing(alloc)?;
-    undos.append(&mut records_to_dominated(alloc)?)?;
-    undos.append(&mut records_to_free(alloc)?)?;
-    undos.append(&mut slack_records(alloc)?)?;
-    undos.append(&mut parallel_records(alloc)?)?;
+    let mut undos = Vec::new(alloc);
+    push_to_bounds(alloc, &mut undos)?;
+    push_from_coefficients(alloc, &mut undos)?;
     let columns = labels(alloc, &COLUMNS)?;
     let rows = labels(alloc, &ROWS)?;
     let records = Records::checked(alloc, Sense::Min, columns, rows, Frac::zero(), undos)?;

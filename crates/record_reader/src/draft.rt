@@ -29,6 +29,18 @@ pub struct Draft {
     pub walk: Walk,
 }
 
+/// The fewest bytes that the line of a label or a record has, its line feed among them.
+const LEAST_LINE: usize = 5;
+
+/// Makes room for so many more, but for no more than so many bytes of text can hold. Without memory for it there is none: the items then
+/// take their room one after another.
+fn make_room<T>(items: &mut Vec<T>, count: u64, bytes: usize)
+    ensures { items.new.items ≡ items.old.items }
+{
+    let most = bytes / LEAST_LINE;
+    let _ = items.reserve_exact(count.min(most as u64) as usize);
+}
+
 /// Puts a label behind others.
 fn push_label(labels: &mut Vec<Label>, label: Label) -> Result<(), AllocError>
     ensures { OnOk result (labels.new.items ≡ labels.old.items ++ label ∷ []) }
@@ -92,12 +104,13 @@ impl Draft {
         Ok(())
     }
 
-    fn take_column_count(&mut self, line: &[u8]) -> Result<(), TakeError>
+    fn take_column_count(&mut self, line: &[u8], left: usize) -> Result<(), TakeError>
         ensures { TakesAt ColumnCount (seen self.old) line.now result (seen self.new) }
     {
         let Some(count) = count_of(b"columns ", line) else {
             return Err(TakeError::Fault(RecordFaultKind::BadLine));
         };
+        make_room(&mut self.columns, count, left);
         self.stage = columns_left(count);
         Ok(())
     }
@@ -113,12 +126,13 @@ impl Draft {
         Ok(())
     }
 
-    fn take_row_count(&mut self, line: &[u8]) -> Result<(), TakeError>
+    fn take_row_count(&mut self, line: &[u8], left: usize) -> Result<(), TakeError>
         ensures { TakesAt RowCount (seen self.old) line.now result (seen self.new) }
     {
         let Some(count) = count_of(b"rows ", line) else {
             return Err(TakeError::Fault(RecordFaultKind::BadLine));
         };
+        make_room(&mut self.rows, count, left);
         self.stage = rows_left(count);
         Ok(())
     }
@@ -148,13 +162,19 @@ impl Draft {
         }
     }
 
-    fn take_record_count(&mut self, alloc: Global, line: &[u8]) -> Result<(), TakeError>
+    fn take_record_count(
+        &mut self,
+        alloc: Global,
+        line: &[u8],
+        left: usize,
+    ) -> Result<(), TakeError>
         ensures { TakesAt RecordCount (seen self.old) line.now result (seen self.new) }
     {
         let Some(count) = count_of(b"records ", line) else {
             return Err(TakeError::Fault(RecordFaultKind::BadLine));
         };
         self.walk = Walk::new(alloc, self.rows.len(), self.columns.len())?;
+        make_room(&mut self.undos, count, left);
         self.stage = undos_left(count);
         Ok(())
     }
@@ -195,22 +215,22 @@ impl Draft {
         Ok(())
     }
 
-    /// Takes in a line, or says what is wrong with it.
+    /// Takes in a line, behind which so many bytes are left, or says what is wrong with it.
     #[tactic(auto, unfolding(crate::specs::Faults::line_fault, crate::specs::Progress::moved))]
-    pub fn take_line(&mut self, alloc: Global, line: &[u8]) -> Result<(), TakeError>
+    pub fn take_line(&mut self, alloc: Global, line: &[u8], left: usize) -> Result<(), TakeError>
         ensures { Takes (seen self.old) line.now result (seen self.new) }
     {
         match self.stage {
             Stage::Header => self.take_header(line),
             Stage::SenseLine => self.take_sense(line),
             Stage::DualsLine => self.take_duals(line),
-            Stage::ColumnCount => self.take_column_count(line),
-            Stage::Columns(left) => self.take_column(alloc, left, line),
-            Stage::RowCount => self.take_row_count(line),
-            Stage::Rows(left) => self.take_row(alloc, left, line),
+            Stage::ColumnCount => self.take_column_count(line, left),
+            Stage::Columns(count) => self.take_column(alloc, count, line),
+            Stage::RowCount => self.take_row_count(line, left),
+            Stage::Rows(count) => self.take_row(alloc, count, line),
             Stage::Offset => self.take_offset(alloc, line),
-            Stage::RecordCount => self.take_record_count(alloc, line),
-            Stage::Undos(left) => self.take_undo(alloc, left, line),
+            Stage::RecordCount => self.take_record_count(alloc, line, left),
+            Stage::Undos(count) => self.take_undo(alloc, count, line),
             Stage::End => self.take_end(line),
             Stage::Over => Err(TakeError::Fault(RecordFaultKind::BadLine)),
         }

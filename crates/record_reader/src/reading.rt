@@ -28,7 +28,7 @@ fn take_lines(alloc: Global, draft: &mut Draft, text: &[u8]) -> Result<(), Recor
     let mut number: u64 = 0;
     while !rest.is_empty() {
         let (line, after) = first_line(rest);
-        match draft.take_line(alloc, line) {
+        match draft.take_line(alloc, line, after.len()) {
             Ok(()) => {}
             Err(TakeError::Fault(kind)) => {
                 return Err(RecordError::Fault(RecordFault {

@@ -75,8 +75,8 @@ fn row_fits(undo: &Undo)
         } => {
             id_fits(*row);
             id_fits(*column);
-            number_fits(value);
-            ends_fit(lower, upper);
+            number_fits(&value.get());
+            ends_fit(&lower.get(), &upper.get());
         }
         Undo::ForcingRow { row, entries, .. } => {
             id_fits(*row);
@@ -92,8 +92,8 @@ fn row_fits(undo: &Undo)
         } => {
             id_fits(*row);
             id_fits(*kept);
-            number_fits(factor);
-            ends_fit(lower, upper);
+            number_fits(&factor.get());
+            ends_fit(&lower.get(), &upper.get());
             list_fits(entries.as_slice());
         }
         _ => {}
@@ -113,8 +113,8 @@ fn bound_fits(undo: &Undo)
             entries,
         } => {
             id_fits(*column);
-            number_fits(value);
-            number_fits(cost);
+            number_fits(&value.get());
+            number_fits(&cost.get());
             list_fits(entries.as_slice());
         }
         Undo::TightenBound {
@@ -126,7 +126,7 @@ fn bound_fits(undo: &Undo)
         } => {
             id_fits(*row);
             id_fits(*column);
-            end_fits(bound);
+            end_fits(&bound.get());
             list_fits(entries.as_slice());
         }
         _ => {}
@@ -149,9 +149,9 @@ fn singleton_fits(undo: &Undo)
         } => {
             id_fits(*column);
             id_fits(*row);
-            number_fits(value);
-            number_fits(at);
-            number_fits(price);
+            number_fits(&value.get());
+            number_fits(&at.get());
+            number_fits(&price.get());
             list_fits(entries.as_slice());
         }
         Undo::SlackSingleton {
@@ -168,10 +168,10 @@ fn singleton_fits(undo: &Undo)
         } => {
             id_fits(*column);
             id_fits(*row);
-            number_fits(value);
-            number_fits(price);
-            ends_fit(lower_side, upper_side);
-            ends_fit(lower, upper);
+            number_fits(&value.get());
+            number_fits(&price.get());
+            ends_fit(&lower_side.get(), &upper_side.get());
+            ends_fit(&lower.get(), &upper.get());
             list_fits(entries.as_slice());
         }
         _ => {}
@@ -199,11 +199,11 @@ fn pair_fits(undo: &Undo)
             id_fits(*row);
             id_fits(*column);
             id_fits(*kept);
-            number_fits(value);
-            number_fits(kept_value);
-            number_fits(equal);
-            ends_fit(lower, upper);
-            number_fits(cost);
+            number_fits(&value.get());
+            number_fits(&kept_value.get());
+            number_fits(&equal.get());
+            ends_fit(&lower.get(), &upper.get());
+            number_fits(&cost.get());
             list_fits(entries.as_slice());
         }
         Undo::ParallelColumns {
@@ -217,9 +217,9 @@ fn pair_fits(undo: &Undo)
         } => {
             id_fits(*column);
             id_fits(*kept);
-            number_fits(factor);
-            ends_fit(lower, upper);
-            ends_fit(kept_lower, kept_upper);
+            number_fits(&factor.get());
+            ends_fit(&lower.get(), &upper.get());
+            ends_fit(&kept_lower.get(), &kept_upper.get());
         }
         _ => {}
     }

@@ -5,6 +5,7 @@ ghost use Rattle.record_words.specs.Undos.{undo_of, HasIdsAlone};
 ghost use Rattle.record_words.specs.Words.{first, others, id_of};
 ghost use Rattle.record_words.specs.Ratios.{ratio_of};
 ghost use Rattle.record_words.specs.Ends.{end_of};
+ghost use Rattle.record_words.specs.Lists.{list_of};
 ghost use Rattle.record_words.specs.declared.rules.Rule.TheVariants.{K2, K3, K7, K8, K12, K13, K14, K15, K16};
 ghost use Rattle.record_words.specs.Views.{words_left};
 
@@ -14,10 +15,8 @@ use crate::lists::list_in;
 use crate::ratios::number_in;
 use crate::rules::Rule;
 use crate::words::{Words, next_word};
-use fractions::ext::Ext;
-use fractions::frac::Frac;
 use std::alloc::{AllocError, Global};
-use undo_records::{RowFate, Side, Undo};
+use undo_records::{EndApart, KeptEnd, KeptNumber, NumberApart, RowFate, Side, TermsApart, Undo};
 
 /// The next word as an id.
 fn next_id(words: &mut Words<'_>) -> u32
@@ -27,39 +26,63 @@ fn next_id(words: &mut Words<'_>) -> u32
     id_in(next_word(words))
 }
 
-/// The next word as a number.
-fn next_number(words: &mut Words<'_>) -> Frac
-    ensures value { result ≡ ratio_of (first (words_left words.old)) }
+/// The next word as a number that is kept.
+fn next_number(alloc: Global, words: &mut Words<'_>) -> Result<KeptNumber, AllocError>
+    ensures value { IfOk result (λ kept. kept ≡ ratio_of (first (words_left words.old))) }
     ensures left { words_left words.new ≡ others (words_left words.old) }
 {
-    number_in(next_word(words))
+    KeptNumber::new(alloc, number_in(next_word(words)))
 }
 
-/// The next word as an end.
-fn next_end(words: &mut Words<'_>) -> Ext
-    ensures value { result ≡ end_of (first (words_left words.old)) }
+/// The next word as an end that is kept.
+fn next_end(alloc: Global, words: &mut Words<'_>) -> Result<KeptEnd, AllocError>
+    ensures value { IfOk result (λ kept. kept ≡ end_of (first (words_left words.old))) }
     ensures left { words_left words.new ≡ others (words_left words.old) }
 {
-    end_in(next_word(words))
+    KeptEnd::new(alloc, end_in(next_word(words)))
+}
+
+/// The next word as a number that is kept apart.
+fn number_apart(alloc: Global, words: &mut Words<'_>) -> Result<NumberApart, AllocError>
+    ensures value { IfOk result (λ apart. apart ≡ ratio_of (first (words_left words.old))) }
+    ensures left { words_left words.new ≡ others (words_left words.old) }
+{
+    NumberApart::new(alloc, number_in(next_word(words)))
+}
+
+/// The next word as an end that is kept apart.
+fn end_apart(alloc: Global, words: &mut Words<'_>) -> Result<EndApart, AllocError>
+    ensures value { IfOk result (λ apart. apart ≡ end_of (first (words_left words.old))) }
+    ensures left { words_left words.new ≡ others (words_left words.old) }
+{
+    EndApart::new(alloc, end_in(next_word(words)))
+}
+
+/// The terms of a list, kept apart.
+fn list_apart(alloc: Global, words: Words<'_>) -> Result<TermsApart, AllocError>
+    ensures { IfOk result (λ terms. terms ≡ list_of (words_left words.entry)) }
+{
+    let terms = list_in(alloc, words)?;
+    TermsApart::new(alloc, terms)
 }
 
 /// The record of a row with one entry.
-fn singleton_row(words: Words<'_>) -> Undo
-    ensures { result ≡ undo_of K2 (words_left words.entry) }
+fn singleton_row(alloc: Global, words: Words<'_>) -> Result<Undo, AllocError>
+    ensures { IfOk result (λ undo. undo ≡ undo_of K2 (words_left words.entry)) }
 {
     let mut rest = words;
     let row = next_id(&mut rest);
     let column = next_id(&mut rest);
-    let value = next_number(&mut rest);
-    let lower = next_end(&mut rest);
-    let upper = next_end(&mut rest);
-    Undo::SingletonRow {
+    let value = next_number(alloc, &mut rest)?;
+    let lower = next_end(alloc, &mut rest)?;
+    let upper = next_end(alloc, &mut rest)?;
+    Ok(Undo::SingletonRow {
         row,
         column,
         value,
         lower,
         upper,
-    }
+    })
 }
 
 /// The record of a fixed column.
@@ -68,8 +91,8 @@ fn fixed_column(alloc: Global, words: Words<'_>) -> Result<Undo, AllocError>
 {
     let mut rest = words;
     let column = next_id(&mut rest);
-    let value = next_number(&mut rest);
-    let cost = next_number(&mut rest);
+    let value = next_number(alloc, &mut rest)?;
+    let cost = next_number(alloc, &mut rest)?;
     let entries = list_in(alloc, rest)?;
     Ok(Undo::FixedColumn {
         column,
@@ -98,7 +121,7 @@ fn tighten_bound(alloc: Global, words: Words<'_>) -> Result<Undo, AllocError>
     let row = next_id(&mut rest);
     let column = next_id(&mut rest);
     let side = bound_of(next_word(&mut rest)).unwrap_or(Side::Lower);
-    let bound = next_end(&mut rest);
+    let bound = next_end(alloc, &mut rest)?;
     let entries = list_in(alloc, rest)?;
     Ok(Undo::TightenBound {
         row,
@@ -117,13 +140,13 @@ fn doubleton(alloc: Global, words: Words<'_>) -> Result<Undo, AllocError>
     let row = next_id(&mut rest);
     let column = next_id(&mut rest);
     let kept = next_id(&mut rest);
-    let value = next_number(&mut rest);
-    let kept_value = next_number(&mut rest);
-    let equal = next_number(&mut rest);
-    let lower = next_end(&mut rest);
-    let upper = next_end(&mut rest);
-    let cost = next_number(&mut rest);
-    let entries = list_in(alloc, rest)?;
+    let value = number_apart(alloc, &mut rest)?;
+    let kept_value = number_apart(alloc, &mut rest)?;
+    let equal = number_apart(alloc, &mut rest)?;
+    let lower = end_apart(alloc, &mut rest)?;
+    let upper = end_apart(alloc, &mut rest)?;
+    let cost = number_apart(alloc, &mut rest)?;
+    let entries = list_apart(alloc, rest)?;
     Ok(Undo::Doubleton {
         row,
         column,
@@ -145,9 +168,9 @@ fn free_singleton(alloc: Global, words: Words<'_>) -> Result<Undo, AllocError>
     let mut rest = words;
     let column = next_id(&mut rest);
     let row = next_id(&mut rest);
-    let value = next_number(&mut rest);
-    let at = next_number(&mut rest);
-    let price = next_number(&mut rest);
+    let value = number_apart(alloc, &mut rest)?;
+    let at = number_apart(alloc, &mut rest)?;
+    let price = number_apart(alloc, &mut rest)?;
     let entries = list_in(alloc, rest)?;
     Ok(Undo::FreeSingleton {
         column,
@@ -166,14 +189,14 @@ fn slack_singleton(alloc: Global, words: Words<'_>) -> Result<Undo, AllocError>
     let mut rest = words;
     let column = next_id(&mut rest);
     let row = next_id(&mut rest);
-    let value = next_number(&mut rest);
-    let price = next_number(&mut rest);
-    let lower_side = next_end(&mut rest);
-    let upper_side = next_end(&mut rest);
-    let lower = next_end(&mut rest);
-    let upper = next_end(&mut rest);
+    let value = number_apart(alloc, &mut rest)?;
+    let price = number_apart(alloc, &mut rest)?;
+    let lower_side = end_apart(alloc, &mut rest)?;
+    let upper_side = end_apart(alloc, &mut rest)?;
+    let lower = end_apart(alloc, &mut rest)?;
+    let upper = end_apart(alloc, &mut rest)?;
     let fate = fate_of(next_word(&mut rest)).unwrap_or(RowFate::Kept);
-    let entries = list_in(alloc, rest)?;
+    let entries = list_apart(alloc, rest)?;
     Ok(Undo::SlackSingleton {
         column,
         row,
@@ -195,9 +218,9 @@ fn parallel_rows(alloc: Global, words: Words<'_>) -> Result<Undo, AllocError>
     let mut rest = words;
     let row = next_id(&mut rest);
     let kept = next_id(&mut rest);
-    let factor = next_number(&mut rest);
-    let lower = next_end(&mut rest);
-    let upper = next_end(&mut rest);
+    let factor = number_apart(alloc, &mut rest)?;
+    let lower = end_apart(alloc, &mut rest)?;
+    let upper = end_apart(alloc, &mut rest)?;
     let entries = list_in(alloc, rest)?;
     Ok(Undo::ParallelRows {
         row,
@@ -210,18 +233,18 @@ fn parallel_rows(alloc: Global, words: Words<'_>) -> Result<Undo, AllocError>
 }
 
 /// The record of parallel columns.
-fn parallel_columns(words: Words<'_>) -> Undo
-    ensures { result ≡ undo_of K16 (words_left words.entry) }
+fn parallel_columns(alloc: Global, words: Words<'_>) -> Result<Undo, AllocError>
+    ensures { IfOk result (λ undo. undo ≡ undo_of K16 (words_left words.entry)) }
 {
     let mut rest = words;
     let column = next_id(&mut rest);
     let kept = next_id(&mut rest);
-    let factor = next_number(&mut rest);
-    let lower = next_end(&mut rest);
-    let upper = next_end(&mut rest);
-    let kept_lower = next_end(&mut rest);
-    let kept_upper = next_end(&mut rest);
-    Undo::ParallelColumns {
+    let factor = number_apart(alloc, &mut rest)?;
+    let lower = end_apart(alloc, &mut rest)?;
+    let upper = end_apart(alloc, &mut rest)?;
+    let kept_lower = end_apart(alloc, &mut rest)?;
+    let kept_upper = end_apart(alloc, &mut rest)?;
+    Ok(Undo::ParallelColumns {
         column,
         kept,
         factor,
@@ -229,7 +252,7 @@ fn parallel_columns(words: Words<'_>) -> Undo
         upper,
         kept_lower,
         kept_upper,
-    }
+    })
 }
 
 /// The record of a rule that has ids alone.
@@ -265,7 +288,7 @@ pub fn undo_in(alloc: Global, rule: Rule, words: Words<'_>) -> Result<Undo, Allo
     ensures { IfOk result (λ undo. undo ≡ undo_of rule (words_left words.entry)) }
 {
     match rule {
-        Rule::K2 => Ok(singleton_row(words)),
+        Rule::K2 => singleton_row(alloc, words),
         Rule::K3 => fixed_column(alloc, words),
         Rule::K7 => forcing_row(alloc, words),
         Rule::K8 => tighten_bound(alloc, words),
@@ -273,7 +296,7 @@ pub fn undo_in(alloc: Global, rule: Rule, words: Words<'_>) -> Result<Undo, Allo
         Rule::K13 => free_singleton(alloc, words),
         Rule::K14 => slack_singleton(alloc, words),
         Rule::K15 => parallel_rows(alloc, words),
-        Rule::K16 => Ok(parallel_columns(words)),
+        Rule::K16 => parallel_columns(alloc, words),
         other => Ok(ids_alone(other, words)),
     }
 }

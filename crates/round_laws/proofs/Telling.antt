@@ -38,7 +38,7 @@ use Rattle.history_laws.proofs.Walks.{is_of, walked_sound}
 use Rattle.round_laws.specs.Telling.{IsToldOf, are_live}
 
 -- ---- the walk
-pub walked : (program : ProgramData) (b : Ledger) (told : Postsolve) → IsProblemOf program b.start → Stands b → IsToldOf program b told → Walked b.numbers program (written_program program b.problem) told
+abbrev pub walked : (program : ProgramData) (b : Ledger) (told : Postsolve) → IsProblemOf program b.start → Stands b → IsToldOf program b told → Walked b.numbers program (written_program program b.problem) told
 walked program b told o s t = record {
   start = b.start;
   history = b.history;

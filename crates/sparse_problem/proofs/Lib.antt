@@ -1,8 +1,9 @@
-pub mod Losing
-pub mod Ascending
+pub mod Named
+pub mod Places
 pub mod Deleting
-pub mod Transposing
-mod Naming
-mod Negatives
-mod Reducing
-pub mod Writing
+pub mod Counting
+pub mod LiveTerms
+pub mod Edited
+pub mod Crossing
+pub mod MadeProblems
+pub mod WrittenRows

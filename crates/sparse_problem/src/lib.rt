@@ -1,10 +1,12 @@
-//! A problem in sparse rows and columns, named by the ids of the program that it was made of.
+//! A problem in sparse rows and columns, by the ids of the program that it was made of.
 #![tactic(auto)]
 
-pub mod matrix;
-pub mod problem;
-pub mod programs;
-pub mod transpose;
+mod lines;
+mod made;
+mod moves;
+mod problem;
+mod transpose;
+mod written;
 
-pub use matrix::{Line, Matrix};
-pub use problem::{Bounds, Part, Problem, Sides};
+pub use made::in_sense;
+pub use problem::Problem;

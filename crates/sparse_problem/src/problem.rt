@@ -1,106 +1,90 @@
 //! Problems.
 
-ghost use Rattle.std.specs.Prelude.{◌≡◌, ◌<◌, ◌^◌, length, IfOk, true, Option, [], ◌∷◌, IsTrue, ◌↔◌};
-ghost use Rattle.sparse_problem.specs.Matrices.{IsMatrix, live_only, IsLiveTerm};
-ghost use Rattle.sparse_problem.specs.Problems.{bounds_at, column_at, ColumnGone, cost_at, row_at, RowGone, sides_at, SameBounds, SameSides, SetsBounds, SetsSides};
+ghost use Rattle.std.specs.Prelude.{◌≡◌, ◌<◌, ◌^◌, length, IfOk, true, [], ◌∷◌};
+ghost use Rattle.presolve_model.specs.Edits.{bounds_set, column_deleted, offset_set, row_deleted, sides_set};
+ghost use Rattle.presolve_model.specs.Problems.{bounds_at, column_at, column_entries, cost_at, IsSparse, row_at, row_entries, sides_at};
 
-use crate::matrix::{Line, Matrix};
+use crate::lines::{delete_line, first_live, is_live, live_entries_of, live_terms_of};
+use crate::moves::{moved_bounds, moved_sides, touch_bounds, touch_sides};
 use fractions::ext::Ext;
 use fractions::frac::Frac;
 use lp_model::{Term, Terms};
+use presolve_model::{Bounds, Line, Sides};
 use std::alloc::{AllocError, Global};
 use std::marker::Model;
 
-/// The sides of a row, and how often they have changed.
-#[derive(Clone, Copy)]
-pub struct Sides {
-    pub lower: Ext,
-    pub upper: Ext,
-    pub changes: u64,
-}
-
-/// The bounds of a column, whether it must be whole, and how often its bounds have changed.
-#[derive(Clone, Copy)]
-pub struct Bounds {
-    pub lower: Ext,
-    pub upper: Ext,
-    pub whole: bool,
-    pub changes: u64,
-}
-
-/// A part of a problem that changes are counted of.
-#[derive(Clone, Copy, PartialEq, Eq)]
-pub enum Part {
-    /// A row's live entries.
-    Row(u32),
-    /// A row's sides.
-    Sides(u32),
-    /// A column's live entries and its cost.
-    Col(u32),
-    /// A column's bounds.
-    Bounds(u32),
-}
-
-/// A minimizing problem: rows and columns by the ids of the program that it was made of, deleted ones among them.
+/// A problem to be minimized: rows and columns by the ids of the program that it was made of, deleted ones among them.
 #[derive(Drop)]
 pub struct Problem {
-    matrix: Matrix,
+    rows: Vec<Line>,
+    columns: Vec<Line>,
     sides: Vec<Sides>,
     bounds: Vec<Bounds>,
     costs: Vec<Frac>,
     offset: Frac,
+    constant: Frac,
 }
 
 impl Model for Problem {
     ghost use Rattle.std.specs.Coded.{codes};
     ghost use Rattle.rational.specs.Lowest.{number_code};
-    ghost use Rattle.sparse_problem.specs.Sparse.{Sparse};
+    ghost use Rattle.presolve_model.specs.Sparse.{Sparse};
 
     ghost Value = { Sparse };
 
     ghost coded = { Prim.hlevel (codes, number_code) };
 
-    ghost use Rattle.sparse_problem.specs.Problems.{IsSparse};
+    ghost use Rattle.presolve_model.specs.Problems.{IsSparse};
 
-    ghost view = { λ p. record { matrix = p.matrix; sides = p.sides.items; bounds = p.bounds.items; costs = p.costs.items; offset = p.offset } };
+    ghost view = { λ p. record { matrix = record { rows = p.rows.items; columns = p.columns.items }; sides = p.sides.items; bounds = p.bounds.items; costs = p.costs.items; offset = p.offset; constant = p.constant } };
 
-    ghost invariant = { λ p. IsSparse (record { matrix = p.matrix; sides = p.sides.items; bounds = p.bounds.items; costs = p.costs.items; offset = p.offset }) };
+    ghost invariant = { λ p. IsSparse (record { matrix = record { rows = p.rows.items; columns = p.columns.items }; sides = p.sides.items; bounds = p.bounds.items; costs = p.costs.items; offset = p.offset; constant = p.constant }) };
 }
 
 impl Problem {
     /// The problem of these parts.
-    pub fn new(
-        matrix: Matrix,
+    pub(crate) fn new(
+        rows: Vec<Line>,
+        columns: Vec<Line>,
         sides: Vec<Sides>,
         bounds: Vec<Bounds>,
         costs: Vec<Frac>,
         offset: Frac,
+        constant: Frac,
     ) -> Problem
-        requires matrix { IsMatrix matrix }
-        requires few_rows { length matrix.rows < 2 ^ 32 }
-        requires few_columns { length matrix.columns < 2 ^ 32 }
-        requires sides { length sides.items ≡ length matrix.rows }
-        requires bounds { length bounds.items ≡ length matrix.columns }
-        requires costs { length costs.items ≡ length matrix.columns }
-        ensures { result ≡ record { matrix = matrix; sides = sides.items; bounds = bounds.items; costs = costs.items; offset = offset } }
+        requires { IsSparse (record { matrix = record { rows = rows.items; columns = columns.items }; sides = sides.items; bounds = bounds.items; costs = costs.items; offset = offset; constant = constant }) }
+        ensures { result ≡ record { matrix = record { rows = rows.items; columns = columns.items }; sides = sides.items; bounds = bounds.items; costs = costs.items; offset = offset; constant = constant } }
     {
         Problem {
-            matrix,
+            rows,
+            columns,
             sides,
             bounds,
             costs,
             offset,
+            constant,
         }
     }
 
-    /// The entries, and what is live.
-    pub fn matrix(&self) -> &Matrix
-        ensures matrix { result.now ≡ self.now.matrix }
-        ensures agrees { IsMatrix self.now.matrix }
-        ensures few_rows { length self.now.matrix.rows < 2 ^ 32 }
-        ensures few_columns { length self.now.matrix.columns < 2 ^ 32 }
+    /// That rows and columns agree, and that ids have 32 bits.
+    pub fn is_sparse(&self)
+        ensures { IsSparse self.now }
     {
-        &self.matrix
+        let _ = &self.offset;
+    }
+
+    /// The rows, by id, deleted ones among them.
+    pub fn rows(&self) -> &[Line]
+        ensures { result.now ≡ self.now.matrix.rows }
+    {
+        self.rows.as_slice()
+    }
+
+    /// The columns, by id, deleted ones among them.
+    pub fn columns(&self) -> &[Line]
+        ensures { result.now ≡ self.now.matrix.columns }
+    {
+        self.columns.as_slice()
     }
 
     /// The sides of each row.
@@ -119,7 +103,7 @@ impl Problem {
         self.bounds.as_slice()
     }
 
-    /// The cost of each column.
+    /// The cost of each column, in the minimizing sense.
     pub fn costs(&self) -> &[Frac]
         ensures value { result.now ≡ self.now.costs }
         ensures long { length result.now ≡ length self.now.matrix.columns }
@@ -127,55 +111,62 @@ impl Problem {
         self.costs.as_slice()
     }
 
-    /// How many rows there are, deleted ones among them.
-    pub fn rows(&self) -> usize
-        ensures value { result ≡ length self.now.matrix.rows }
-        ensures few { result < 2 ^ 32 }
-    {
-        self.sides.len()
-    }
-
-    /// How many columns there are, deleted ones among them.
-    pub fn columns(&self) -> usize
-        ensures value { result ≡ length self.now.matrix.columns }
-        ensures few { result < 2 ^ 32 }
-    {
-        self.bounds.len()
-    }
-
-    /// What was added to the cost.
+    /// What was added to the cost, in the minimizing sense.
     pub fn offset(&self) -> Frac
         ensures { result ≡ self.now.offset }
     {
         self.offset
     }
 
-    /// Whether a row is there.
+    /// The constant of the cost, in the minimizing sense.
+    pub fn constant(&self) -> Frac
+        ensures { result ≡ self.now.constant }
+    {
+        self.constant
+    }
+
+    /// How many rows there are, deleted ones among them.
+    pub fn row_count(&self) -> usize
+        ensures value { result ≡ length self.now.matrix.rows }
+        ensures few { result < 2 ^ 32 }
+    {
+        self.rows.len()
+    }
+
+    /// How many columns there are, deleted ones among them.
+    pub fn column_count(&self) -> usize
+        ensures value { result ≡ length self.now.matrix.columns }
+        ensures few { result < 2 ^ 32 }
+    {
+        self.columns.len()
+    }
+
+    /// Whether a row is there. One past the last isn't.
     pub fn is_row_live(&self, i: u32) -> bool
         ensures { result ≡ (row_at self.now i).live }
     {
-        match self.matrix.rows().get(i as usize) {
-            Some(row) => row.live,
-            None => false,
-        }
+        is_live(self.rows.as_slice(), i)
     }
 
-    /// Whether a column is there.
+    /// Whether a column is there. One past the last isn't.
     pub fn is_column_live(&self, j: u32) -> bool
         ensures { result ≡ (column_at self.now j).live }
     {
-        match self.matrix.columns().get(j as usize) {
-            Some(column) => column.live,
-            None => false,
-        }
+        is_live(self.columns.as_slice(), j)
     }
 
-    /// How many entries of a row are live.
-    pub fn row_entries(&self, i: u32) -> usize
-        requires { (row_at self.now i).live ≡ true }
-        ensures { result ≡ (row_at self.now i).live_entries }
+    /// How many entries of a row are in live columns.
+    pub fn live_row_entries(&self, i: u32) -> usize
+        ensures { result ≡ length (row_entries self.now i) }
     {
-        self.matrix.rows()[i as usize].live_entries
+        live_entries_of(self.rows.as_slice(), i)
+    }
+
+    /// How many entries of a column are in live rows.
+    pub fn live_column_entries(&self, j: u32) -> usize
+        ensures { result ≡ length (column_entries self.now j) }
+    {
+        live_entries_of(self.columns.as_slice(), j)
     }
 
     /// The sides of a row.
@@ -194,7 +185,7 @@ impl Problem {
         self.bounds[j as usize]
     }
 
-    /// The cost of a column.
+    /// The cost of a column, in the minimizing sense.
     pub fn cost(&self, j: u32) -> Frac
         requires { (column_at self.now j).live ≡ true }
         ensures { result ≡ cost_at self.now j }
@@ -202,43 +193,36 @@ impl Problem {
         self.costs[j as usize]
     }
 
-    /// The one live entry of a row.
+    /// The one entry of a row in a live column.
     pub fn sole_entry(&self, i: u32) -> Term
         requires live { (row_at self.now i).live ≡ true }
-        requires sole { (row_at self.now i).live_entries ≡ 1 }
-        ensures live { IsLiveTerm self.now.matrix.columns result }
-        ensures sole { live_only self.now.matrix.columns (row_at self.now i).entries ≡ result ∷ [] }
+        requires sole { length (row_entries self.now i) ≡ 1 }
+        ensures { row_entries self.now i ≡ result ∷ [] }
     {
-        self.matrix.sole_entry(i)
-    }
-
-    /// The live entries of a column, by row id.
-    pub fn column_entries(&self, alloc: Global, j: u32) -> Result<Terms, AllocError>
-        requires { (column_at self.now j).live ≡ true }
-        ensures { IfOk result (λ ts. ts ≡ live_only self.now.matrix.rows (column_at self.now j).entries) }
-    {
-        self.matrix.column_entries(alloc, j)
-    }
-
-    /// How often a part has changed.
-    pub fn changes(&self, part: Part) -> u64 {
-        match part {
-            Part::Row(i) => changes_of(self.matrix.rows(), i),
-            Part::Sides(i) => match self.sides.get(i as usize) {
-                Some(sides) => sides.changes,
-                None => 0,
-            },
-            Part::Col(j) => changes_of(self.matrix.columns(), j),
-            Part::Bounds(j) => match self.bounds.get(j as usize) {
-                Some(bounds) => bounds.changes,
-                None => 0,
-            },
+        let row = &self.rows[i as usize];
+        match first_live(self.columns.as_slice(), row.entries.as_slice()) {
+            Some(term) => term,
+            None => unreachable!(),
         }
     }
 
-    /// Adds to the cost.
+    /// The entries of a row in live columns, by column id.
+    pub fn row_terms(&self, alloc: Global, i: u32) -> Result<Terms, AllocError>
+        ensures { IfOk result (λ terms. terms ≡ row_entries self.now i) }
+    {
+        live_terms_of(alloc, self.rows.as_slice(), self.columns.as_slice(), i)
+    }
+
+    /// The entries of a column in live rows, by row id.
+    pub fn column_terms(&self, alloc: Global, j: u32) -> Result<Terms, AllocError>
+        ensures { IfOk result (λ terms. terms ≡ column_entries self.now j) }
+    {
+        live_terms_of(alloc, self.columns.as_slice(), self.rows.as_slice(), j)
+    }
+
+    /// Sets what was added to the cost, in the minimizing sense.
     pub fn set_offset(&mut self, offset: Frac)
-        ensures { self.new ≡ record self.old { offset = offset } }
+        ensures { self.new ≡ offset_set self.old offset }
     {
         self.offset = offset;
     }
@@ -246,62 +230,34 @@ impl Problem {
     /// Gives a row sides.
     pub fn set_sides(&mut self, i: u32, lower: Ext, upper: Ext)
         requires { (row_at self.old i).live ≡ true }
-        ensures { SetsSides self.old self.new i lower upper }
+        ensures { self.new ≡ sides_set self.old i lower upper }
     {
-        let sides = &mut self.sides[i as usize];
-        if !sides.lower.is_same(&lower) || !sides.upper.is_same(&upper) {
-            sides.changes = sides.changes.saturating_add(1);
-        }
-        sides.lower = lower;
-        sides.upper = upper;
+        self.sides[i as usize] = moved_sides(self.sides[i as usize], lower, upper);
     }
 
     /// Gives a column bounds.
     pub fn set_bounds(&mut self, j: u32, lower: Ext, upper: Ext)
         requires { (column_at self.old j).live ≡ true }
-        ensures { SetsBounds self.old self.new j lower upper }
+        ensures { self.new ≡ bounds_set self.old j lower upper }
     {
-        let bounds = &mut self.bounds[j as usize];
-        if !bounds.lower.is_same(&lower) || !bounds.upper.is_same(&upper) {
-            bounds.changes = bounds.changes.saturating_add(1);
-        }
-        bounds.lower = lower;
-        bounds.upper = upper;
+        self.bounds[j as usize] = moved_bounds(self.bounds[j as usize], lower, upper);
     }
 
-    /// Deletes a row with its sides.
+    /// Deletes a row with its sides. The columns' entries there stay in place, and are live no more.
     pub fn delete_row(&mut self, i: u32)
         requires { (row_at self.old i).live ≡ true }
-        ensures gone { RowGone self.old self.new i }
-        ensures sides { SameSides self.old self.new }
-        ensures bounds { self.new.bounds ≡ self.old.bounds }
-        ensures costs { self.new.costs ≡ self.old.costs }
-        ensures offset { self.new.offset ≡ self.old.offset }
+        ensures { self.new ≡ row_deleted self.old i }
     {
-        let sides = &mut self.sides[i as usize];
-        sides.changes = sides.changes.saturating_add(1);
-        self.matrix.delete_row(i);
+        touch_sides(&mut self.sides[i as usize]);
+        delete_line(&mut self.rows, &mut self.columns, i);
     }
 
-    /// Deletes a column with its bounds and its cost.
+    /// Deletes a column with its bounds and its cost. The rows' entries there stay in place, and are live no more.
     pub fn delete_column(&mut self, j: u32)
         requires { (column_at self.old j).live ≡ true }
-        ensures gone { ColumnGone self.old self.new j }
-        ensures bounds { SameBounds self.old self.new }
-        ensures sides { self.new.sides ≡ self.old.sides }
-        ensures costs { self.new.costs ≡ self.old.costs }
-        ensures offset { self.new.offset ≡ self.old.offset }
+        ensures { self.new ≡ column_deleted self.old j }
     {
-        let bounds = &mut self.bounds[j as usize];
-        bounds.changes = bounds.changes.saturating_add(1);
-        self.matrix.delete_column(j);
-    }
-}
-
-/// How often a line has changed.
-fn changes_of(lines: &[Line], k: u32) -> u64 {
-    match lines.get(k as usize) {
-        Some(line) => line.changes,
-        None => 0,
+        touch_bounds(&mut self.bounds[j as usize]);
+        delete_line(&mut self.columns, &mut self.rows, j);
     }
 }

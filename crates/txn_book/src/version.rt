@@ -2,7 +2,7 @@
 
 ghost use Rattle.std.specs.Prelude.{◌≡◌};
 
-use problem_parts::Problem;
+use sparse_problem::Problem;
 use std::marker::Model;
 
 /// A problem as it stood when so many reductions had been applied.

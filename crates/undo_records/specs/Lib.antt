@@ -1,3 +1,4 @@
+pub mod Kept
 pub mod Lift
 pub mod Postsolve
 pub mod Room

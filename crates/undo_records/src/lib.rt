@@ -3,6 +3,8 @@
 //! `specs/` says what undoing makes of a point, when its numbers have room, and what is asked of a record. [`laws`] states what holds of them.
 #![tactic(auto)]
 
+mod apart;
+mod kept;
 mod label;
 pub mod laws;
 mod records;
@@ -12,6 +14,8 @@ mod undo;
 mod walk;
 mod whole_run;
 
+pub use apart::{EndApart, NumberApart, TermsApart};
+pub use kept::{KeptEnd, KeptNumber};
 pub use label::Label;
 pub use records::Records;
 pub use side::{RowFate, Side};

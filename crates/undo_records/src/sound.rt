@@ -119,9 +119,9 @@ fn is_sound_solving(undo: &Undo, rows: usize, columns: usize) -> bool
             entries,
             ..
         } => {
-            is_entry(*row, *column, value, rows, columns)
+            is_entry(*row, *column, &value.get(), rows, columns)
                 && are_two(*column, *kept, columns)
-                && is_divisor(kept_value)
+                && is_divisor(&kept_value.get())
                 && are_others(entries.as_slice(), *row, rows)
         }
         Undo::FreeSingleton {
@@ -130,15 +130,18 @@ fn is_sound_solving(undo: &Undo, rows: usize, columns: usize) -> bool
             value,
             entries,
             ..
+        } => {
+            is_entry(*row, *column, &value.get(), rows, columns)
+                && are_others(entries.as_slice(), *column, columns)
         }
-        | Undo::SlackSingleton {
+        Undo::SlackSingleton {
             column,
             row,
             value,
             entries,
             ..
         } => {
-            is_entry(*row, *column, value, rows, columns)
+            is_entry(*row, *column, &value.get(), rows, columns)
                 && are_others(entries.as_slice(), *column, columns)
         }
         _ => true,
@@ -158,14 +161,16 @@ fn is_sound_merging(undo: &Undo, rows: usize, columns: usize) -> bool
             entries,
             ..
         } => {
-            are_two(*row, *kept, rows) && is_divisor(factor) && ascend(entries.as_slice(), columns)
+            are_two(*row, *kept, rows)
+                && is_divisor(&factor.get())
+                && ascend(entries.as_slice(), columns)
         }
         Undo::ParallelColumns {
             column,
             kept,
             factor,
             ..
-        } => are_two(*column, *kept, columns) && is_divisor(factor),
+        } => are_two(*column, *kept, columns) && is_divisor(&factor.get()),
         _ => true,
     }
 }
@@ -181,7 +186,7 @@ pub fn is_sound(undo: &Undo, rows: usize, columns: usize) -> bool
             column,
             value,
             ..
-        } => is_entry(*row, *column, value, rows, columns),
+        } => is_entry(*row, *column, &value.get(), rows, columns),
         Undo::FixedColumn {
             column,
             entries,

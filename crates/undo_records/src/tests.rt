@@ -1,9 +1,14 @@
-//! Names by id, and which records are sound.
+//! Names by id, which records are sound, and numbers as they are kept.
 
-use crate::{Label, Records, Undo, are_sound};
+use crate::{
+    EndApart, KeptEnd, KeptNumber, Label, NumberApart, Records, TermsApart, Undo, are_sound,
+};
+use fractions::ext::Ext;
 use fractions::frac::Frac;
+use fractions::whole::Whole;
 use lp_model::{Labels, Name, Sense, Term, Terms};
 use std::alloc::{AllocError, Global};
+use std::mem::size_of;
 use std::process::Abort;
 use std::test::Fail;
 
@@ -93,8 +98,8 @@ fn recorded(alloc: Global, step: &Step) -> Result<Undo, AllocError> {
     match step {
         Step::Column(column, rows) => Ok(Undo::FixedColumn {
             column: *column,
-            value: Frac::one(),
-            cost: Frac::one(),
+            value: KeptNumber::new(alloc, Frac::one())?,
+            cost: KeptNumber::new(alloc, Frac::one())?,
             entries: ones(alloc, rows)?,
         }),
         Step::Row(row) => Ok(Undo::EmptyRow { row: *row }),
@@ -142,5 +147,55 @@ fn sound_runs(rt: HostRuntime) -> Result<(), Fail> {
         let found = are_sound(alloc, columns.as_slice(), rows.as_slice(), undos.as_slice())?;
         assert_eq!(rt; found, *sound);
     }
+    Ok(())
+}
+
+/// Numerators over denominators, those with the greatest parts of each form and with the least of the next one.
+const KEPT: [(i128, u128); 13] = [
+    (0, 1),
+    (-1, 3),
+    (i64::MAX as i128, 1),
+    (-(i64::MAX as i128), 1),
+    (i64::MIN as i128, 1),
+    (1 << 63, 1),
+    (i32::MAX as i128, 1 << 32),
+    (i32::MIN as i128, (1 << 32) - 1),
+    (1, (1 << 32) + 1),
+    (1 << 31, 3),
+    (i32::MIN as i128 - 1, 4),
+    (i128::MAX, 1),
+    (-i128::MAX, i128::MAX as u128 - 1),
+];
+
+/// The number, and 0 where it has no meaning.
+fn number(n: i128, d: u128) -> Frac {
+    if n == i128::MIN || d == 0 || d > i128::MAX as u128 {
+        return Frac::zero();
+    }
+    Frac::ratio_of(Whole::new(n), d)
+}
+
+#[test]
+fn keeps_numbers(rt: HostRuntime) -> Result<(), Fail> {
+    let alloc = rt.alloc();
+    for (n, d) in KEPT {
+        let given = number(n, d);
+        let end = Ext::at(given);
+        assert!(rt; KeptNumber::new(alloc, given)?.get().is_same(&given));
+        assert!(rt; NumberApart::new(alloc, given)?.get().is_same(&given));
+        assert!(rt; KeptEnd::new(alloc, end)?.get().is_same(&end));
+        assert!(rt; EndApart::new(alloc, end)?.get().is_same(&end));
+    }
+    assert!(rt; KeptEnd::new(alloc, Ext::none())?.get().is_none());
+    assert!(rt; EndApart::new(alloc, Ext::none())?.get().is_none());
+    Ok(())
+}
+
+#[test]
+fn records_are_small(rt: HostRuntime) -> Result<(), Fail> {
+    let alloc = rt.alloc();
+    let apart = TermsApart::new(alloc, ones(alloc, &[3, 5])?)?;
+    assert_eq!(rt; apart.as_slice().len(), 2);
+    assert!(rt; size_of::<Undo>() <= 80);
     Ok(())
 }

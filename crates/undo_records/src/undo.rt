@@ -1,8 +1,8 @@
 //! The record of one reduction.
 
+use crate::apart::{EndApart, NumberApart, TermsApart};
+use crate::kept::{KeptEnd, KeptNumber};
 use crate::side::{RowFate, Side};
-use fractions::ext::Ext;
-use fractions::frac::Frac;
 use lp_model::Terms;
 
 /// What is kept of one reduction, with the values as they were when it was made. Ids are those of the original program, from 0 on;
@@ -21,20 +21,20 @@ pub enum Undo {
         /// The column of its one entry.
         column: u32,
         /// That entry.
-        value: Frac,
+        value: KeptNumber,
         /// The column's lower bound before.
-        lower: Ext,
+        lower: KeptEnd,
         /// The column's upper bound before.
-        upper: Ext,
+        upper: KeptEnd,
     },
     /// K3: a column with equal bounds was deleted.
     FixedColumn {
         /// The column.
         column: u32,
         /// Its value: both bounds.
-        value: Frac,
+        value: KeptNumber,
         /// Its cost, minimizing.
-        cost: Frac,
+        cost: KeptNumber,
         /// Its entries, by row id.
         entries: Terms,
     },
@@ -71,7 +71,7 @@ pub enum Undo {
         /// The bound that was replaced.
         side: Side,
         /// That bound before.
-        bound: Ext,
+        bound: KeptEnd,
         /// The row's entries by column id, the column's own among them.
         entries: Terms,
     },
@@ -105,19 +105,19 @@ pub enum Undo {
         /// The column that was kept.
         kept: u32,
         /// The row's entry at the deleted column.
-        value: Frac,
+        value: NumberApart,
         /// The row's entry at the kept column.
-        kept_value: Frac,
+        kept_value: NumberApart,
         /// What the row is equal to: both its sides.
-        equal: Frac,
+        equal: NumberApart,
         /// The kept column's lower bound before.
-        lower: Ext,
+        lower: EndApart,
         /// The kept column's upper bound before.
-        upper: Ext,
+        upper: EndApart,
         /// The deleted column's cost, minimizing.
-        cost: Frac,
+        cost: NumberApart,
         /// The deleted column's other entries, by row id.
-        entries: Terms,
+        entries: TermsApart,
     },
     /// K13: a column with one entry, whose bounds follow from its row, was deleted with the row.
     FreeSingleton {
@@ -126,11 +126,11 @@ pub enum Undo {
         /// The row.
         row: u32,
         /// The one entry.
-        value: Frac,
+        value: NumberApart,
         /// The side at which the row stands.
-        at: Frac,
+        at: NumberApart,
         /// The column's cost over its entry, minimizing.
-        price: Frac,
+        price: NumberApart,
         /// The row's other entries, by column id.
         entries: Terms,
     },
@@ -141,21 +141,21 @@ pub enum Undo {
         /// The row.
         row: u32,
         /// The one entry.
-        value: Frac,
+        value: NumberApart,
         /// The column's cost over its entry, minimizing.
-        price: Frac,
+        price: NumberApart,
         /// The row's lower side before.
-        lower_side: Ext,
+        lower_side: EndApart,
         /// The row's upper side before.
-        upper_side: Ext,
+        upper_side: EndApart,
         /// The column's lower bound.
-        lower: Ext,
+        lower: EndApart,
         /// The column's upper bound.
-        upper: Ext,
+        upper: EndApart,
         /// Whether the row was kept.
         fate: RowFate,
         /// The row's other entries, by column id.
-        entries: Terms,
+        entries: TermsApart,
     },
     /// K15: a row that is a multiple of another was deleted, and the other one's sides were met with its sides over the factor.
     ParallelRows {
@@ -164,11 +164,11 @@ pub enum Undo {
         /// The row that was kept.
         kept: u32,
         /// The deleted row is the kept one times this.
-        factor: Frac,
+        factor: NumberApart,
         /// The kept row's lower side before.
-        lower: Ext,
+        lower: EndApart,
         /// The kept row's upper side before.
-        upper: Ext,
+        upper: EndApart,
         /// The kept row's entries, by column id.
         entries: Terms,
     },
@@ -179,15 +179,15 @@ pub enum Undo {
         /// The column that was kept.
         kept: u32,
         /// The deleted column is the kept one times this.
-        factor: Frac,
+        factor: NumberApart,
         /// The deleted column's lower bound.
-        lower: Ext,
+        lower: EndApart,
         /// The deleted column's upper bound.
-        upper: Ext,
+        upper: EndApart,
         /// The kept column's lower bound before.
-        kept_lower: Ext,
+        kept_lower: EndApart,
         /// The kept column's upper bound before.
-        kept_upper: Ext,
+        kept_upper: EndApart,
     },
     /// K17: a column without entries was fixed where it costs least.
     EmptyColumn {

@@ -149,8 +149,8 @@ fn are_columns_on(undo: &Undo, columns: &[bool]) -> bool
             column,
             entries,
             ..
-        }
-        | Undo::SlackSingleton {
+        } => are_all_on(columns, *column, entries.as_slice()),
+        Undo::SlackSingleton {
             column,
             entries,
             ..

@@ -1,7 +1,7 @@
 use Rattle.command_line.specs.Line.{asked, texts}
 use Rattle.endings.specs.Moments.{Moment}
 use Rattle.papilo_cli.proofs.Quiet.{quiet}
-use Rattle.papilo_cli.proofs.Said.{presolve_printed, presolve_refused, check_refused, solution_refused, verdict_printed, postsolve_printed, postsolve_stopped, records_refused, point_refused, reduced_refused}
+use Rattle.papilo_cli.proofs.Said.{found_infeasible, presolve_printed, presolve_refused, status_known, check_refused, solution_refused, verdict_printed, postsolve_printed, postsolve_stopped, records_refused, point_refused, reduced_refused}
 use Rattle.papilo_cli.proofs.run.run.Goals as goal
 
 pub returns-in-Ok-clause-refused_text : goal.returns-in-Ok-clause-refused_text
@@ -101,3 +101,15 @@ returns-in-Ok-clause-presolved g c = λ names.
     let now : Moment = record { told = g.F.Files.told after; reads = g.F.Files.read_faults after; writes = g.F.Files.write_faults after; overlong = g.F.Files.overlong after } in
     presolve_printed (asked (texts c.args.words.now)) names c.ending_of-ending.result before now c.status.result c.text.result.now (g.S.Sink.taken c.args.out.now) (g.S.Sink.taken c.put.new.self)
     c.ending_of-ending.ensures.ends c.status.ensures c.text.ensures c.in-Ok.ensures.grown
+
+pub returns-in-Ok-clause-infeasible : goal.returns-in-Ok-clause-infeasible
+returns-in-Ok-clause-infeasible g c = λ names.
+    let files = c.args.files.now in
+    let after = c.ending_of-ending.new.files in
+    let before : Moment = record { told = g.F.Files.told files; reads = g.F.Files.read_faults files; writes = g.F.Files.write_faults files; overlong = g.F.Files.overlong files } in
+    let now : Moment = record { told = g.F.Files.told after; reads = g.F.Files.read_faults after; writes = g.F.Files.write_faults after; overlong = g.F.Files.overlong after } in
+    found_infeasible (asked (texts c.args.words.now)) names c.ending_of-ending.result before now c.status.result c.text.result.now (g.S.Sink.taken c.args.out.now) (g.S.Sink.taken c.put.new.self)
+    c.ending_of-ending.ensures.ends c.status.ensures c.text.ensures c.in-Ok.ensures.grown
+
+pub returns-in-Ok-clause-known : goal.returns-in-Ok-clause-known
+returns-in-Ok-clause-known g c = status_known c.ending_of-ending.result c.status.result c.status.ensures

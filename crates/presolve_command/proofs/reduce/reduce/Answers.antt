@@ -1,7 +1,5 @@
-use Rattle.std.proofs.Common.{◌∙◌}
+use Rattle.presolve_command.proofs.Made.{made_reduced}
 use Rattle.presolve_command.proofs.reduce.reduce.Goals as goal
 
-pub returns-in_ok-texts-in-Ok : goal.returns-in_ok-texts-in-Ok
-returns-in_ok-texts-in-Ok c =
-    let reduced = c.in_ok-texts-in-Ok.ensures in
-    (reduced.0, reduced.2, (c.in-Ok.ensures.read.0, reduced.1 ∙ c.in-Ok.ensures.read.1), reduced.3)
+pub returns-in-Ok : goal.returns-in-Ok
+returns-in-Ok c = made_reduced c.args.dialect c.args.limit c.args.text.now c.in-Ok.program c.reduce_program.result c.in-Ok.ensures.read c.reduce_program.ensures

@@ -1,22 +1,27 @@
 use Rattle.std.proofs.Common.{refl}
 use Rattle.mps_round_trip.proofs.Widths.{widths_fit}
+use Rattle.presolve_command.proofs.Made.{concluded_of, concluded_with}
 use Rattle.presolve_command.proofs.PlainKept.{reads_back}
-use Rattle.presolve_command.specs.Texts.{Outcome, Carries}
+use Rattle.presolve_command.specs.Texts.{Outcome}
 use Rattle.presolve_command.proofs.reduce.reduce_program.Goals as goal
 
-pub returns : goal.returns
-returns c =
-    let made = c.in_ok-presolved.presolved in
+pub returns-in_ok-texts-in-Ok-Reduced : goal.returns-in_ok-texts-in-Ok-Reduced
+returns-in_ok-texts-in-Ok-Reduced c =
+    let made = c.in-Ok-Reduced.made in
+    let concluded = concluded_of c.args.options.now c.args.program c.in-Ok-Reduced.field-0 made c.in-Ok-Reduced.field-0-is c.in-Ok-Reduced.ensures in
     let outcome : Outcome = record { source = c.args.program; program = made.program; records = made.records; report = c.report_for-report.result } in
-    let carries : Carries made.records c.args.program = record {
-      sense = c.in_ok-presolved.ensures.sense;
-      rows = c.in_ok-presolved.ensures.rows;
-      columns = c.in_ok-presolved.ensures.columns;
-    } in
     let counted = c.size_of-before.ensures in
-    let texts = c.in_ok-texts.ensures c.args.program (c.report_for-report.ensures c.args.program carries counted.rows counted.columns counted.entries) in
-    let ensures = c.in_ok-presolved.ensures in
-    (outcome, refl, texts, reads_back c.args.numbers outcome _ carries ensures.objective ensures.live_rows ensures.live_columns ensures.writable ensures.ascends texts.program_text)
+    let texts = c.in_ok-texts-in-Ok-Reduced.ensures c.args.program (c.report_for-report.ensures.told c.args.program counted.rows counted.columns counted.entries) in (
+      outcome,
+      refl,
+      record {
+        concluded = concluded_with c.args.options.now c.args.program made c.report_for-report.result.end c.report_for-report.ensures.end concluded;
+        texts = texts;
+        reads_back = reads_back c.args.options.now.numbers outcome _ concluded.names concluded.writable concluded.ascends texts.program_text;
+      },
+    )
 
 pub texts_of-requires : goal.texts_of-requires
-texts_of-requires c = widths_fit c.args.numbers c.in_ok-presolved.presolved.program c.in_ok-presolved.ensures.writable
+texts_of-requires c =
+    let concluded = concluded_of c.args.options.now c.args.program c.in-Ok-Reduced.field-0 c.in-Ok-Reduced.made c.in-Ok-Reduced.field-0-is c.in-Ok-Reduced.ensures in
+    widths_fit c.args.options.now.numbers c.in-Ok-Reduced.made.program concluded.writable

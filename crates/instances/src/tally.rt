@@ -1,0 +1,81 @@
+//! How often each bound of a column was tightened.
+
+ghost use Rattle.std.specs.Prelude.{◌≡◌, ◌+◌, ◌-◌, ◌<◌, ◌^◌, length, IfOk};
+ghost use Rattle.instances.specs.Counting.{count_on, counted, no_counts};
+
+use std::alloc::{AllocError, Global};
+use std::marker::Model;
+use undo_records::Side;
+
+/// How often the lower and the upper bound of each column were tightened.
+#[derive(Drop)]
+pub struct Tally {
+    lower: Vec<u32>,
+    upper: Vec<u32>,
+}
+
+impl Model for Tally {
+    ghost use Rattle.std.specs.Prelude.{◌≡◌, length};
+    ghost use Rattle.presolve_model.specs.Tallies.{Counts};
+
+    ghost Value = { Counts };
+
+    ghost view = { λ t. record { lower = t.lower.items; upper = t.upper.items } };
+
+    ghost invariant = { λ t. length t.upper.items ≡ length t.lower.items };
+}
+
+impl Tally {
+    /// No bound of so many columns was tightened.
+    pub fn new(alloc: Global, columns: u32) -> Result<Tally, AllocError>
+        ensures { IfOk result (λ tally. tally ≡ no_counts columns) }
+    {
+        let lower = vec![in alloc; 0; columns as usize]?;
+        let upper = vec![in alloc; 0; columns as usize]?;
+        Ok(Tally { lower, upper })
+    }
+
+    /// How many columns there are.
+    pub fn columns(&self) -> usize
+        ensures lower { result ≡ length self.now.lower }
+        ensures upper { result ≡ length self.now.upper }
+    {
+        self.lower.len()
+    }
+
+    /// How often a bound of a column was tightened; of a column past the last, 0.
+    pub fn count(&self, column: u32, side: Side) -> u32
+        ensures { result ≡ count_on self.now column side }
+    {
+        let counts = match side {
+            Side::Lower => &self.lower,
+            Side::Upper => &self.upper,
+        };
+        match counts.get(column as usize) {
+            Some(count) => *count,
+            None => 0,
+        }
+    }
+
+    /// A bound of a column was tightened once more.
+    pub fn add(&mut self, column: u32, side: Side)
+        requires there { column < length self.old.lower }
+        requires room { count_on self.old column side < 2 ^ 32 - 1 }
+        ensures { self.new ≡ counted self.old column side }
+    {
+        let place = column as usize;
+        match side {
+            Side::Lower => self.lower[place] += 1,
+            Side::Upper => self.upper[place] += 1,
+        }
+    }
+
+    /// An equal tally.
+    pub fn copy(&self, alloc: Global) -> Result<Tally, AllocError>
+        ensures { IfOk result (λ tally. tally ≡ self.now) }
+    {
+        let lower = Vec::from_slice(alloc, self.lower.as_slice())?;
+        let upper = Vec::from_slice(alloc, self.upper.as_slice())?;
+        Ok(Tally { lower, upper })
+    }
+}

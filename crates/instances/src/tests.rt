@@ -1,0 +1,205 @@
+//! Scans and readings of a small problem.
+
+ghost use Rattle.std.specs.Prelude.{◌≢◌, ◌↔◌, All, IfOk, IsTrue};
+ghost use Rattle.rational.specs.Number.{zero_ℚ};
+ghost use Rattle.lp_model.specs.Sparse.{Ascends};
+
+use crate::{Chunk, Differs, Reading, Tally, is_enabled, read, reading_for, scan, scan_at};
+use fractions::ext::Ext;
+use fractions::frac::Frac;
+use fractions::whole::Whole;
+use lp_model::{ColumnDef, Name, Program, RowDef, Sense, Term, Terms, names_differ};
+use presolve_model::{Instance, Part, Reduction, Rule, Verdict};
+use sparse_problem::Problem;
+use std::alloc::{AllocError, Global};
+use std::process::Abort;
+use std::test::Fail;
+use undo_records::Side;
+
+/// A number over another one.
+type Quotient = (i32, u32);
+
+/// A row's name, and its lower and upper side.
+const ROWS: [(&[u8], Option<Quotient>, Option<Quotient>); 3] = [
+    (b"C1", None, Some((4, 1))),
+    (b"C2", None, Some((1, 1))),
+    (b"C3", Some((2, 1)), Some((1, 1))),
+];
+
+/// A column's name, its bounds, and whether it is whole and stands in the first row.
+const COLUMNS: [(&[u8], Quotient, Option<Quotient>, bool); 4] = [
+    (b"w", (0, 1), Some((7, 2)), true),
+    (b"x", (3, 1), Some((3, 1)), false),
+    (b"y", (0, 1), None, false),
+    (b"z", (2, 1), Some((1, 1)), false),
+];
+
+/// Where each rule is enabled.
+const FOUND: [(Rule, &[u32]); 7] = [
+    (Rule::CrossedBounds, &[3]),
+    (Rule::CrossedSides, &[2]),
+    (Rule::EmptyRow, &[1]),
+    (Rule::SingletonRow, &[0]),
+    (Rule::FixedColumn, &[1]),
+    (Rule::RoundBounds, &[0]),
+    (Rule::EmptyColumn, &[2]),
+];
+
+fn number(rt: &impl Abort, (over, under): Quotient) -> Frac {
+    assert!(rt; under > 0);
+    Frac::ratio_of(Whole::new(i128::from(over)), u128::from(under))
+}
+
+fn end(rt: &impl Abort, end: Option<Quotient>) -> Ext {
+    match end {
+        None => Ext::none(),
+        Some(quotient) => Ext::at(number(rt, quotient)),
+    }
+}
+
+/// The rows.
+fn rows(rt: &impl Abort, alloc: Global) -> Result<Vec<RowDef>, AllocError> {
+    let mut rows = Vec::new(alloc);
+    for (name, lower, upper) in ROWS {
+        rows.push(RowDef {
+            name: Name::from_slice(alloc, name)?,
+            lower: end(rt, lower),
+            upper: end(rt, upper),
+        })?;
+    }
+    Ok(rows)
+}
+
+/// Whether a number can stand in a row.
+fn can_stand(value: &Frac) -> bool
+    ensures { IsTrue result ↔ (value.now ≢ zero_ℚ) }
+{
+    !value.is_zero()
+}
+
+/// One entry, in the first row.
+fn first_entry(rt: &impl Abort, alloc: Global) -> Result<Terms, AllocError>
+    ensures { IfOk result (Ascends 0 3) }
+{
+    let value = Frac::one();
+    assert!(rt; can_stand(&value));
+    let terms = Vec::from_slice(alloc, &[Term { id: 0, value }])?;
+    Ok(Terms::new(terms))
+}
+
+/// What stands in the rows.
+fn entries(rt: &impl Abort, alloc: Global, first: bool) -> Result<Terms, AllocError>
+    ensures { IfOk result (Ascends 0 3) }
+{
+    if first {
+        first_entry(rt, alloc)
+    } else {
+        Ok(Terms::empty(alloc))
+    }
+}
+
+/// The columns.
+fn columns(rt: &impl Abort, alloc: Global) -> Result<Vec<ColumnDef>, AllocError>
+    ensures { IfOk result (λ columns. All (λ column. Ascends 0 3 column.entries) columns.items) }
+{
+    let mut columns = Vec::new(alloc);
+    for (name, lower, upper, first) in COLUMNS {
+        let entries = entries(rt, alloc, first)?;
+        columns.push(ColumnDef {
+            name: Name::from_slice(alloc, name)?,
+            cost: Frac::one(),
+            lower: end(rt, Some(lower)),
+            upper: end(rt, upper),
+            whole: first,
+            entries,
+        })?;
+    }
+    Ok(columns)
+}
+
+fn small(rt: &impl Abort, alloc: Global) -> Result<Problem, AllocError> {
+    let rows = rows(rt, alloc)?;
+    let columns = columns(rt, alloc)?;
+    let objective = Name::from_slice(alloc, b"COST")?;
+    assert!(rt; names_differ(&objective, rows.as_slice(), columns.as_slice()));
+    assert!(rt; rows.len() == 3 && columns.len() == 4);
+    let program = Program::new(Sense::Min, objective, Frac::zero(), rows, columns);
+    Problem::from_program(alloc, &program)
+}
+
+/// The row or the column of an instance.
+fn id_of(instance: Instance) -> u32 {
+    match instance {
+        Instance::Reduction(Reduction::EmptyRow { row })
+        | Instance::Reduction(Reduction::SingletonRow { row })
+        | Instance::Verdict(Verdict::CrossedSides { row }) => row,
+        Instance::Reduction(Reduction::FixedColumn { column })
+        | Instance::Reduction(Reduction::RoundBounds { column })
+        | Instance::Reduction(Reduction::EmptyColumn { column })
+        | Instance::Verdict(Verdict::CrossedBounds { column }) => column,
+    }
+}
+
+#[test]
+fn scans_and_readings(rt: HostRuntime) -> Result<(), Fail> {
+    let alloc = rt.alloc();
+    let mut problem = small(&rt, alloc)?;
+    let tally = Tally::new(alloc, 4)?;
+    for (rule, ids) in FOUND {
+        let found = scan(alloc, &problem, &tally, 7, rule, Chunk::new(0))?;
+        assert_eq!(rt; found.len(), ids.len());
+        for (proposal, id) in found.iter().zip(ids) {
+            let instance = proposal.instance();
+            assert_eq!(rt; (id_of(instance), proposal.version()), (*id, 7));
+            assert!(rt; is_enabled(&problem, instance));
+            assert_eq!(rt; proposal.reading().agrees(&problem), Ok(()));
+            let again = reading_for(alloc, &problem, instance)?;
+            assert_eq!(rt; again.agrees(&problem), Ok(()));
+        }
+        let same = scan_at(alloc, &problem, 7, rule, &[0, 1, 2, 3])?;
+        assert_eq!(rt; same.len(), ids.len());
+        let past = scan(alloc, &problem, &tally, 7, rule, Chunk::new(u32::MAX))?;
+        assert_eq!(rt; past.len(), 0);
+    }
+    let found = scan(
+        alloc,
+        &problem,
+        &tally,
+        7,
+        Rule::SingletonRow,
+        Chunk::new(0),
+    )?;
+    assert!(rt; problem.is_row_live(0));
+    problem.set_sides(0, Ext::none(), Ext::at(Frac::one()));
+    for proposal in &found {
+        assert_eq!(rt;
+            proposal.reading().agrees(&problem),
+            Err(Differs { place: 1 })
+        );
+    }
+    let mut reads = Vec::new(alloc);
+    reads.push(read(alloc, &problem, Part::Sides(0))?)?;
+    assert_eq!(rt; Reading::of(reads).agrees(&problem), Ok(()));
+    Ok(())
+}
+
+#[test]
+fn tallies_and_chunks(rt: HostRuntime) -> Result<(), Fail> {
+    let alloc = rt.alloc();
+    let mut tally = Tally::new(alloc, 4)?;
+    tally.add(1, Side::Upper);
+    let copy = tally.copy(alloc)?;
+    assert_eq!(rt; copy.columns(), 4);
+    for (column, side, count) in [
+        (1, Side::Upper, 1),
+        (1, Side::Lower, 0),
+        (0, Side::Upper, 0),
+        (9, Side::Upper, 0),
+    ] {
+        assert_eq!(rt; copy.count(column, side), count);
+    }
+    for (ids, chunks) in [(0, 0), (1, 1), (1024, 1), (1025, 2)] {
+        assert_eq!(rt; Chunk::count(ids), chunks);
+    }
+    Ok(())
+}

@@ -1,0 +1,53 @@
+-- What is made of a text's program is made of the text.
+use Rattle.std.proofs.Common.{◌≡◌, ℕ, List, Result, Ok, Err, ◌∙◌, sym, subst}
+use Rattle.file_ports.specs.Ports.{Told, Gives}
+use Rattle.lp_model.specs.ProgramData.{ProgramData}
+use Rattle.lp_model.specs.Meaning.{meaning}
+use Rattle.lp_model.specs.Verdicts.{NoPoint}
+use Rattle.mps_profile.specs.declared.dialect.Dialect.{Dialect}
+use Rattle.endings.specs.Moments.{Reads}
+use Rattle.endings.specs.ProgramTexts.{IsProgramOf}
+use Rattle.endings.proofs.Earlier.{given_reads}
+use Rattle.presolve_rounds.specs.Conclusions.{Concluded, Concludes}
+use Rattle.presolve_rounds.specs.declared.outcome.End.{End}
+use Rattle.presolve_rounds.specs.declared.outcome.Options.{Options}
+use Rattle.presolve_rounds.specs.declared.outcome.Presolved.{Presolved}
+use Rattle.presolve_rounds.specs.declared.outcome.Presolved.TheVariants.{Reduced}
+use Rattle.presolve_rounds.specs.declared.outcome.ReducedProgram.{ReducedProgram}
+use Rattle.presolve_command.specs.declared.reduce.Texts.{Texts}
+use Rattle.presolve_command.specs.declared.reduce.NotReduced.{NotReduced}
+use Rattle.presolve_command.specs.declared.reduce.NotReduced.TheVariants.{Fault, Infeasible, NoMemory}
+use Rattle.presolve_command.specs.Texts.{HasNoPoint, IsMade, IsReduced, Outcome, options_for}
+
+pub made_reduced : (dialect : Dialect) (limit : ℕ) (text : List ℕ) (program : ProgramData) (r : Result Texts NotReduced)
+    → IsProgramOf dialect text program → IsMade (options_for dialect limit) program r → IsReduced dialect limit text r
+made_reduced dialect limit text program (Ok texts) read made = (made.0, (read.0, made.1 ∙ read.1), made.2)
+made_reduced dialect limit text program (Err (Fault fault)) read made = absurd made
+made_reduced dialect limit text program (Err Infeasible) read made = (read.0, subst (λ (p : ProgramData). NoPoint (meaning p)) read.1 made)
+made_reduced dialect limit text program (Err NoMemory) read made = tt
+
+-- what a read gave has a program without a feasible point: so has what is told
+pub no_point_read : (told : Told) (d e : Dialect) (held text : List ℕ) → Gives told held → d ≡ e → text ≡ held → HasNoPoint d text → Reads told (λ t. HasNoPoint e t)
+no_point_read told d e held text gives same is h =
+    let P : Dialect → Type 0 = λ x. HasNoPoint x text in
+    let Q : List ℕ → Type 0 = λ t. HasNoPoint e t in
+    given_reads told held Q gives (subst Q is (subst P same h))
+
+-- what was concluded as one dialect says was concluded as the same dialect says
+pub concluded_so : (o : Outcome) (limit : ℕ) {d e : Dialect} → d ≡ e → Concluded (options_for d limit) o.source o.program o.records o.report.end
+    → Concluded (options_for e limit) o.source o.program o.records o.report.end
+concluded_so o limit same h = subst (λ (x : Dialect). Concluded (options_for x limit) o.source o.program o.records o.report.end) same h
+
+-- what presolve says where it gives a reduced program
+pub concluded_of : (options : Options) (program : ProgramData) (p : Presolved) (made : ReducedProgram) → p ≡ Reduced made → Concludes options program p
+    → Concluded options program made.program made.records made.end
+concluded_of options program p made is h = subst (λ (x : Presolved). Concludes options program x) is h
+
+-- the same of an end that is told of it
+pub concluded_with : (options : Options) (program : ProgramData) (made : ReducedProgram) (ended : End) → ended ≡ made.end → Concluded options program made.program made.records made.end
+    → Concluded options program made.program made.records ended
+concluded_with options program made ended same h = subst (λ (x : End). Concluded options program made.program made.records x) (sym same) h
+
+-- what is said of a text where it is not reduced for want of a feasible point
+pub infeasible_said : (dialect : Dialect) (limit : ℕ) (text : List ℕ) (n : NotReduced) → n ≡ Infeasible → IsReduced dialect limit text (Err n) → HasNoPoint dialect text
+infeasible_said dialect limit text n is h = subst (λ (x : NotReduced). IsReduced dialect limit text (Err x)) is h

@@ -1,0 +1,87 @@
+-- What is concluded of a program whose book was closed.
+use Rattle.std.proofs.Common.{◌≡◌, ℕ, Bool, true, false, cond, List, [], ◌∷◌, length, Some, sym, refl, ap, ◌∙◌, subst, arith}
+use Rattle.std.specs.Prelude.{drop, slice_index_or}
+use Rattle.fractions.specs.declared.Numbers.{Numbers}
+use Rattle.lp_model.specs.ProgramData.{ProgramData}
+use Rattle.lp_model.specs.Writable.{EntriesAscend, Writable}
+use Rattle.undo_records.specs.declared.label.Label.{Label}
+use Rattle.undo_records.specs.Postsolve.{Postsolve}
+use Rattle.undo_records.specs.Walk.{lives}
+use Rattle.presolve_model.specs.declared.instance.Reduction.{Reduction}
+use Rattle.presolve_model.specs.declared.line.Line.{Line}
+use Rattle.presolve_model.specs.Changes.{changed}
+use Rattle.presolve_model.specs.Ledger.{Ledger, Stands}
+use Rattle.presolve_model.specs.Problems.{IsSparse}
+use Rattle.presolve_model.specs.Programs.{IsProblemOf, written_program}
+use Rattle.presolve_model.specs.Replay.{records, replay}
+use Rattle.presolve_model.specs.Sparse.{Sparse}
+use Rattle.presolve_model.specs.Stuck.{IsUndecided, skipped_on, Stuck}
+use Rattle.program_laws.specs.Chosen.{names_at}
+use Rattle.program_laws.proofs.Writing.{written_column_names, written_row_names}
+use Rattle.history_laws.proofs.Keeping.{sparse_replay}
+use Rattle.program_laws.specs.Shapes.{IsOf}
+use Rattle.history_laws.proofs.Walks.{walked_reduces}
+use Rattle.round_laws.specs.Telling.{are_live, IsToldOf, names_in}
+use Rattle.round_laws.proofs.Telling.{problem_is_of, program_ascends, program_written, walked}
+use Rattle.presolve_rounds.specs.declared.outcome.End.{End}
+use Rattle.presolve_rounds.specs.declared.outcome.End.TheVariants.{Fixpoint, LimitReached}
+use Rattle.presolve_rounds.specs.declared.outcome.Options.{Options}
+use Rattle.presolve_rounds.specs.Conclusions.{Concluded, live_names, TellsEnd}
+use Rattle.presolve_rounds.specs.Running.{EndsWith}
+
+-- ---- names
+-- the names of the live labels are those at the live lines
+pub live_names_kept : (labels : List Label) (lines : List Line) → lives labels ≡ are_live lines → live_names labels ≡ names_at (names_in labels) lines
+live_names_kept [] [] e = refl
+live_names_kept [] (y ∷ ys) e = refl
+live_names_kept (l ∷ ls) [] e = let a = ap length e in absurd (omega (arith, a))
+live_names_kept (l ∷ ls) (y ∷ ys) e = by l.live y.live (ap (λ bs. slice_index_or bs 0 false) e) (live_names_kept ls ys (ap (λ bs. drop 1 bs) e))
+  where
+    by : (a b : Bool) → a ≡ b → live_names ls ≡ names_at (names_in ls) ys → cond a (l.name ∷ live_names ls) (live_names ls) ≡ cond b (l.name ∷ names_at (names_in ls) ys) (names_at (names_in ls) ys)
+    by true true h r = ap (λ (ns : List (List ℕ)). l.name ∷ ns) r
+    by true false h r = absurd (let f = h in cc)
+    by false true h r = absurd (let f = h in cc)
+    by false false h r = r
+
+-- ---- ends
+records_long : (p : Sparse) (rs : List Reduction) → length (records p rs) ≡ length rs
+records_long p [] = refl
+records_long p (r ∷ rs) = let more = records_long (changed r p) rs in omega (arith, more)
+
+-- the options that a book was opened with
+abbrev options_of : Ledger → Options
+options_of b = record { numbers = b.numbers; limit = b.limit }
+
+end_told : (e : End) (b : Ledger) (applied : ℕ) (q : Sparse) → applied ≡ length b.history → q ≡ b.problem → EndsWith (Some e) b → TellsEnd e (options_of b) applied q
+end_told (Fixpoint n) b applied q long same h = (omega (arith, long, h.0), subst (Stuck b.numbers) (sym same) h.1, h.2 ∙ ap skipped_on (sym same))
+end_told LimitReached b applied q long same h = (long ∙ h.0, subst IsUndecided (sym same) h.1)
+
+undecided_at : (e : End) (b : Ledger) → EndsWith (Some e) b → IsUndecided b.problem
+undecided_at (Fixpoint n) b h = h.1.undecided
+undecided_at LimitReached b h = h.1
+
+-- ---- all of it
+pub concluded : (program : ProgramData) (b : Ledger) (told : Postsolve) (e : End) → EntriesAscend program → Writable b.numbers program → IsProblemOf program b.start → Stands b → EndsWith (Some e) b → IsToldOf program b told
+    → Concluded (record { numbers = b.numbers; limit = b.limit }) program (written_program program b.problem) told e
+concluded program b told e ascends writes o s h t =
+    let is : IsOf program b.problem = problem_is_of program b o s in
+    let sparse : IsSparse b.problem = subst IsSparse (sym s.problem) (sparse_replay b.numbers b.start b.history s.sound s.replays) in
+    record {
+      walked = walked program b told o s t;
+      reduces = walked_reduces b.numbers program (written_program program b.problem) told ascends (walked program b told o s t);
+      end = end_told e b (length told.undos) (replay b.start b.history) (ap length (t.undos ∙ s.records) ∙ records_long b.start b.history) (sym s.problem) h;
+      names = record {
+        sense = t.sense;
+        objective = refl;
+        rows = t.row_names;
+        columns = t.column_names;
+        live_rows = written_row_names program b.problem sparse is ∙ ap (λ (ns : List (List ℕ)). names_at ns b.problem.matrix.rows) (sym t.row_names) ∙ sym (live_names_kept told.rows b.problem.matrix.rows t.rows);
+        live_columns = written_column_names program b.problem sparse is ∙ ap (λ (ns : List (List ℕ)). names_at ns b.problem.matrix.columns) (sym t.column_names) ∙ sym (live_names_kept told.columns b.problem.matrix.columns t.columns);
+      };
+      ascends = program_ascends program b o s;
+      writable = program_written program b writes o s (undecided_at e b h);
+    }
+
+-- options with these numbers and this limit
+abbrev pub options_with : Numbers → ℕ → Options
+options_with numbers limit = record { numbers = numbers; limit = limit }

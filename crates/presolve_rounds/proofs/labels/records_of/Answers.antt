@@ -1,0 +1,32 @@
+use Rattle.std.proofs.Common.{length, sym, ap, ap₂, ◌∙◌}
+use Rattle.lp_model.specs.Names.{names_of_columns, names_of_rows}
+use Rattle.lp_theory.specs.Turning.{signed}
+use Rattle.undo_records.specs.Postsolve.{Postsolve}
+use Rattle.presolve_model.specs.Sparse.{Sparse}
+use Rattle.round_laws.specs.Telling.{are_live, IsToldOf}
+use Rattle.round_laws.proofs.Telling.{problem_is_of, told_sound}
+use Rattle.presolve_rounds.proofs.labels.records_of.Goals as goal
+
+pub row_labels-requires : goal.row_labels-requires
+row_labels-requires c =
+    ap length (c.rows-2.ensures ∙ ap (λ (p : Sparse). p.matrix.rows) c.problem.ensures)
+    ∙ (problem_is_of c.args.program.now c.args.book c.requires c.stands.ensures.stands).rows ∙ sym (ap length c.rows.ensures)
+
+pub column_labels-requires : goal.column_labels-requires
+column_labels-requires c =
+    ap length (c.columns-2.ensures ∙ ap (λ (p : Sparse). p.matrix.columns) c.problem-2.ensures)
+    ∙ (problem_is_of c.args.program.now c.args.book c.requires c.stands.ensures.stands).columns ∙ sym (ap length c.columns.ensures)
+
+pub new-requires : goal.new-requires
+new-requires c =
+    let told : Postsolve = record { sense = c.sense-2.result; columns = c.in_ok-columns.columns.items; rows = c.in_ok-rows.rows.items; offset = c.in_sense-offset.result; undos = c.close-ended.result.records.items } in
+    let is : IsToldOf c.args.program.now c.args.book told = record {
+      sense = c.sense-2.ensures;
+      undos = c.close-ended.ensures.records;
+      offset = c.in_sense-offset.ensures ∙ ap₂ (λ s q. signed s q) c.sense.ensures (c.offset.ensures ∙ ap (λ (p : Sparse). p.offset) c.problem-3.ensures);
+      row_names = c.in_ok-rows.ensures.names ∙ ap names_of_rows c.rows.ensures;
+      column_names = c.in_ok-columns.ensures.names ∙ ap names_of_columns c.columns.ensures;
+      rows = c.in_ok-rows.ensures.live ∙ ap are_live (c.rows-2.ensures ∙ ap (λ (p : Sparse). p.matrix.rows) c.problem.ensures);
+      columns = c.in_ok-columns.ensures.live ∙ ap are_live (c.columns-2.ensures ∙ ap (λ (p : Sparse). p.matrix.columns) c.problem-2.ensures);
+    } in
+    told_sound c.args.program.now c.args.book told c.requires c.stands.ensures.stands is

@@ -1,0 +1,22 @@
+use Rattle.std.proofs.Common.{length, sym, ap, ◌∙◌, subst}
+use Rattle.lp_model.specs.ProgramData.{ProgramData}
+use Rattle.presolve_model.specs.Programs.{written_program}
+use Rattle.presolve_model.specs.Sparse.{Sparse}
+use Rattle.round_laws.proofs.Telling.{problem_is_of}
+use Rattle.presolve_rounds.specs.Conclusions.{Concluded}
+use Rattle.presolve_rounds.proofs.Concluding.{concluded, options_with}
+use Rattle.presolve_rounds.proofs.reduce.reduced.Goals as goal
+
+pub to_program-requires-clause-rows : goal.to_program-requires-clause-rows
+to_program-requires-clause-rows c =
+    sym (ap (λ (p : Sparse). length p.matrix.rows) c.problem.ensures ∙ (problem_is_of c.args.program.now c.args.book c.requires.start c.stands.ensures.stands).rows)
+
+pub to_program-requires-clause-columns : goal.to_program-requires-clause-columns
+to_program-requires-clause-columns c =
+    sym (ap (λ (p : Sparse). length p.matrix.columns) c.problem.ensures ∙ (problem_is_of c.args.program.now c.args.book c.requires.start c.stands.ensures.stands).columns)
+
+pub returns : goal.returns
+returns c =
+    subst (λ (p : ProgramData). Concluded (options_with c.args.book.numbers c.args.book.limit) c.args.program.now p c.in_ok-records.records c.args.end)
+    (sym (c.in_ok-reduced.ensures ∙ ap (written_program c.args.program.now) c.problem.ensures))
+    (concluded c.args.program.now c.args.book c.in_ok-records.records c.args.end c.requires.ascends c.requires.writable c.requires.start c.stands.ensures.stands c.requires.end c.in_ok-records.ensures)

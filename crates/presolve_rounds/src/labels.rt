@@ -1,0 +1,63 @@
+//! The records of what was reduced.
+
+ghost use Rattle.std.specs.Prelude.{◌≡◌, length, IfOk};
+ghost use Rattle.lp_model.specs.Names.{names_of_columns, names_of_rows};
+ghost use Rattle.undo_records.specs.Walk.{lives};
+ghost use Rattle.presolve_model.specs.Programs.{IsProblemOf};
+ghost use Rattle.round_laws.specs.Telling.{are_live, IsToldOf, names_in};
+
+use lp_model::{ColumnDef, Program, RowDef};
+use presolve_model::Line;
+use sparse_problem::in_sense;
+use std::alloc::{AllocError, Global};
+use txn_book::Book;
+use undo_records::{Label, Records};
+
+/// The names of the rows, and which are live.
+fn row_labels(alloc: Global, rows: &[RowDef], lines: &[Line]) -> Result<Vec<Label>, AllocError>
+    requires { length lines.now ≡ length rows.now }
+    ensures names { IfOk result (λ labels. names_in labels.items ≡ names_of_rows rows.now) }
+    ensures live { IfOk result (λ labels. lives labels.items ≡ are_live lines.now) }
+{
+    let mut labels = Vec::with_capacity(alloc, rows.len())?;
+    for i in 0..rows.len() {
+        labels.push(Label {
+            name: rows[i].name.copy(alloc)?,
+            live: lines[i].live,
+        })?;
+    }
+    Ok(labels)
+}
+
+/// The names of the columns, and which are live.
+fn column_labels(
+    alloc: Global,
+    columns: &[ColumnDef],
+    lines: &[Line],
+) -> Result<Vec<Label>, AllocError>
+    requires { length lines.now ≡ length columns.now }
+    ensures names { IfOk result (λ labels. names_in labels.items ≡ names_of_columns columns.now) }
+    ensures live { IfOk result (λ labels. lives labels.items ≡ are_live lines.now) }
+{
+    let mut labels = Vec::with_capacity(alloc, columns.len())?;
+    for j in 0..columns.len() {
+        labels.push(Label {
+            name: columns[j].name.copy(alloc)?,
+            live: lines[j].live,
+        })?;
+    }
+    Ok(labels)
+}
+
+/// The records of a book that was opened with a program's problem.
+pub fn records_of(alloc: Global, program: &Program, book: Book) -> Result<Records, AllocError>
+    requires { IsProblemOf program.now book.start }
+    ensures { IfOk result (IsToldOf program.now book) }
+{
+    book.stands();
+    let rows = row_labels(alloc, program.rows(), book.problem().rows())?;
+    let columns = column_labels(alloc, program.columns(), book.problem().columns())?;
+    let offset = in_sense(program.sense(), &book.problem().offset());
+    let ended = book.close();
+    Ok(Records::new(program.sense(), columns, rows, offset, ended.records))
+}

@@ -1,7 +1,0 @@
-use Rattle.std.proofs.Common.{◌≡◌, [], take}
-use Rattle.presolve_model.specs.Matrices.{live_only}
-use Rattle.problem_parts.proofs.lines.first_live.Given as goal
-
--- none of the terms so far is live
-abbrev pub invariant-loop-term : goal.invariant-loop-term
-invariant-loop-term l = live_only l.others (take l.term-index l.terms) ≡ []

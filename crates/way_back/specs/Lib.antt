@@ -1,0 +1,2 @@
+pub mod ComingBack
+pub mod Laws

@@ -1,0 +1,5 @@
+pub mod Numbers
+pub mod Naming
+pub mod Words
+pub mod Fitting
+pub mod Whole

@@ -1,0 +1,50 @@
+-- The laws of the whole way.
+use Rattle.std.specs.Prelude.{ℕ, List}
+use Rattle.rational.specs.Number.{Number}
+use Rattle.lp_model.specs.LinearProgram.{Feasible}
+use Rattle.lp_model.specs.Meaning.{meaning}
+use Rattle.lp_model.specs.ProgramData.{ProgramData}
+use Rattle.lp_model.specs.Vectors.{vector_of}
+use Rattle.undo_records.specs.Postsolve.{Postsolve}
+use Rattle.mps_writer.specs.MpsText.{mps_text}
+use Rattle.mps_round_trip.specs.Plain.{Plain}
+use Rattle.record_file.specs.RecordText.{record_text}
+use Rattle.record_round_trip.specs.Ranges.{HasRange}
+use Rattle.presolve_rounds.specs.Conclusions.{Concluded}
+use Rattle.presolve_rounds.specs.declared.outcome.End.{End}
+use Rattle.presolve_rounds.specs.declared.outcome.Options.{Options}
+use Rattle.way_back.specs.ComingBack.{ComesBack, IsBest}
+use Rattle.whole_way.specs.Texts.{IsProgramText, IsRecordText, IsSolutionText, PostsolveWrites, PresolveWrites, TextsFit}
+
+-- what presolve writes of its reduced program and its records is read as these
+abbrev pub TextsComeBack : Type 0
+TextsComeBack = (options : Options) (program reduced : ProgramData) (told : Postsolve) (ended : End)
+    → Concluded options program reduced told ended
+    → Plain program
+    → HasRange told
+    → TextsFit reduced told (mps_text reduced) (record_text told)
+
+-- Presolve reduces a program, and writes the reduced program's text `out` and the text of records `undoing`. They are read as a program
+-- and records. The text `solution` is read as a point that is feasible for the program that was read, and postsolve writes as `result` what
+-- the records make of that point. Then `result` is read as a point that is feasible for the program that presolve began with, and costs
+-- the offset more.
+abbrev pub ComesBackWhole : Type 0
+ComesBackWhole = (options : Options) (program read : ProgramData) (told : Postsolve) (point : List Number) (out undoing solution result : List ℕ)
+    → PresolveWrites options program out undoing
+    → IsProgramText out read
+    → IsRecordText undoing told
+    → IsSolutionText read solution point
+    → Feasible (meaning read) (vector_of point)
+    → PostsolveWrites told point result
+    → (back : List Number) × IsSolutionText program result back × ComesBack program read told.offset point back
+
+-- the same of a best point: if the solution is a best point of the reduced program, the result is one of the program
+abbrev pub BestComesBackWhole : Type 0
+BestComesBackWhole = (options : Options) (program read : ProgramData) (told : Postsolve) (point : List Number) (out undoing solution result : List ℕ)
+    → PresolveWrites options program out undoing
+    → IsProgramText out read
+    → IsRecordText undoing told
+    → IsSolutionText read solution point
+    → IsBest read.sense (meaning read) (vector_of point)
+    → PostsolveWrites told point result
+    → (back : List Number) × IsSolutionText program result back × IsBest program.sense (meaning program) (vector_of back)

@@ -1,0 +1,72 @@
+-- The texts that pass from a presolve to a solver and to a postsolve.
+use Rattle.std.specs.Prelude.{◌≡◌, ◌≢◌, ℕ, List, codes, None, All}
+use Rattle.rational.specs.Number.{Number}
+use Rattle.rational.specs.Lowest.{Fits}
+use Rattle.fractions.specs.declared.Numbers.TheVariants.{Fractions}
+use Rattle.lp_model.specs.Names.{names_of_columns}
+use Rattle.lp_model.specs.ProgramData.{ProgramData}
+use Rattle.undo_records.specs.Postsolve.{Postsolve}
+use Rattle.mps_profile.specs.Reading as programs
+use Rattle.mps_profile.specs.Program.{program_of}
+use Rattle.mps_writer.specs.MpsText.{mps_text}
+use Rattle.mps_written_lines.specs.Formats.{free_format}
+use Rattle.mps_round_trip.specs.Plain.{Plain}
+use Rattle.point_text.specs.Reading as solutions
+use Rattle.point_text.specs.SolutionText.{solution_text}
+use Rattle.record_file.specs.RecordText as files
+use Rattle.record_reader.specs.Matching.{Matches}
+use Rattle.record_reader.specs.Reading as records
+use Rattle.record_round_trip.specs.Ranges.{HasRange}
+use Rattle.round_laws.specs.Telling.{names_in}
+use Rattle.presolve_rounds.specs.Conclusions.{Concluded}
+use Rattle.presolve_rounds.specs.declared.outcome.End.{End}
+use Rattle.presolve_rounds.specs.declared.outcome.Options.{Options}
+use Rattle.way_back.specs.ComingBack.{IsUndone}
+
+-- ---- what texts give
+-- a text in free format, read with fractions, has no fault, and is that of this program
+pub record IsProgramText (text : List ℕ) (program : ProgramData) : Type 0 where
+  pub sound : programs.first_fault (free_format Fractions) text ≡ None
+  pub same : program_of (free_format Fractions) text ≡ program
+
+-- a text of records has no fault, and gives these
+pub record IsRecordText (text : List ℕ) (told : Postsolve) : Type 0 where
+  pub sound : records.first_fault text ≡ None
+  pub same : records.records_of text ≡ told
+
+-- a text of a solution has no fault for the program's columns, and gives them these numbers
+pub record IsSolutionText (program : ProgramData) (text : List ℕ) (point : List Number) : Type 0 where
+  pub sound : solutions.first_fault (names_of_columns program.columns) text ≡ None
+  pub same : solutions.point_of (names_of_columns program.columns) text ≡ point
+
+-- ---- what is written
+-- not one of the words that a solution's text has for the objective's value and for duals
+abbrev pub IsUnmarked : List ℕ → Type 0
+IsUnmarked name = (name ≢ codes "=obj=") × (name ≢ codes "=duals=")
+
+-- Presolve concluded with a reduced program and records, and wrote their texts, `out` and `undoing`. The program's names can be written,
+-- and its columns' names also in a solution's text; the records' ids and numbers have room, as all values of their type do.
+pub record PresolveWrites (options : Options) (program : ProgramData) (out undoing : List ℕ) : Type 0 where
+  pub reduced : ProgramData
+  pub told : Postsolve
+  pub ended : End
+  pub concluded : Concluded options program reduced told ended
+  pub plain : Plain program
+  pub unmarked : All IsUnmarked (names_of_columns program.columns)
+  pub range : HasRange told
+  pub program_text : out ≡ mps_text reduced
+  pub records_text : undoing ≡ files.record_text told
+
+-- Postsolve undid the records at a point, and wrote the lifted point by the names of the original columns. Its numbers have room, as all
+-- values of their type do.
+pub record PostsolveWrites (told : Postsolve) (point : List Number) (result : List ℕ) : Type 0 where
+  pub lifted : List Number
+  pub undone : IsUndone told point lifted
+  pub fits : All Fits lifted
+  pub text : result ≡ solution_text (names_in told.columns) lifted
+
+-- the texts are read as this program and these records, and the records are those of the program
+pub record TextsFit (reduced : ProgramData) (told : Postsolve) (out undoing : List ℕ) : Type 0 where
+  pub program_text : IsProgramText out reduced
+  pub records_text : IsRecordText undoing told
+  pub matches : Matches told reduced
