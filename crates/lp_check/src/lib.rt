@@ -14,6 +14,3 @@ mod verdicts;
 
 pub use judging::check;
 pub use verdicts::{Item, Limit, Verdict};
-
-#[cfg(test)]
-mod tests;

@@ -11,6 +11,3 @@ pub mod terms;
 pub use assembly::{Definitions, Parts, assemble, define};
 pub use columns::ColumnTables;
 pub use rows::RowTables;
-
-#[cfg(test)]
-mod tests;

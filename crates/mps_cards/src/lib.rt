@@ -8,5 +8,3 @@ mod free_cards;
 pub mod items;
 pub mod lines;
 pub mod split_line;
-#[cfg(test)]
-mod tests;

@@ -6,8 +6,6 @@ pub mod laws;
 pub mod limits;
 pub mod numerals;
 pub mod sides;
-#[cfg(test)]
-mod tests;
 
 pub use limits::read_limit;
 pub use numerals::read_number;

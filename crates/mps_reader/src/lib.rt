@@ -4,8 +4,6 @@
 mod faults;
 mod reader;
 mod reading;
-#[cfg(test)]
-mod tests;
 
 pub use faults::{MpsError, MpsFault};
 pub use mps_profile::MpsFaultKind;

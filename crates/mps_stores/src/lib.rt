@@ -6,6 +6,3 @@ pub mod single_row;
 
 pub use all_rows::RowEntries;
 pub use single_row::{Entry, Row};
-
-#[cfg(test)]
-mod tests;

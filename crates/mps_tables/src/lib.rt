@@ -12,8 +12,6 @@ mod side_cards;
 pub mod slots;
 pub mod tables;
 mod taking;
-#[cfg(test)]
-mod tests;
 mod words;
 
 pub use faults::Stop;

@@ -6,8 +6,6 @@ mod cards;
 mod columns;
 mod error;
 mod rows;
-#[cfg(test)]
-mod tests;
 mod writing;
 
 pub use error::WriteError;

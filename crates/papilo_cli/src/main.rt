@@ -1,10 +1,8 @@
 //! An exact presolver for linear and mixed-integer programs in the MPS format.
 #![tactic(auto)]
 
-mod run;
-
 use file_ports::{HostFiles, HostOut};
-use run::run;
+use papilo::run::run;
 use std::process::ExitCode;
 use std::{env, io};
 use worker_gate::OpenGate;
@@ -22,6 +20,3 @@ fn main(rt: HostRuntime) -> ExitCode {
     let mut out = HostOut::new(io::writer(&rt));
     ExitCode::from(run(&rt, alloc, &words, &mut files, &mut out, &OpenGate))
 }
-
-#[cfg(test)]
-mod tests;

@@ -5,8 +5,6 @@ mod faults;
 mod laws;
 mod reading;
 mod solution_lines;
-#[cfg(test)]
-mod tests;
 mod values;
 mod writing;
 

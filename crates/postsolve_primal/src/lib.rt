@@ -11,6 +11,3 @@ mod undo;
 
 pub use buffer::PointBuf;
 pub use lifting::{Stop, lift};
-
-#[cfg(test)]
-mod tests;

@@ -8,8 +8,6 @@ mod looks;
 mod outcome;
 mod reduce;
 mod rounds;
-#[cfg(test)]
-mod tests;
 
 pub use outcome::{End, Options, Presolved, ReducedProgram};
 pub use reduce::presolve;

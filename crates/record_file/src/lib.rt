@@ -3,8 +3,6 @@
 
 mod fields;
 mod sections;
-#[cfg(test)]
-mod tests;
 mod words;
 mod writing;
 

@@ -10,8 +10,6 @@ mod labels;
 mod matching;
 mod reading;
 mod stages;
-#[cfg(test)]
-mod tests;
 mod text_lines;
 
 pub use faults::{RecordError, RecordFault, RecordFaultKind};

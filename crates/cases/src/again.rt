@@ -1,0 +1,67 @@
+//! Texts that are read and written again.
+
+use crate::shown;
+use anyhow::{Result, anyhow, ensure};
+use fractions::Numbers;
+use mps_profile::dialect::{Dialect, Format};
+use mps_reader::{MpsError, read_mps};
+use mps_writer::write_mps;
+use record_file::write_records;
+use record_reader::{RecordError, read_records};
+use std::str;
+
+/// A format and numbers by their words.
+pub fn dialect(words: &str) -> Result<Dialect> {
+    let (format, numbers) = match words {
+        "free decimal" => (Format::Free, Numbers::Decimal),
+        "free fractions" => (Format::Free, Numbers::Fractions),
+        "fixed decimal" => (Format::Fixed, Numbers::Decimal),
+        "fixed fractions" => (Format::Fixed, Numbers::Fractions),
+        _ => return Err(anyhow!("an unknown dialect")),
+    };
+    Ok(Dialect { format, numbers })
+}
+
+/// Reads the program of a text and writes it, or prints the text's first fault.
+pub fn program(rt: &HostRuntime, bytes: &[u8], dialect: Dialect) -> Result<()> {
+    ensure!(bytes.len() < 1 << 32, "a text that is too long");
+    match read_mps(rt.alloc(), bytes, dialect) {
+        Ok(program) => shown::text(rt, &write_mps(rt.alloc(), &program)?),
+        Err(MpsError::Fault(fault)) => {
+            let number = fault.kind.number();
+            let line = fault.line;
+            println!(rt; "error M{number} line {line}")?;
+            Ok(())
+        }
+        Err(MpsError::NoMemory) => Err(anyhow!("no memory")),
+    }
+}
+
+/// Reads the records of a text and writes them, or prints the text's first fault.
+pub fn records(rt: &HostRuntime, bytes: &[u8]) -> Result<()> {
+    ensure!(bytes.len() < 1 << 40, "a text that is too long");
+    match read_records(rt.alloc(), bytes) {
+        Ok(records) => shown::text(rt, &write_records(rt.alloc(), &records)?),
+        Err(RecordError::Fault(fault)) => {
+            let number = fault.kind.number();
+            let line = fault.line;
+            println!(rt; "error F{number} line {line}")?;
+            Ok(())
+        }
+        Err(RecordError::NoMemory) => Err(anyhow!("no memory")),
+    }
+}
+
+/// Prints what a word is as a number: its written form, or why it is none.
+pub fn number(rt: &HostRuntime, word: &str, numbers: Numbers) -> Result<()> {
+    match number_texts::read(word.as_bytes(), numbers) {
+        Ok(number) => {
+            let text = number_texts::write(rt.alloc(), &number)?;
+            let text = str::from_utf8(&text)?;
+            print!(rt; "{text}")?;
+        }
+        Err(number_texts::ReadNumber::NotNumber) => print!(rt; "no number")?,
+        Err(number_texts::ReadNumber::NumberPast) => print!(rt; "past")?,
+    }
+    Ok(())
+}

@@ -1,0 +1,38 @@
+//! Cases of the whole presolver as data: a script on standard input says what files hold in memory and what the program is asked, and
+//! status, printed text and files are printed for each run.
+//!
+//! A line of the script begins with one of these words:
+//! - `case TITLE`: a new case; no file, no fault and no word of the one before stays
+//! - `file NAME`: a file that may not be written; the lines that follow are its text
+//! - `folder NAME PATH`: the same, with the bytes of a file of the folder that the program runs in
+//! - `stars NAME N`: the same, with N bytes `*`
+//! - `room NAME N`: a file that is missing and takes up to N bytes
+//! - `fail reads N`, `fail writes N`, `fail puts N`: the Nth call fails
+//! - `run WORD ..`: runs the presolver with these words
+//! - `program NAME FORMAT NUMBERS`: reads the program of a file's text, and writes it
+//! - `records NAME`: reads the records of a file's text, and writes them
+//! - `each NAME TAIL`: the last of these three again for each line that follows, as if the line, and then the tail, stood behind the
+//!   text of that file
+//! - `begin NAME`: the last of these three again for each proper beginning of the text of that file
+//! - `numbers`: reads each line that follows as a number, decimal and as a fraction, and writes it
+//!
+//! A line of text has `|` in front, or `>` where no line feed ends it. Lines that begin with `#`, and empty ones, are for the reader.
+#![tactic(auto)]
+
+mod again;
+mod request;
+mod runs;
+mod script;
+mod shown;
+
+use anyhow::Result;
+use script::Script;
+
+fn main(rt: HostRuntime) -> Result<()> {
+    let mut script = Script::new(rt.alloc());
+    for line in rt.lines(rt.alloc()) {
+        let line = line?;
+        script.take(&rt, line.as_str())?;
+    }
+    Ok(())
+}

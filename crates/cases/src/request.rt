@@ -1,0 +1,30 @@
+//! What is asked of the files of a case.
+
+use crate::again;
+use crate::runs::Case;
+use anyhow::{Result, anyhow};
+use mps_profile::dialect::Dialect;
+
+/// A request; files are named by their places.
+#[derive(Clone, Copy)]
+pub enum Request {
+    Nothing,
+    /// A run of the presolver with the case's words.
+    Run,
+    /// The program of a text, written.
+    Program(usize, Dialect),
+    /// The records of a text, written.
+    Records(usize),
+}
+
+impl Request {
+    /// Prints the answer.
+    pub fn answer(&self, rt: &HostRuntime, case: &Case) -> Result<()> {
+        match *self {
+            Request::Nothing => Err(anyhow!("nothing is asked")),
+            Request::Run => case.run(rt),
+            Request::Program(place, dialect) => again::program(rt, case.bytes_at(place)?, dialect),
+            Request::Records(place) => again::records(rt, case.bytes_at(place)?),
+        }
+    }
+}

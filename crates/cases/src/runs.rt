@@ -1,0 +1,114 @@
+//! The files, faults and words of a case, and what runs of it print.
+
+use crate::shown;
+use anyhow::{Context, Result, ensure};
+use file_ports::{Held, MemFiles, MemSink, names_differ};
+use papilo::run::run;
+use std::alloc::{AllocError, Global};
+use worker_gate::OpenGate;
+
+/// The most bytes that a run may print.
+const PRINTED: u64 = 1_000_000;
+
+/// Files in memory, the numbers of the calls that fail, and the words of the last run.
+#[derive(Drop)]
+pub struct Case {
+    pub held: Vec<Held>,
+    pub reads: Vec<u64>,
+    pub writes: Vec<u64>,
+    pub puts: Vec<u64>,
+    words: Vec<String>,
+}
+
+impl Case {
+    pub fn new(alloc: Global) -> Case {
+        Case {
+            held: Vec::new(alloc),
+            reads: Vec::new(alloc),
+            writes: Vec::new(alloc),
+            puts: Vec::new(alloc),
+            words: Vec::new(alloc),
+        }
+    }
+
+    /// Puts a file behind the others.
+    pub fn put(
+        &mut self,
+        alloc: Global,
+        name: &str,
+        bytes: Option<Vec<u8>>,
+        room: Option<u64>,
+    ) -> Result<(), AllocError> {
+        let name = String::from_str(alloc, name)?;
+        self.held.push(Held { name, bytes, room })?;
+        Ok(())
+    }
+
+    /// The place of a file.
+    pub fn place(&self, name: &str) -> Result<usize> {
+        self.held
+            .iter()
+            .position(|one| one.name.as_str() == name)
+            .context("no such file")
+    }
+
+    /// The bytes of a file.
+    pub fn bytes(&self, name: &str) -> Result<&[u8]> {
+        self.bytes_at(self.place(name)?)
+    }
+
+    /// The bytes of the file at a place.
+    pub fn bytes_at(&self, place: usize) -> Result<&[u8]> {
+        let one = self.held.get(place).context("no such file")?;
+        let bytes = one.bytes.as_ref().context("a file that is missing")?;
+        Ok(bytes.as_slice())
+    }
+
+    /// Puts bytes behind those that a file holds.
+    pub fn extend(&mut self, place: usize, bytes: &[u8]) -> Result<()> {
+        let one = self.held.get_mut(place).context("no such file")?;
+        let text = one.bytes.as_mut().context("a file that is missing")?;
+        text.extend_from_slice(bytes)?;
+        Ok(())
+    }
+
+    /// Leaves the first bytes of those that a file holds.
+    pub fn cut(&mut self, place: usize, length: usize) -> Result<()> {
+        let one = self.held.get_mut(place).context("no such file")?;
+        let text = one.bytes.as_mut().context("a file that is missing")?;
+        text.truncate(length);
+        Ok(())
+    }
+
+    /// Takes the words of a run, without the program's name.
+    pub fn ask(&mut self, alloc: Global, words: &str) -> Result<(), AllocError> {
+        self.words.clear();
+        self.words.push(String::from_str(alloc, "papilo")?)?;
+        for word in words.split_whitespace() {
+            self.words.push(String::from_str(alloc, word)?)?;
+        }
+        Ok(())
+    }
+
+    /// Runs the presolver, and prints its status, its text and the files that may be written.
+    pub fn run(&self, rt: &HostRuntime) -> Result<()> {
+        let alloc = rt.alloc();
+        ensure!(names_differ(&self.held), "a file named twice");
+        let mut files = MemFiles::new(alloc, &self.held, &self.reads, &self.writes)?;
+        let mut out = MemSink::new(alloc, PRINTED, &self.puts)?;
+        let status = run(rt, alloc, &self.words, &mut files, &mut out, &OpenGate);
+        println!(rt; "status {status}")?;
+        shown::text(rt, out.taken())?;
+        for one in self.held.iter().filter(|one| one.room.is_some()) {
+            let name = one.name.as_str();
+            match files.bytes(name) {
+                Some(bytes) => {
+                    println!(rt; "{name}")?;
+                    shown::text(rt, bytes)?;
+                }
+                None => println!(rt; "{name}: nothing told")?,
+            }
+        }
+        Ok(())
+    }
+}

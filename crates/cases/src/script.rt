@@ -1,0 +1,203 @@
+//! The script, line by line.
+
+use crate::again;
+use crate::request::Request;
+use crate::runs::Case;
+use anyhow::{Context, Result, anyhow};
+use fractions::Numbers;
+use std::alloc::Global;
+use std::fs;
+
+/// What a line of text is taken for.
+#[derive(Clone, Copy)]
+enum Text {
+    /// It is put behind the text of the file at this place.
+    Of(usize),
+    /// The last request, with the line behind the text of the file at this place.
+    Each(usize),
+    /// A number.
+    Number,
+    /// No text is expected.
+    Nothing,
+}
+
+/// A script as far as it was read.
+#[derive(Drop)]
+pub struct Script {
+    alloc: Global,
+    case: Case,
+    request: Request,
+    /// What stands behind each line of `each`.
+    tail: String,
+    text: Text,
+}
+
+impl Script {
+    pub fn new(alloc: Global) -> Script {
+        Script {
+            alloc,
+            case: Case::new(alloc),
+            request: Request::Nothing,
+            tail: String::new(alloc),
+            text: Text::Nothing,
+        }
+    }
+
+    /// Takes the next line.
+    pub fn take(&mut self, rt: &HostRuntime, line: &str) -> Result<()> {
+        if let Some(text) = line.strip_prefix('|') {
+            return self.text(rt, text, "\n");
+        }
+        if let Some(text) = line.strip_prefix('>') {
+            return self.text(rt, text, "");
+        }
+        if line.is_empty() || line.starts_with('#') {
+            return Ok(());
+        }
+        let (verb, rest) = line.split_once(' ').unwrap_or((line, ""));
+        self.command(rt, verb, rest)
+    }
+
+    fn command(&mut self, rt: &HostRuntime, verb: &str, rest: &str) -> Result<()> {
+        self.text = Text::Nothing;
+        match verb {
+            "case" => self.begin_case(rt, rest),
+            "file" => self.file(rest),
+            "folder" => self.folder(rt, rest),
+            "stars" => self.stars(rest),
+            "room" => self.room(rest),
+            "fail" => self.fail(rest),
+            "run" => self.run(rt, rest),
+            "each" => self.each(rest),
+            "begin" => self.beginnings(rt, rest),
+            "program" => self.program(rt, rest),
+            "records" => self.records(rt, rest),
+            "numbers" => {
+                self.text = Text::Number;
+                Ok(())
+            }
+            _ => Err(anyhow!("an unknown word {verb}")),
+        }
+    }
+
+    fn begin_case(&mut self, rt: &HostRuntime, title: &str) -> Result<()> {
+        self.case = Case::new(self.alloc);
+        println!(rt; "== {title}")?;
+        Ok(())
+    }
+
+    fn file(&mut self, name: &str) -> Result<()> {
+        let place = self.case.held.len();
+        let bytes = Vec::new(self.alloc);
+        self.case.put(self.alloc, name, Some(bytes), None)?;
+        self.text = Text::Of(place);
+        Ok(())
+    }
+
+    fn folder(&mut self, rt: &HostRuntime, rest: &str) -> Result<()> {
+        let (name, path) = rest.split_once(' ').context("a name and a path")?;
+        let bytes = fs::read(rt, path)?;
+        self.case.put(self.alloc, name, Some(bytes), None)?;
+        Ok(())
+    }
+
+    fn stars(&mut self, rest: &str) -> Result<()> {
+        let (name, count) = rest.split_once(' ').context("a name and a number")?;
+        let count = count.parse::<u32>()?;
+        let bytes = vec![in self.alloc; b'*'; count as usize]?;
+        self.case.put(self.alloc, name, Some(bytes), None)?;
+        Ok(())
+    }
+
+    fn room(&mut self, rest: &str) -> Result<()> {
+        let (name, room) = rest.split_once(' ').context("a name and a number")?;
+        let room = room.parse::<u64>()?;
+        self.case.put(self.alloc, name, None, Some(room))?;
+        Ok(())
+    }
+
+    fn fail(&mut self, rest: &str) -> Result<()> {
+        let (which, number) = rest.split_once(' ').context("a kind and a number")?;
+        let number = number.parse::<u64>()?;
+        let calls = match which {
+            "reads" => &mut self.case.reads,
+            "writes" => &mut self.case.writes,
+            "puts" => &mut self.case.puts,
+            _ => return Err(anyhow!("an unknown call {which}")),
+        };
+        calls.push(number)?;
+        Ok(())
+    }
+
+    fn run(&mut self, rt: &HostRuntime, words: &str) -> Result<()> {
+        println!(rt; "$ {words}")?;
+        self.case.ask(self.alloc, words)?;
+        self.request = Request::Run;
+        self.request.answer(rt, &self.case)
+    }
+
+    fn each(&mut self, rest: &str) -> Result<()> {
+        let (name, tail) = rest.split_once(' ').unwrap_or((rest, ""));
+        self.tail = String::from_str(self.alloc, tail)?;
+        self.text = Text::Each(self.case.place(name)?);
+        Ok(())
+    }
+
+    /// The last request, with each proper beginning of a text, from the longest on.
+    fn beginnings(&mut self, rt: &HostRuntime, name: &str) -> Result<()> {
+        let place = self.case.place(name)?;
+        let length = self.case.bytes(name)?.len();
+        for less in 0..length {
+            let left = length - less - 1;
+            self.case.cut(place, left)?;
+            print!(rt; "{left}: ")?;
+            self.request.answer(rt, &self.case)?;
+        }
+        Ok(())
+    }
+
+    fn program(&mut self, rt: &HostRuntime, rest: &str) -> Result<()> {
+        let (name, dialect) = rest.split_once(' ').context("a name and a dialect")?;
+        let place = self.case.place(name)?;
+        self.request = Request::Program(place, again::dialect(dialect)?);
+        self.request.answer(rt, &self.case)
+    }
+
+    fn records(&mut self, rt: &HostRuntime, name: &str) -> Result<()> {
+        self.request = Request::Records(self.case.place(name)?);
+        self.request.answer(rt, &self.case)
+    }
+
+    fn text(&mut self, rt: &HostRuntime, text: &str, end: &str) -> Result<()> {
+        match self.text {
+            Text::Of(place) => {
+                self.case.extend(place, text.as_bytes())?;
+                self.case.extend(place, end.as_bytes())
+            }
+            Text::Each(place) => self.answer_with(rt, place, text, end),
+            Text::Number => number(rt, text),
+            Text::Nothing => Err(anyhow!("a text of no file")),
+        }
+    }
+
+    /// The last request, with a line and the tail behind a text, which stays as it was.
+    fn answer_with(&mut self, rt: &HostRuntime, place: usize, text: &str, end: &str) -> Result<()> {
+        let length = self.case.bytes_at(place)?.len();
+        self.case.extend(place, text.as_bytes())?;
+        self.case.extend(place, end.as_bytes())?;
+        self.case.extend(place, self.tail.as_bytes())?;
+        print!(rt; "{text}: ")?;
+        self.request.answer(rt, &self.case)?;
+        self.case.cut(place, length)
+    }
+}
+
+/// Prints a word, and what it is as a decimal number and as a fraction.
+fn number(rt: &HostRuntime, word: &str) -> Result<()> {
+    print!(rt; "{word}: ")?;
+    again::number(rt, word, Numbers::Decimal)?;
+    print!(rt; ", ")?;
+    again::number(rt, word, Numbers::Fractions)?;
+    println!(rt; "")?;
+    Ok(())
+}

@@ -1,0 +1,20 @@
+//! Texts as they are printed.
+
+use anyhow::Result;
+use std::io::{self, Write};
+
+/// Prints a text, each line with `|` in front, or with `>` where no line feed ends it.
+pub fn text(rt: &HostRuntime, bytes: &[u8]) -> Result<()> {
+    let mut out = io::writer(rt);
+    for line in bytes.split_inclusive(|byte| *byte == b'\n') {
+        if line.ends_with(b"\n".as_slice()) {
+            out.write_all(b"|")?;
+            out.write_all(line)?;
+        } else {
+            out.write_all(b">")?;
+            out.write_all(line)?;
+            out.write_all(b"\n")?;
+        }
+    }
+    Ok(())
+}
