@@ -7,8 +7,8 @@ use Rattle.lp_model.specs.declared.program.Sense.TheVariants.{Min}
 use Rattle.lp_model.specs.Reductions.{Reduces}
 use Rattle.lp_theory.proofs.Steps.{compose, same_points}
 use Rattle.undo_records.specs.Lift.{lift, undone}
-use Rattle.presolve_model.specs.Sparse.{Sparse}
-use Rattle.presolve_model.specs.Showing.{shown}
+use Rattle.problem_model.specs.Sparse.{Sparse}
+use Rattle.problem_model.specs.Showing.{shown}
 use Rattle.presolve_model.specs.declared.instance.Reduction.{Reduction}
 use Rattle.presolve_model.specs.Changes.{changed, added}
 use Rattle.presolve_model.specs.Recorded.{record_of}

@@ -8,11 +8,11 @@ use Rattle.lp_theory.proofs.Verdicts.{no_point_back}
 use Rattle.undo_records.specs.Lift.{lift}
 use Rattle.undo_records.specs.Sound.{IsSound}
 use Rattle.undo_records.specs.Walk.{Walks}
-use Rattle.presolve_model.specs.Sparse.{Sparse}
-use Rattle.presolve_model.specs.Problems.{IsSparse}
-use Rattle.presolve_model.specs.Writing.{IsWritable}
-use Rattle.presolve_model.specs.Showing.{shown}
-use Rattle.presolve_model.specs.Flags.{flags_of}
+use Rattle.problem_model.specs.Sparse.{Sparse}
+use Rattle.problem_model.specs.Problems.{IsSparse}
+use Rattle.problem_model.specs.Writing.{IsWritable}
+use Rattle.problem_model.specs.Showing.{shown}
+use Rattle.problem_model.specs.Flags.{flags_of}
 use Rattle.presolve_model.specs.declared.instance.Reduction.{Reduction}
 use Rattle.presolve_model.specs.Changes.{changed}
 use Rattle.presolve_model.specs.Recorded.{record_of}

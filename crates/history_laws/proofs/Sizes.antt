@@ -3,11 +3,11 @@ use Rattle.std.proofs.Common.{◌≡◌, List, [], ◌∷◌, length, refl, ap, 
 use Rattle.std.proofs.lemmas.List.{length-set, length-map}
 use Rattle.rational.specs.Number.{Number}
 use Rattle.lp_model.specs.declared.terms.Term.{Term}
-use Rattle.presolve_model.specs.Sparse.{Sparse}
+use Rattle.problem_model.specs.Sparse.{Sparse}
 use Rattle.presolve_model.specs.declared.instance.Reduction.{Reduction}
 use Rattle.presolve_model.specs.declared.instance.Reduction.TheVariants.{EmptyRow, SingletonRow, FixedColumn, RoundBounds, EmptyColumn}
-use Rattle.presolve_model.specs.Problems.{column_entries}
-use Rattle.presolve_model.specs.Edits.{losing}
+use Rattle.problem_model.specs.Problems.{column_entries}
+use Rattle.problem_model.specs.Edits.{losing}
 use Rattle.presolve_model.specs.Changes.{changed, all_less, sides_less, value_of}
 use Rattle.presolve_model.specs.Replay.{replay}
 

@@ -23,13 +23,13 @@ use Rattle.undo_records.specs.Lift.{lift}
 use Rattle.undo_records.specs.Sound.{IsSound}
 use Rattle.undo_records.specs.Walk.{Flags, Walks, AreSound, all_live, flags_of as told_flags}
 use Rattle.undo_records.specs.declared.label.Label.{Label}
-use Rattle.presolve_model.specs.Flags.{flags_of}
-use Rattle.presolve_model.specs.Matrices.{line_at}
-use Rattle.presolve_model.specs.Sparse.{Sparse}
-use Rattle.presolve_model.specs.declared.line.Line.{Line}
-use Rattle.presolve_model.specs.Problems.{IsSparse}
-use Rattle.presolve_model.specs.Programs.{IsProblemOf, line_of, written_program, live_ids, live_ids_from}
-use Rattle.presolve_model.specs.Showing.{shown}
+use Rattle.problem_model.specs.Flags.{flags_of}
+use Rattle.problem_model.specs.Matrices.{line_at}
+use Rattle.problem_model.specs.Sparse.{Sparse}
+use Rattle.problem_model.specs.declared.line.Line.{Line}
+use Rattle.problem_model.specs.Problems.{IsSparse}
+use Rattle.problem_model.specs.Programs.{IsProblemOf, line_of, written_program, live_ids, live_ids_from}
+use Rattle.problem_model.specs.Showing.{shown}
 use Rattle.presolve_model.specs.Replay.{replay, records, Replays}
 use Rattle.presolve_model.specs.Accounts.{Walked, ReducesTo, live_labels_from, postsolved}
 use Rattle.program_laws.specs.Shapes.{IsOf}

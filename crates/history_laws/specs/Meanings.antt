@@ -6,7 +6,7 @@ use Rattle.lp_model.specs.Reductions.{Reduces}
 use Rattle.lp_model.specs.Verdicts.{NoPoint}
 use Rattle.undo_records.specs.Lift.{lift}
 use Rattle.presolve_model.specs.Ledger.{Ledger}
-use Rattle.presolve_model.specs.Showing.{shown}
+use Rattle.problem_model.specs.Showing.{shown}
 
 -- the linear program that was shown at first is reduced to the one that is shown now, as the records and the offset say; and a verdict
 -- says that no point was feasible at first

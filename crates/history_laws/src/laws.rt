@@ -13,16 +13,16 @@ ghost use Rattle.presolve_model.specs.Accounts.{ReducesTo, Walked};
 ghost use Rattle.presolve_model.specs.Changes.{changed};
 ghost use Rattle.presolve_model.specs.Commits.{Allows, left_by};
 ghost use Rattle.presolve_model.specs.Enabled.{Enabled};
-ghost use Rattle.presolve_model.specs.Flags.{flags_of};
+ghost use Rattle.problem_model.specs.Flags.{flags_of};
 ghost use Rattle.presolve_model.specs.Given.{Proposed};
 ghost use Rattle.presolve_model.specs.Laws.{HistoryReduces, VerdictMeans};
 ghost use Rattle.presolve_model.specs.Ledger.{Ledger, Stands};
-ghost use Rattle.presolve_model.specs.Problems.{IsSparse};
+ghost use Rattle.problem_model.specs.Problems.{IsSparse};
 ghost use Rattle.presolve_model.specs.Recorded.{record_of};
 ghost use Rattle.presolve_model.specs.Replay.{CanApply, records, replay, Replays};
-ghost use Rattle.presolve_model.specs.Sparse.{Sparse};
+ghost use Rattle.problem_model.specs.Sparse.{Sparse};
 ghost use Rattle.presolve_model.specs.Worlds.{AreProposals, Happening, opened, Runs, State};
-ghost use Rattle.presolve_model.specs.Writing.{IsWritable};
+ghost use Rattle.problem_model.specs.Writing.{IsWritable};
 ghost use Rattle.history_laws.specs.Meanings.{Means};
 
 /// A history reduces the linear program that is shown, and a verdict after it says that no point was feasible before it.

@@ -2,8 +2,8 @@
 use Rattle.std.proofs.Common.{◌≡◌, List, [], ◌∷◌, ◌++◌, Option, None, sym, ap, ◌∙◌}
 use Rattle.std.proofs.lemmas.List.Elements.{filter-append}
 use Rattle.lp_model.specs.declared.terms.Term.{Term}
-use Rattle.presolve_model.specs.declared.line.Line.{Line}
-use Rattle.presolve_model.specs.Matrices.{live_only, line_at}
+use Rattle.problem_model.specs.declared.line.Line.{Line}
+use Rattle.problem_model.specs.Matrices.{live_only, line_at}
 use Rattle.instances.specs.Lefts.{IsLeft}
 
 -- a first entry that is not wanted

@@ -2,14 +2,14 @@
 use Rattle.std.proofs.Common.{◌≡◌, ℕ, zero, suc, ◌+◌, ◌≤◌, Bool, true, false, List, [], ◌∷◌, ◌++◌, length, map, if◌then◌else◌, refl, ap, ◌∙◌, arith}
 use Rattle.std.proofs.lemmas.List.{get_or_past}
 use Rattle.std.specs.List.{filter, range_with_len}
-use Rattle.presolve_model.specs.declared.line.Line.{Line}
+use Rattle.problem_model.specs.declared.line.Line.{Line}
 use Rattle.presolve_model.specs.declared.instance.Rule.{Rule}
 use Rattle.presolve_model.specs.declared.instance.Rule.TheVariants.{CrossedBounds, CrossedSides, EmptyRow, SingletonRow, FixedColumn, RoundBounds, EmptyColumn}
 use Rattle.presolve_model.specs.Enabled.{enabled_on}
 use Rattle.presolve_model.specs.Given.{Proposed}
-use Rattle.presolve_model.specs.Matrices.{line_at, no_line}
+use Rattle.problem_model.specs.Matrices.{line_at, no_line}
 use Rattle.presolve_model.specs.Scans.{instance_at, proposal_of, found_at}
-use Rattle.presolve_model.specs.Sparse.{Sparse}
+use Rattle.problem_model.specs.Sparse.{Sparse}
 use Rattle.instances.specs.Ids.{id_count}
 
 gone : (lines : List Line) (k : ℕ) → length lines ≤ k → (line_at lines k).live ≡ false

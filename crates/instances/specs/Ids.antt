@@ -1,6 +1,6 @@
 -- How many ids a rule has on a problem.
 use Rattle.std.specs.Prelude.{ℕ, length}
-use Rattle.presolve_model.specs.Sparse.{Sparse}
+use Rattle.problem_model.specs.Sparse.{Sparse}
 use Rattle.presolve_model.specs.declared.instance.Rule.{Rule}
 use Rattle.presolve_model.specs.declared.instance.Rule.TheVariants.{CrossedBounds, CrossedSides, EmptyRow, SingletonRow, FixedColumn, RoundBounds, EmptyColumn}
 

@@ -1,7 +1,7 @@
 //! What lines hold, looked at in place.
 
 ghost use Rattle.std.specs.Prelude.{◌≡◌, ◌↔◌, ℕ, IsTrue, [], ◌∷◌, option_map};
-ghost use Rattle.presolve_model.specs.Matrices.{line_at, live_only};
+ghost use Rattle.problem_model.specs.Matrices.{line_at, live_only};
 ghost use Rattle.instances.specs.Lefts.{IsLeft};
 
 use fractions::ext::Ext;

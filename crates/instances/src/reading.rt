@@ -18,7 +18,7 @@ impl Model for Reading {
     ghost use Rattle.std.specs.Prelude.{List};
     ghost use Rattle.std.specs.Coded.{codes};
     ghost use Rattle.rational.specs.Lowest.{number_code};
-    ghost use Rattle.presolve_model.specs.declared.part.Read.{Read};
+    ghost use Rattle.problem_model.specs.declared.part.Read.{Read};
 
     ghost Value = { List Read };
 

@@ -11,9 +11,9 @@ use Rattle.undo_records.specs.Postsolve.{Postsolve}
 use Rattle.undo_records.specs.Lift.{lift}
 use Rattle.undo_records.specs.declared.label.Label.{Label}
 use Rattle.presolve_model.specs.declared.instance.Reduction.{Reduction}
-use Rattle.presolve_model.specs.Programs.{IsProblemOf, written_program}
+use Rattle.problem_model.specs.Programs.{IsProblemOf, written_program}
 use Rattle.presolve_model.specs.Replay.{replay, records, Replays}
-use Rattle.presolve_model.specs.Sparse.{Sparse}
+use Rattle.problem_model.specs.Sparse.{Sparse}
 
 -- Walks: the reductions that were recorded can be applied one after the other, from the program's problem p on, with these very records;
 -- what is left is q, of which the reduced program is written; the offset is what was added to the cost, in the file's sense; and the

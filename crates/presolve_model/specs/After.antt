@@ -2,10 +2,10 @@
 use Rattle.std.specs.Prelude.{◌≡◌, Result, Ok, Err}
 use Rattle.fractions.specs.declared.Numbers.{Numbers}
 use Rattle.undo_records.specs.declared.undo.Undo.{Undo}
-use Rattle.presolve_model.specs.Sparse.{Sparse}
+use Rattle.problem_model.specs.Sparse.{Sparse}
 use Rattle.presolve_model.specs.declared.instance.Reduction.{Reduction}
-use Rattle.presolve_model.specs.declared.outcome.Refusal.{Refusal}
-use Rattle.presolve_model.specs.declared.outcome.Refusal.TheVariants.{Past, NotDecimal, NoMemory}
+use Rattle.problem_model.specs.declared.refusal.Refusal.{Refusal}
+use Rattle.problem_model.specs.declared.refusal.Refusal.TheVariants.{Past, NotDecimal, NoMemory}
 use Rattle.presolve_model.specs.Changes.{changed}
 use Rattle.presolve_model.specs.Recorded.{record_of}
 use Rattle.presolve_model.specs.Fitting.{ChangeFits, ChangeIsWritten}

@@ -1,5 +1,5 @@
 -- What each reduction makes of a problem on which it is enabled.
-use Rattle.std.specs.Prelude.{ℕ, List, [], ◌∷◌, Option, Some, None, unwrap_or}
+use Rattle.std.specs.Prelude.{ℕ, List, [], ◌∷◌, Option, unwrap_or}
 use Rattle.rational.specs.Number.{Number, zero_ℚ, ◌+ℚ◌, ◌*ℚ◌}
 use Rattle.rational.specs.Ends.{less, meet_low, meet_high}
 use Rattle.lp_model.specs.declared.terms.Term.{Term}
@@ -7,11 +7,12 @@ use Rattle.lp_model.specs.Sparse.{no_term}
 use Rattle.lp_rules.specs.SingletonRow.{lower_over, upper_over}
 use Rattle.lp_rules.specs.RoundBounds.{rounded_up, rounded_down}
 use Rattle.lp_rules.specs.EmptyColumn.{resting_place}
-use Rattle.presolve_model.specs.declared.line.Sides.{Sides}
-use Rattle.presolve_model.specs.declared.line.Bounds.{Bounds}
-use Rattle.presolve_model.specs.Problems.{sides_at, bounds_at, cost_at, row_entries, column_entries}
-use Rattle.presolve_model.specs.Edits.{row_deleted, column_deleted, sides_set, bounds_set, offset_set}
-use Rattle.presolve_model.specs.Sparse.{Sparse}
+use Rattle.problem_model.specs.declared.line.Sides.{Sides}
+use Rattle.problem_model.specs.declared.line.Bounds.{Bounds}
+use Rattle.problem_model.specs.Problems.{sides_at, bounds_at, cost_at, row_entries, column_entries}
+use Rattle.problem_model.specs.Edits.{row_deleted, column_deleted, sides_set, bounds_set, offset_set}
+use Rattle.problem_model.specs.Raised.{raised}
+use Rattle.problem_model.specs.Sparse.{Sparse}
 use Rattle.presolve_model.specs.declared.instance.Reduction.{Reduction}
 use Rattle.presolve_model.specs.declared.instance.Reduction.TheVariants.{EmptyRow, SingletonRow, FixedColumn, RoundBounds, EmptyColumn}
 
@@ -52,12 +53,16 @@ column_fixed p j v = offset_set (column_deleted (all_less p (column_entries p j)
 abbrev pub place_of : Sparse → ℕ → Option Number
 place_of p j = resting_place (cost_at p j) (bounds_at p j).lower (bounds_at p j).upper
 
+abbrev pub changed_contents : Reduction → Sparse → Sparse
+changed_contents (EmptyRow i) p = row_deleted p i
+changed_contents (SingletonRow i) p = entry_met p i (sole_entry p i)
+changed_contents (FixedColumn j) p = column_fixed p j (value_of p j)
+changed_contents (RoundBounds j) p = bounds_set p j (rounded_up (bounds_at p j).lower) (rounded_down (bounds_at p j).upper)
+changed_contents (EmptyColumn j) p = bounds_set p j (place_of p j) (place_of p j)
+
+-- and each part that it changed has one change more
 abbrev pub changed : Reduction → Sparse → Sparse
-changed (EmptyRow i) p = row_deleted p i
-changed (SingletonRow i) p = entry_met p i (sole_entry p i)
-changed (FixedColumn j) p = column_fixed p j (value_of p j)
-changed (RoundBounds j) p = bounds_set p j (rounded_up (bounds_at p j).lower) (rounded_down (bounds_at p j).upper)
-changed (EmptyColumn j) p = bounds_set p j (place_of p j) (place_of p j)
+changed r p = raised p (changed_contents r p)
 
 -- what it adds to the cost
 abbrev pub added : Reduction → Sparse → Number

@@ -1,16 +1,13 @@
 -- Where an instance is enabled, as a condition on what the parts hold that it reads.
-use Rattle.std.specs.Prelude.{ℕ, Bool, true, false, ◌&&◌, ◌||◌, List, [], ◌∷◌}
+use Rattle.std.specs.Prelude.{Bool, true, false, ◌&&◌, ◌||◌, List, [], ◌∷◌}
 use Rattle.lp_model.specs.declared.terms.Term.{Term}
 use Rattle.lp_rules.specs.EmptyColumn.{resting_place}
-use Rattle.presolve_model.specs.declared.part.Contents.{Contents}
-use Rattle.presolve_model.specs.declared.part.Contents.TheVariants.{Gone, Entries, Sides, Column, Bounds}
+use Rattle.problem_model.specs.declared.part.Contents.{Contents}
+use Rattle.problem_model.specs.declared.part.Contents.TheVariants.{Entries, Sides, Column, Bounds}
 use Rattle.presolve_model.specs.declared.instance.Instance.{Instance}
 use Rattle.presolve_model.specs.declared.instance.Instance.TheVariants as at
-use Rattle.presolve_model.specs.declared.instance.Reduction.{Reduction}
 use Rattle.presolve_model.specs.declared.instance.Reduction.TheVariants.{EmptyRow, SingletonRow, FixedColumn, RoundBounds, EmptyColumn}
-use Rattle.presolve_model.specs.declared.instance.Verdict.{Verdict}
-use Rattle.presolve_model.specs.declared.instance.Verdict.TheVariants.{CrossedBounds, CrossedSides}
-use Rattle.presolve_model.specs.EndTests.{is_in_order, is_crossed, is_apart, holds_zero, is_fixed, is_broken, is_place}
+use Rattle.problem_model.specs.EndTests.{is_in_order, is_crossed, is_apart, holds_zero, is_fixed, is_broken, is_place}
 
 abbrev pub has_none : List Term → Bool
 has_none [] = true

@@ -1,38 +1,19 @@
 -- When the numbers of a change have room, and when they can be written.
-use Rattle.std.specs.Prelude.{◌≢◌, ℕ, ⊤, List, All, Option, Some, None, IfSome}
-use Rattle.rational.specs.Number.{Number, ◌-ℚ◌, ◌*ℚ◌, neg_ℚ}
+use Rattle.std.specs.Prelude.{ℕ, ⊤, All}
+use Rattle.rational.specs.Number.{Number, ◌*ℚ◌}
 use Rattle.rational.specs.Lowest.{Fits}
 use Rattle.rational.specs.Ends.{less}
 use Rattle.fractions.specs.declared.Numbers.{Numbers}
 use Rattle.fractions.specs.FracWords.{SumFits}
 use Rattle.fractions.specs.EndWords.{OverFits, LessFits}
 use Rattle.lp_model.specs.declared.terms.Term.{Term}
-use Rattle.lp_model.specs.Writable.{IsNear, WritableNumber}
 use Rattle.lp_rules.specs.RoundBounds.{rounded_up, rounded_down}
-use Rattle.presolve_model.specs.Problems.{sides_at, bounds_at, cost_at, column_entries}
-use Rattle.presolve_model.specs.Sparse.{Sparse}
+use Rattle.problem_model.specs.Problems.{sides_at, bounds_at, cost_at, column_entries}
+use Rattle.problem_model.specs.Sparse.{Sparse}
 use Rattle.presolve_model.specs.declared.instance.Reduction.{Reduction}
 use Rattle.presolve_model.specs.declared.instance.Reduction.TheVariants.{EmptyRow, SingletonRow, FixedColumn, RoundBounds, EmptyColumn}
+pub use Rattle.problem_model.specs.NewNumbers.{WidthFits, WidthIsWritten, IsWritten, AreNear}
 use Rattle.presolve_model.specs.Changes.{sole_entry, met_lower, met_upper, value_of, place_of}
-
--- the width of two finite sides that differ: it has room, and so has the lower side with it
-abbrev pub WidthFits : Option Number → Option Number → Type 0
-WidthFits None u = ⊤
-WidthFits (Some l) None = ⊤
-WidthFits (Some l) (Some u) = l ≢ u → SumFits u (neg_ℚ l) × SumFits l (u -ℚ l)
-
--- finite ends, and the width of two that differ, can be written
-abbrev pub WidthIsWritten : Numbers → Option Number → Option Number → Type 0
-WidthIsWritten numbers None u = ⊤
-WidthIsWritten numbers (Some l) None = ⊤
-WidthIsWritten numbers (Some l) (Some u) = l ≢ u → WritableNumber numbers (u -ℚ l)
-
-abbrev pub IsWritten : Numbers → Option Number → Option Number → Type 0
-IsWritten numbers l u = IfSome l (WritableNumber numbers) × IfSome u (WritableNumber numbers)
-
--- new bounds are finite below 10^20, or infinite
-abbrev pub AreNear : Option Number → Option Number → Type 0
-AreNear l u = IfSome l IsNear × IfSome u IsNear
 
 -- K2: the sides over the entry, and the bounds that come of them
 pub record EntryFits (p : Sparse) (i : ℕ) (t : Term) : Type 0 where

@@ -6,9 +6,9 @@ use Rattle.lp_model.specs.declared.program.Sense.TheVariants.{Min}
 use Rattle.lp_model.specs.Reductions.{Reduces}
 use Rattle.lp_model.specs.Verdicts.{NoPoint}
 use Rattle.undo_records.specs.Lift.{lift}
-use Rattle.presolve_model.specs.Sparse.{Sparse}
-use Rattle.presolve_model.specs.Problems.{IsSparse}
-use Rattle.presolve_model.specs.Showing.{shown}
+use Rattle.problem_model.specs.Sparse.{Sparse}
+use Rattle.problem_model.specs.Problems.{IsSparse}
+use Rattle.problem_model.specs.Showing.{shown}
 use Rattle.presolve_model.specs.declared.instance.Reduction.{Reduction}
 use Rattle.presolve_model.specs.declared.instance.Verdict.{Verdict}
 use Rattle.presolve_model.specs.declared.instance.Instance.TheVariants as at

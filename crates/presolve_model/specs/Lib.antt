@@ -1,13 +1,3 @@
-pub mod Grids
-pub mod Matrices
-pub mod Sparse
-pub mod Problems
-pub mod Edits
-pub mod Parts
-pub mod Showing
-pub mod Programs
-pub mod Writing
-pub mod EndTests
 pub mod Conditions
 pub mod Given
 pub mod Enabled
@@ -17,7 +7,6 @@ pub mod Changes
 pub mod Recorded
 pub mod Fitting
 pub mod After
-pub mod Flags
 pub mod Replay
 pub mod Ledger
 pub mod Commits

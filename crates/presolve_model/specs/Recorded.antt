@@ -2,8 +2,8 @@
 use Rattle.std.specs.Prelude.{ℕ}
 use Rattle.undo_records.specs.declared.undo.Undo.{Undo}
 use Rattle.undo_records.specs.declared.undo.Undo.TheVariants as undo
-use Rattle.presolve_model.specs.Problems.{bounds_at, cost_at, column_entries}
-use Rattle.presolve_model.specs.Sparse.{Sparse}
+use Rattle.problem_model.specs.Problems.{bounds_at, cost_at, column_entries}
+use Rattle.problem_model.specs.Sparse.{Sparse}
 use Rattle.presolve_model.specs.declared.instance.Reduction.{Reduction}
 use Rattle.presolve_model.specs.declared.instance.Reduction.TheVariants.{EmptyRow, SingletonRow, FixedColumn, RoundBounds, EmptyColumn}
 use Rattle.lp_model.specs.declared.terms.Term.{Term}

@@ -2,7 +2,7 @@
 use Rattle.std.specs.Prelude.{◌≡◌, true, ⊤, List, [], ◌∷◌}
 use Rattle.fractions.specs.declared.Numbers.{Numbers}
 use Rattle.undo_records.specs.declared.undo.Undo.{Undo}
-use Rattle.presolve_model.specs.Sparse.{Sparse}
+use Rattle.problem_model.specs.Sparse.{Sparse}
 use Rattle.presolve_model.specs.declared.instance.Reduction.{Reduction}
 use Rattle.presolve_model.specs.declared.instance.Instance.TheVariants as at
 use Rattle.presolve_model.specs.Enabled.{enabled_on}

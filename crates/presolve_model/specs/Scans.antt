@@ -1,7 +1,7 @@
 -- The enabled instances of a rule, in order.
-use Rattle.std.specs.Prelude.{ℕ, ◌*◌, ◌-◌, min, List, map}
+use Rattle.std.specs.Prelude.{ℕ, ◌*◌, List, map}
 use Rattle.std.specs.List.{filter, range_with_len}
-use Rattle.presolve_model.specs.Sparse.{Sparse}
+use Rattle.problem_model.specs.Sparse.{Sparse}
 use Rattle.presolve_model.specs.declared.instance.Instance.{Instance}
 use Rattle.presolve_model.specs.declared.instance.Instance.TheVariants as at
 use Rattle.presolve_model.specs.declared.instance.Reduction.TheVariants as reduction

@@ -1,5 +1,5 @@
 -- When no reduction is left that could be applied.
-use Rattle.std.specs.Prelude.{◌≡◌, ℕ, ◌++◌, Bool, true, false, List, length, map}
+use Rattle.std.specs.Prelude.{◌≡◌, ℕ, ◌++◌, false, List, length, map}
 use Rattle.std.specs.List.{filter, range_with_len}
 use Rattle.fractions.specs.declared.Numbers.{Numbers}
 use Rattle.presolve_model.specs.declared.instance.Instance.{Instance}
@@ -11,7 +11,7 @@ use Rattle.presolve_model.specs.declared.instance.Verdict.{Verdict}
 use Rattle.presolve_model.specs.Enabled.{enabled_on}
 use Rattle.presolve_model.specs.Replay.{CanApply}
 use Rattle.presolve_model.specs.Scans.{instance_at}
-use Rattle.presolve_model.specs.Sparse.{Sparse}
+use Rattle.problem_model.specs.Sparse.{Sparse}
 
 -- the instances of a rule at all rows, and at all columns
 abbrev pub at_rows : Sparse → Rule → List Instance

@@ -6,7 +6,7 @@ use Rattle.presolve_model.specs.Commits.{Allows, left_by}
 use Rattle.presolve_model.specs.Enabled.{Enabled}
 use Rattle.presolve_model.specs.Given.{Proposed}
 use Rattle.presolve_model.specs.Ledger.{Ledger}
-use Rattle.presolve_model.specs.Sparse.{Sparse}
+use Rattle.problem_model.specs.Sparse.{Sparse}
 
 -- a frozen version: the problem, and how many reductions had been applied
 pub record Version : Type 0 where

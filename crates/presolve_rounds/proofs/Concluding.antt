@@ -8,13 +8,13 @@ use Rattle.undo_records.specs.declared.label.Label.{Label}
 use Rattle.undo_records.specs.Postsolve.{Postsolve}
 use Rattle.undo_records.specs.Walk.{lives}
 use Rattle.presolve_model.specs.declared.instance.Reduction.{Reduction}
-use Rattle.presolve_model.specs.declared.line.Line.{Line}
+use Rattle.problem_model.specs.declared.line.Line.{Line}
 use Rattle.presolve_model.specs.Changes.{changed}
 use Rattle.presolve_model.specs.Ledger.{Ledger, Stands}
-use Rattle.presolve_model.specs.Problems.{IsSparse}
-use Rattle.presolve_model.specs.Programs.{IsProblemOf, written_program}
+use Rattle.problem_model.specs.Problems.{IsSparse}
+use Rattle.problem_model.specs.Programs.{IsProblemOf, written_program}
 use Rattle.presolve_model.specs.Replay.{records, replay}
-use Rattle.presolve_model.specs.Sparse.{Sparse}
+use Rattle.problem_model.specs.Sparse.{Sparse}
 use Rattle.presolve_model.specs.Stuck.{IsUndecided, skipped_on, Stuck}
 use Rattle.program_laws.specs.Chosen.{names_at}
 use Rattle.program_laws.proofs.Writing.{written_column_names, written_row_names}

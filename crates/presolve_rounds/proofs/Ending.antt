@@ -3,7 +3,7 @@ use Rattle.std.proofs.Common.{◌≡◌, ℕ, ◌≤◌, ◌<◌, zero, suc, ◌
 use Rattle.std.specs.List.{range_with_len}
 use Rattle.presolve_model.specs.Given.{Proposed}
 use Rattle.presolve_model.specs.Ledger.{Ledger, Stands}
-use Rattle.presolve_model.specs.Sparse.{Sparse}
+use Rattle.problem_model.specs.Sparse.{Sparse}
 use Rattle.presolve_model.specs.Stuck.{IsUndecided}
 use Rattle.round_laws.specs.Committing.{IsSameBook, Went}
 use Rattle.round_laws.specs.Listing.{all_columns, all_rows, reductions_at, verdicts_at}

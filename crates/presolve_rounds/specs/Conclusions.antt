@@ -9,7 +9,7 @@ use Rattle.undo_records.specs.declared.label.Label.{Label}
 use Rattle.undo_records.specs.Postsolve.{Postsolve}
 use Rattle.presolve_model.specs.Accounts.{ReducesTo, Walked}
 use Rattle.presolve_model.specs.Replay.{replay}
-use Rattle.presolve_model.specs.Sparse.{Sparse}
+use Rattle.problem_model.specs.Sparse.{Sparse}
 use Rattle.presolve_model.specs.Stuck.{IsUndecided, skipped_on, Stuck}
 use Rattle.round_laws.specs.Telling.{names_in}
 use Rattle.presolve_rounds.specs.declared.outcome.End.{End}

@@ -3,7 +3,7 @@
 ghost use Rattle.std.specs.Prelude.{◌≡◌, length, IfOk};
 ghost use Rattle.lp_model.specs.Names.{names_of_columns, names_of_rows};
 ghost use Rattle.undo_records.specs.Walk.{lives};
-ghost use Rattle.presolve_model.specs.Programs.{IsProblemOf};
+ghost use Rattle.problem_model.specs.Programs.{IsProblemOf};
 ghost use Rattle.round_laws.specs.Telling.{are_live, IsToldOf, names_in};
 
 use lp_model::{ColumnDef, Program, RowDef};

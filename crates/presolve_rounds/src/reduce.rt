@@ -2,7 +2,7 @@
 
 ghost use Rattle.std.specs.Prelude.{◌≡◌, ◌<◌, ◌^◌, length, IfOk, Some};
 ghost use Rattle.lp_model.specs.Writable.{EntriesAscend, Writable};
-ghost use Rattle.presolve_model.specs.Programs.{IsProblemOf};
+ghost use Rattle.problem_model.specs.Programs.{IsProblemOf};
 ghost use Rattle.presolve_rounds.specs.Conclusions.{Concluded, Concludes};
 ghost use Rattle.presolve_rounds.specs.Running.{EndsWith};
 

@@ -7,11 +7,11 @@ use Rattle.std.proofs.Math.ListN.{get_or-map}
 use Rattle.rational.specs.Number.{Number}
 use Rattle.rational.proofs.Totals.{at_or_off}
 use Rattle.lp_model.specs.Sparse.{has}
-use Rattle.presolve_model.specs.declared.line.Line.{Line}
-use Rattle.presolve_model.specs.Matrices.{no_line, line_at}
-use Rattle.presolve_model.specs.Problems.{no_sides, no_bounds, row_at, column_at, sides_at, bounds_at, IsSparse}
-use Rattle.presolve_model.specs.Edits.{risen, deleted, losing, lines_without, lines_losing, touched_sides, touched_bounds, sides_moved, bounds_moved, row_deleted, column_deleted, sides_set, bounds_set}
-use Rattle.presolve_model.specs.Sparse.{Sparse}
+use Rattle.problem_model.specs.declared.line.Line.{Line}
+use Rattle.problem_model.specs.Matrices.{no_line, line_at}
+use Rattle.problem_model.specs.Problems.{no_sides, no_bounds, row_at, column_at, sides_at, bounds_at, IsSparse}
+use Rattle.problem_model.specs.Edits.{risen, deleted, losing, lines_without, lines_losing, touched_sides, touched_bounds, sides_moved, bounds_moved, row_deleted, column_deleted, sides_set, bounds_set}
+use Rattle.problem_model.specs.Sparse.{Sparse}
 
 -- what is live stands before the end of the list
 pub live_inside : (lines : List Line) (k : ℕ) → (line_at lines k).live ≡ true → k < length lines

@@ -7,17 +7,17 @@ use Rattle.rational.specs.Ends.{same_end}
 use Rattle.rational.proofs.EndLaws.{same_end-is}
 use Rattle.lp_model.specs.declared.terms.Term.{Term}
 use Rattle.lp_model.specs.Sparse.{has}
-use Rattle.presolve_model.specs.declared.line.Line.{Line}
-use Rattle.presolve_model.specs.declared.line.Sides.{Sides}
-use Rattle.presolve_model.specs.declared.line.Bounds.{Bounds}
-use Rattle.presolve_model.specs.declared.part.Part.{Part}
-use Rattle.presolve_model.specs.declared.part.Part.TheVariants as part
-use Rattle.presolve_model.specs.declared.part.Contents.{Contents}
-use Rattle.presolve_model.specs.declared.part.Contents.TheVariants as holds
-use Rattle.presolve_model.specs.Problems.{row_at, column_at, sides_at, bounds_at, cost_at, row_entries, column_entries, IsSparse}
-use Rattle.presolve_model.specs.Parts.{contents_of}
-use Rattle.presolve_model.specs.Edits.{risen, losing, sides_moved, bounds_moved, row_deleted, column_deleted, sides_set, bounds_set, offset_set}
-use Rattle.presolve_model.specs.Sparse.{Sparse}
+use Rattle.problem_model.specs.declared.line.Line.{Line}
+use Rattle.problem_model.specs.declared.line.Sides.{Sides}
+use Rattle.problem_model.specs.declared.line.Bounds.{Bounds}
+use Rattle.problem_model.specs.declared.part.Part.{Part}
+use Rattle.problem_model.specs.declared.part.Part.TheVariants as part
+use Rattle.problem_model.specs.declared.part.Contents.{Contents}
+use Rattle.problem_model.specs.declared.part.Contents.TheVariants as holds
+use Rattle.problem_model.specs.Problems.{row_at, column_at, sides_at, bounds_at, cost_at, row_entries, column_entries, IsSparse}
+use Rattle.problem_model.specs.Parts.{contents_of}
+use Rattle.problem_model.specs.Edits.{risen, losing, sides_moved, bounds_moved, row_deleted, column_deleted, sides_set, bounds_set, offset_set}
+use Rattle.problem_model.specs.Sparse.{Sparse}
 use Rattle.problem_laws.specs.Telling.{IsTold}
 use Rattle.problem_laws.proofs.AtIds.{row_inside, column_inside, sides_inside, bounds_inside, row_deleted-same, row_deleted-other, row_deleted-column, row_deleted-sides, row_deleted-other_sides, column_deleted-same, column_deleted-other, column_deleted-row, column_deleted-bounds, column_deleted-other_bounds, losing_live, sides_set-same, sides_set-other, bounds_set-same, bounds_set-other}
 use Rattle.problem_laws.proofs.Terms.{without-absent}

@@ -7,11 +7,11 @@ use Rattle.std.proofs.lemmas.List.Elements.{filter_passes}
 use Rattle.rational.specs.Number.{Number, zero_ℚ}
 use Rattle.lp_model.specs.declared.terms.Term.{Term}
 use Rattle.lp_model.specs.Sparse.{Ascends, dense, has, without}
-use Rattle.presolve_model.specs.declared.line.Line.{Line}
-use Rattle.presolve_model.specs.Matrices.{line_at, live_only}
-use Rattle.presolve_model.specs.Problems.{row_at, column_at, row_entries, column_entries, IsSparse}
-use Rattle.presolve_model.specs.Edits.{lines_without, lines_losing, row_deleted, column_deleted}
-use Rattle.presolve_model.specs.Sparse.{Sparse}
+use Rattle.problem_model.specs.declared.line.Line.{Line}
+use Rattle.problem_model.specs.Matrices.{line_at, live_only}
+use Rattle.problem_model.specs.Problems.{row_at, column_at, row_entries, column_entries, IsSparse}
+use Rattle.problem_model.specs.Edits.{lines_without, lines_losing, row_deleted, column_deleted}
+use Rattle.problem_model.specs.Sparse.{Sparse}
 use Rattle.problem_laws.proofs.AtIds.{without-dead, without-live, without-entries, losing-live, losing-entries}
 use Rattle.problem_laws.proofs.Terms.{has-cons_same, has-cons_other, without-cons_same, without-cons_other, dense-cons_same, dense-cons_other, same_ids, ids_below, none_zero, terms_tell, ascends-filter}
 

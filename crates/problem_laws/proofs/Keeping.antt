@@ -5,12 +5,12 @@ use Rattle.std.proofs.lemmas.List.{length-map, length-set}
 use Rattle.rational.specs.Number.{Number}
 use Rattle.lp_model.specs.declared.terms.Term.{Term}
 use Rattle.lp_model.specs.Sparse.{Ascends, dense, has, without}
-use Rattle.presolve_model.specs.declared.line.Line.{Line}
-use Rattle.presolve_model.specs.Grids.{Grid}
-use Rattle.presolve_model.specs.Matrices.{line_at, live_only, Crosses, IsMatrix}
-use Rattle.presolve_model.specs.Problems.{row_at, column_at, sides_at, bounds_at, IsSparse}
-use Rattle.presolve_model.specs.Edits.{deleted, losing, lines_without, lines_losing, touched_sides, touched_bounds, sides_moved, bounds_moved, row_deleted, column_deleted, sides_set, bounds_set, offset_set}
-use Rattle.presolve_model.specs.Sparse.{Sparse}
+use Rattle.problem_model.specs.declared.line.Line.{Line}
+use Rattle.problem_model.specs.Grids.{Grid}
+use Rattle.problem_model.specs.Matrices.{line_at, live_only, Crosses, IsMatrix}
+use Rattle.problem_model.specs.Problems.{row_at, column_at, sides_at, bounds_at, IsSparse}
+use Rattle.problem_model.specs.Edits.{deleted, losing, lines_without, lines_losing, touched_sides, touched_bounds, sides_moved, bounds_moved, row_deleted, column_deleted, sides_set, bounds_set, offset_set}
+use Rattle.problem_model.specs.Sparse.{Sparse}
 use Rattle.problem_laws.proofs.AtIds.{live_inside, without-entries, without-live_entries, losing-entries, losing-live_entries}
 use Rattle.problem_laws.proofs.Terms.{length-without}
 use Rattle.problem_laws.proofs.Entries.{live_only-losing, live_only-without, has-live, ascends-live_only}

@@ -8,13 +8,13 @@ use Rattle.rational.proofs.Totals.{put-same, put-other, at_or_off}
 use Rattle.lp_model.specs.declared.terms.Term.{Term}
 use Rattle.lp_model.specs.Sparse.{dense}
 use Rattle.lp_theory.specs.Edits.{without_row, with_bounds, with_sides}
-use Rattle.presolve_model.specs.declared.line.Sides.{Sides}
-use Rattle.presolve_model.specs.declared.line.Bounds.{Bounds}
-use Rattle.presolve_model.specs.Problems.{row_at, column_at, sides_at, bounds_at, cost_at, IsSparse}
-use Rattle.presolve_model.specs.Edits.{sides_moved, bounds_moved, row_deleted, column_deleted, sides_set, bounds_set, offset_set}
-use Rattle.presolve_model.specs.Showing.{coefficient_of, end_if, shown}
-use Rattle.presolve_model.specs.Sparse.{Sparse}
-use Rattle.problem_laws.specs.LeftOut.{column_left_out}
+use Rattle.problem_model.specs.declared.line.Sides.{Sides}
+use Rattle.problem_model.specs.declared.line.Bounds.{Bounds}
+use Rattle.problem_model.specs.Problems.{row_at, column_at, sides_at, bounds_at, cost_at, IsSparse}
+use Rattle.problem_model.specs.Edits.{sides_moved, bounds_moved, row_deleted, column_deleted, sides_set, bounds_set, offset_set}
+use Rattle.problem_model.specs.Showing.{coefficient_of, end_if, shown}
+use Rattle.problem_model.specs.Sparse.{Sparse}
+use Rattle.problem_model.specs.LeftOut.{column_left_out}
 use Rattle.problem_laws.proofs.AtIds.{without-dead, without-live, without-entries, losing-live, losing-entries, row_inside, column_inside, sides_inside, bounds_inside, row_deleted-other_sides, column_deleted-other_bounds, sides_set-same, sides_set-other, bounds_set-same, bounds_set-other}
 use Rattle.problem_laws.proofs.Keeping.{length-lines_without, length-lines_losing}
 

@@ -1,8 +1,8 @@
 -- Numbers of changes that tell what a part holds.
 use Rattle.std.specs.Prelude.{◌≡◌, ◌<◌, ◌-◌, ◌^◌}
-use Rattle.presolve_model.specs.declared.part.Part.{Part}
-use Rattle.presolve_model.specs.Parts.{contents_of, changes_of}
-use Rattle.presolve_model.specs.Sparse.{Sparse}
+use Rattle.problem_model.specs.declared.part.Part.{Part}
+use Rattle.problem_model.specs.Parts.{contents_of, changes_of}
+use Rattle.problem_model.specs.Sparse.{Sparse}
 
 -- a part of q holds what it holds in p where its number of changes is the same, unless that stands at the end of its type
 abbrev pub IsTold : Sparse → Sparse → Part → Type 0

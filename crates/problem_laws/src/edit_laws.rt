@@ -3,12 +3,12 @@
 ghost use Rattle.std.specs.Prelude.{◌≡◌, ℕ, true, Option};
 ghost use Rattle.rational.specs.Number.{Number};
 ghost use Rattle.lp_theory.specs.Edits.{without_row, with_bounds, with_sides};
-ghost use Rattle.presolve_model.specs.declared.part.Part.{Part};
-ghost use Rattle.presolve_model.specs.Sparse.{Sparse};
-ghost use Rattle.presolve_model.specs.Problems.{row_at, column_at, IsSparse};
-ghost use Rattle.presolve_model.specs.Edits.{row_deleted, column_deleted, sides_set, bounds_set, offset_set};
-ghost use Rattle.presolve_model.specs.Showing.{shown};
-ghost use Rattle.problem_laws.specs.LeftOut.{column_left_out};
+ghost use Rattle.problem_model.specs.declared.part.Part.{Part};
+ghost use Rattle.problem_model.specs.Sparse.{Sparse};
+ghost use Rattle.problem_model.specs.Problems.{row_at, column_at, IsSparse};
+ghost use Rattle.problem_model.specs.Edits.{row_deleted, column_deleted, sides_set, bounds_set, offset_set};
+ghost use Rattle.problem_model.specs.Showing.{shown};
+ghost use Rattle.problem_model.specs.LeftOut.{column_left_out};
 ghost use Rattle.problem_laws.specs.Telling.{IsTold};
 
 /// Each edit keeps what is asked of a problem.

@@ -5,9 +5,9 @@ use Rattle.std.specs.List.{All}
 use Rattle.std.proofs.lemmas.List.Elements.{All-nil, All-cons, All-head, All-tail}
 use Rattle.lp_model.specs.Names.{Differ}
 use Rattle.lp_model.proofs.Differing.{differ_cons, differ_head, differ_tail}
-use Rattle.presolve_model.specs.declared.line.Line.{Line}
-use Rattle.presolve_model.specs.Matrices.{line_at}
-use Rattle.presolve_model.specs.Programs.{live_ids_from, live_ids}
+use Rattle.problem_model.specs.declared.line.Line.{Line}
+use Rattle.problem_model.specs.Matrices.{line_at}
+use Rattle.problem_model.specs.Programs.{live_ids_from, live_ids}
 use Rattle.program_laws.specs.Chosen.{at_live, names_at}
 use Rattle.program_laws.proofs.Ranks.{id_if, none_before, shift}
 

@@ -8,13 +8,13 @@ use Rattle.lp_model.specs.declared.program.ColumnDef.{ColumnDef}
 use Rattle.lp_model.specs.Meaning.{no_row, no_column}
 use Rattle.lp_model.specs.Names.{names_of_rows, names_of_columns}
 use Rattle.lp_model.specs.ProgramData.{ProgramData}
-use Rattle.presolve_model.specs.declared.line.Line.{Line}
-use Rattle.presolve_model.specs.declared.line.Sides.{Sides}
-use Rattle.presolve_model.specs.declared.line.Bounds.{Bounds}
-use Rattle.presolve_model.specs.Matrices.{no_line}
-use Rattle.presolve_model.specs.Problems.{no_sides, no_bounds, column_at, sides_at, bounds_at, cost_at, IsSparse}
-use Rattle.presolve_model.specs.Programs.{written_rows, written_column, written_columns, written_program, live_ids}
-use Rattle.presolve_model.specs.Sparse.{Sparse}
+use Rattle.problem_model.specs.declared.line.Line.{Line}
+use Rattle.problem_model.specs.declared.line.Sides.{Sides}
+use Rattle.problem_model.specs.declared.line.Bounds.{Bounds}
+use Rattle.problem_model.specs.Matrices.{no_line}
+use Rattle.problem_model.specs.Problems.{no_sides, no_bounds, column_at, sides_at, bounds_at, cost_at, IsSparse}
+use Rattle.problem_model.specs.Programs.{written_rows, written_column, written_columns, written_program, live_ids}
+use Rattle.problem_model.specs.Sparse.{Sparse}
 use Rattle.program_laws.specs.Chosen.{at_live}
 use Rattle.program_laws.specs.Shapes.{IsOf}
 use Rattle.program_laws.proofs.Choosing.{chosen-at, chosen-length}

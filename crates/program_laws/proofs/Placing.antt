@@ -8,8 +8,8 @@ use Rattle.lp_theory.specs.Renumbering.{IsLeftOut, spread}
 use Rattle.lp_theory.proofs.Ids.{ids-at, spread-off}
 use Rattle.undo_records.specs.declared.label.Label.{Label}
 use Rattle.undo_records.specs.Lift.{placed}
-use Rattle.presolve_model.specs.declared.line.Line.{Line}
-use Rattle.presolve_model.specs.Programs.{live_ids_from, live_ids}
+use Rattle.problem_model.specs.declared.line.Line.{Line}
+use Rattle.problem_model.specs.Programs.{live_ids_from, live_ids}
 use Rattle.program_laws.proofs.Ranks.{id_if, none_before, shift, ids_ascend}
 
 -- the numbers after the first

@@ -13,14 +13,14 @@ use Rattle.lp_model.specs.Meaning.{no_row, no_column, meaning}
 use Rattle.lp_model.specs.ProgramData.{ProgramData}
 use Rattle.lp_model.specs.Sparse.{dense}
 use Rattle.lp_theory.specs.Turning.{signed, minimizing}
-use Rattle.presolve_model.specs.declared.line.Line.{Line}
-use Rattle.presolve_model.specs.declared.line.Sides.{Sides}
-use Rattle.presolve_model.specs.declared.line.Bounds.{Bounds}
-use Rattle.presolve_model.specs.Matrices.{no_line, line_at}
-use Rattle.presolve_model.specs.Problems.{no_sides, no_bounds, row_at, column_at, sides_at, bounds_at, cost_at}
-use Rattle.presolve_model.specs.Programs.{IsProblemOf, line_of, sides_of, bounds_of}
-use Rattle.presolve_model.specs.Showing.{coefficient_of, end_if, shown}
-use Rattle.presolve_model.specs.Sparse.{Sparse}
+use Rattle.problem_model.specs.declared.line.Line.{Line}
+use Rattle.problem_model.specs.declared.line.Sides.{Sides}
+use Rattle.problem_model.specs.declared.line.Bounds.{Bounds}
+use Rattle.problem_model.specs.Matrices.{no_line, line_at}
+use Rattle.problem_model.specs.Problems.{no_sides, no_bounds, row_at, column_at, sides_at, bounds_at, cost_at}
+use Rattle.problem_model.specs.Programs.{IsProblemOf, line_of, sides_of, bounds_of}
+use Rattle.problem_model.specs.Showing.{coefficient_of, end_if, shown}
+use Rattle.problem_model.specs.Sparse.{Sparse}
 use Rattle.problem_laws.proofs.Terms.{dense-absent, has-beyond}
 use Rattle.problem_laws.proofs.ShowingEdits.{cell, cell_dead}
 use Rattle.program_laws.proofs.Negating.{signed_zero, with_signs, minimizing_signs}

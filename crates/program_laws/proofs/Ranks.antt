@@ -3,9 +3,9 @@ use Rattle.std.proofs.Common.{◌≡◌, ℕ, zero, suc, ◌+◌, ◌<◌, ◌�
 use Rattle.std.specs.Prelude.{if◌then◌else◌}
 use Rattle.std.proofs.lemmas.List.Sums.{sum_by-cons}
 use Rattle.lp_theory.specs.Renumbering.{IdsFrom, IsLeftOut}
-use Rattle.presolve_model.specs.declared.line.Line.{Line}
-use Rattle.presolve_model.specs.Matrices.{line_at}
-use Rattle.presolve_model.specs.Programs.{rank, live_ids_from, live_ids}
+use Rattle.problem_model.specs.declared.line.Line.{Line}
+use Rattle.problem_model.specs.Matrices.{line_at}
+use Rattle.problem_model.specs.Programs.{rank, live_ids_from, live_ids}
 use Rattle.problem_laws.proofs.AtIds.{live_inside}
 use Rattle.problem_laws.proofs.Terms.{not_both}
 

@@ -6,9 +6,9 @@ use Rattle.std.proofs.lemmas.List.Elements.{All-nil, All-cons, All-head, All-tai
 use Rattle.rational.specs.Number.{Number}
 use Rattle.lp_model.specs.declared.terms.Term.{Term}
 use Rattle.lp_model.specs.Sparse.{Ascends, dense}
-use Rattle.presolve_model.specs.declared.line.Line.{Line}
-use Rattle.presolve_model.specs.Matrices.{line_at, live_only}
-use Rattle.presolve_model.specs.Programs.{rank, renumbered, live_ids}
+use Rattle.problem_model.specs.declared.line.Line.{Line}
+use Rattle.problem_model.specs.Matrices.{line_at, live_only}
+use Rattle.problem_model.specs.Programs.{rank, renumbered, live_ids}
 use Rattle.problem_laws.proofs.Terms.{dense-cons_same, dense-cons_other, ascends-wider}
 use Rattle.program_laws.proofs.Ranks.{rank-zero, rank-≤, rank-suc, rank-inside, rank-id, id_rank}
 

@@ -12,13 +12,13 @@ use Rattle.lp_model.specs.Meaning.{no_row, no_column}
 use Rattle.lp_model.specs.Names.{NamesDiffer, names_of_rows, names_of_columns, Differ}
 use Rattle.lp_model.specs.ProgramData.{ProgramData}
 use Rattle.lp_model.specs.Writable.{WritableNumber, WritableBound, WritableSides, WritableRow, WritableColumn, Writable}
-use Rattle.presolve_model.specs.declared.line.Sides.{Sides}
-use Rattle.presolve_model.specs.declared.line.Bounds.{Bounds}
-use Rattle.presolve_model.specs.EndTests.{is_in_order}
-use Rattle.presolve_model.specs.Problems.{row_at, column_at, sides_at, bounds_at, cost_at, IsSparse}
-use Rattle.presolve_model.specs.Programs.{IsProblemOf, written_column, written_program}
-use Rattle.presolve_model.specs.Sparse.{Sparse}
-use Rattle.presolve_model.specs.Writing.{KeptSides, KeptColumn, IsWritable}
+use Rattle.problem_model.specs.declared.line.Sides.{Sides}
+use Rattle.problem_model.specs.declared.line.Bounds.{Bounds}
+use Rattle.problem_model.specs.EndTests.{is_in_order}
+use Rattle.problem_model.specs.Problems.{row_at, column_at, sides_at, bounds_at, cost_at, IsSparse}
+use Rattle.problem_model.specs.Programs.{IsProblemOf, written_column, written_program}
+use Rattle.problem_model.specs.Sparse.{Sparse}
+use Rattle.problem_model.specs.Writing.{KeptSides, KeptColumn, IsWritable}
 use Rattle.problem_laws.proofs.AtIds.{row_inside, column_inside}
 use Rattle.program_laws.specs.Chosen.{at_live, names_at}
 use Rattle.program_laws.specs.Shapes.{IsOf, NoCrossedSides}

@@ -17,11 +17,11 @@ use Rattle.lp_theory.specs.Renumbering.{IsRest, gathered, spread, written}
 use Rattle.lp_theory.specs.Turning.{signed, minimizing}
 use Rattle.lp_theory.proofs.Renumbered.{reduces_to_written, written_reduces_to}
 use Rattle.lp_theory.proofs.Steps.{compose}
-use Rattle.presolve_model.specs.declared.line.Sides.{Sides}
-use Rattle.presolve_model.specs.Problems.{row_at, column_at, sides_at, bounds_at, cost_at, IsSparse}
-use Rattle.presolve_model.specs.Programs.{renumbered, written_program, live_ids}
-use Rattle.presolve_model.specs.Showing.{coefficient_of, end_if, shown}
-use Rattle.presolve_model.specs.Sparse.{Sparse}
+use Rattle.problem_model.specs.declared.line.Sides.{Sides}
+use Rattle.problem_model.specs.Problems.{row_at, column_at, sides_at, bounds_at, cost_at, IsSparse}
+use Rattle.problem_model.specs.Programs.{renumbered, written_program, live_ids}
+use Rattle.problem_model.specs.Showing.{coefficient_of, end_if, shown}
+use Rattle.problem_model.specs.Sparse.{Sparse}
 use Rattle.problem_laws.proofs.Entries.{dense-live}
 use Rattle.problem_laws.proofs.ShowingEdits.{cell, cell_dead}
 use Rattle.program_laws.specs.Alike.{AreAlike}

@@ -1,6 +1,6 @@
 -- What stands at the live lines of a list.
 use Rattle.std.specs.Prelude.{ℕ, List, [], ◌∷◌, if◌then◌else◌}
-use Rattle.presolve_model.specs.declared.line.Line.{Line}
+use Rattle.problem_model.specs.declared.line.Line.{Line}
 
 -- where each line has the item at its place
 abbrev pub at_live : {A : Type 0} → List Line → List A → List A

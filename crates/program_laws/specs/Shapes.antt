@@ -2,9 +2,9 @@
 use Rattle.std.specs.Prelude.{◌≡◌, ℕ, true, length}
 use Rattle.lp_model.specs.ProgramData.{ProgramData}
 use Rattle.lp_theory.specs.Turning.{signed}
-use Rattle.presolve_model.specs.EndTests.{is_in_order}
-use Rattle.presolve_model.specs.Problems.{row_at, sides_at}
-use Rattle.presolve_model.specs.Sparse.{Sparse}
+use Rattle.problem_model.specs.EndTests.{is_in_order}
+use Rattle.problem_model.specs.Problems.{row_at, sides_at}
+use Rattle.problem_model.specs.Sparse.{Sparse}
 
 -- as many rows and columns as the program, and its constant as it is minimized
 pub record IsOf (program : ProgramData) (p : Sparse) : Type 0 where

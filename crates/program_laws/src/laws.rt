@@ -16,12 +16,12 @@ ghost use Rattle.lp_theory.specs.Renumbering.{IsRest, gathered, spread, written}
 ghost use Rattle.lp_theory.specs.Turning.{minimizing};
 ghost use Rattle.undo_records.specs.declared.label.Label.{Label};
 ghost use Rattle.undo_records.specs.Lift.{placed};
-ghost use Rattle.presolve_model.specs.declared.line.Line.{Line};
-ghost use Rattle.presolve_model.specs.Problems.{IsSparse};
-ghost use Rattle.presolve_model.specs.Programs.{IsProblemOf, live_ids, written_program};
-ghost use Rattle.presolve_model.specs.Showing.{shown};
-ghost use Rattle.presolve_model.specs.Sparse.{Sparse};
-ghost use Rattle.presolve_model.specs.Writing.{IsWritable};
+ghost use Rattle.problem_model.specs.declared.line.Line.{Line};
+ghost use Rattle.problem_model.specs.Problems.{IsSparse};
+ghost use Rattle.problem_model.specs.Programs.{IsProblemOf, live_ids, written_program};
+ghost use Rattle.problem_model.specs.Showing.{shown};
+ghost use Rattle.problem_model.specs.Sparse.{Sparse};
+ghost use Rattle.problem_model.specs.Writing.{IsWritable};
 ghost use Rattle.program_laws.specs.Alike.{AreAlike};
 ghost use Rattle.program_laws.specs.Chosen.{names_at};
 ghost use Rattle.program_laws.specs.Shapes.{IsOf, NoCrossedSides};

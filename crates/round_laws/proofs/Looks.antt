@@ -13,7 +13,7 @@ use Rattle.presolve_model.specs.declared.instance.Verdict.{Verdict}
 use Rattle.presolve_model.specs.declared.instance.Verdict.TheVariants as verdict
 use Rattle.presolve_model.specs.declared.instance.Rule.{Rule}
 use Rattle.presolve_model.specs.declared.instance.Rule.TheVariants as rule
-use Rattle.presolve_model.specs.Sparse.{Sparse}
+use Rattle.problem_model.specs.Sparse.{Sparse}
 use Rattle.presolve_model.specs.Given.{Proposed}
 use Rattle.presolve_model.specs.Enabled.{enabled_on}
 use Rattle.presolve_model.specs.Ledger.{Ledger}

@@ -12,22 +12,22 @@ use Rattle.lp_theory.specs.Turning.{signed}
 use Rattle.lp_theory.proofs.Turns.{no_point_in}
 use Rattle.undo_records.specs.Postsolve.{Postsolve}
 use Rattle.undo_records.specs.Walk.{AreSound}
-use Rattle.presolve_model.specs.declared.part.Contents.TheVariants as holds
+use Rattle.problem_model.specs.declared.part.Contents.TheVariants as holds
 use Rattle.presolve_model.specs.declared.instance.Instance.TheVariants as at
 use Rattle.presolve_model.specs.declared.instance.Verdict.{Verdict}
 use Rattle.presolve_model.specs.declared.instance.Verdict.TheVariants as verdict
 use Rattle.presolve_model.specs.Accounts.{Walked}
 use Rattle.presolve_model.specs.Conditions.{are_crossed}
 use Rattle.presolve_model.specs.Enabled.{enabled_on}
-use Rattle.presolve_model.specs.EndTests.{is_in_order}
+use Rattle.problem_model.specs.EndTests.{is_in_order}
 use Rattle.presolve_model.specs.Ledger.{Ledger, Stands}
-use Rattle.presolve_model.specs.Problems.{IsSparse, row_at, sides_at}
-use Rattle.presolve_model.specs.Programs.{IsProblemOf, written_program}
+use Rattle.problem_model.specs.Problems.{IsSparse, row_at, sides_at}
+use Rattle.problem_model.specs.Programs.{IsProblemOf, written_program}
 use Rattle.presolve_model.specs.Replay.{replay}
-use Rattle.presolve_model.specs.Showing.{shown}
-use Rattle.presolve_model.specs.Sparse.{Sparse}
+use Rattle.problem_model.specs.Showing.{shown}
+use Rattle.problem_model.specs.Sparse.{Sparse}
 use Rattle.presolve_model.specs.Stuck.{IsUndecided}
-use Rattle.presolve_model.specs.Writing.{IsWritable}
+use Rattle.problem_model.specs.Writing.{IsWritable}
 use Rattle.program_laws.specs.Shapes.{IsOf, NoCrossedSides}
 use Rattle.program_laws.proofs.ProblemsShow.{problem_shows_program}
 use Rattle.program_laws.proofs.WrittenShow.{written_ascends}

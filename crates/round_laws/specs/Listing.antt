@@ -4,7 +4,7 @@ use Rattle.std.specs.List.{range_with_len}
 use Rattle.presolve_model.specs.declared.instance.Rule.TheVariants.{CrossedBounds, CrossedSides, EmptyRow, SingletonRow, FixedColumn, RoundBounds, EmptyColumn}
 use Rattle.presolve_model.specs.Given.{Proposed}
 use Rattle.presolve_model.specs.Scans.{found_at}
-use Rattle.presolve_model.specs.Sparse.{Sparse}
+use Rattle.problem_model.specs.Sparse.{Sparse}
 
 -- the enabled verdicts at these rows and columns, in their order, each with its reading
 abbrev pub verdicts_at : Sparse → ℕ → List ℕ → List ℕ → List Proposed

@@ -6,7 +6,7 @@ use Rattle.lp_theory.specs.Turning.{signed}
 use Rattle.undo_records.specs.declared.label.Label.{Label}
 use Rattle.undo_records.specs.Postsolve.{Postsolve}
 use Rattle.undo_records.specs.Walk.{lives}
-use Rattle.presolve_model.specs.declared.line.Line.{Line}
+use Rattle.problem_model.specs.declared.line.Line.{Line}
 use Rattle.presolve_model.specs.Ledger.{Ledger}
 
 -- the names that labels tell

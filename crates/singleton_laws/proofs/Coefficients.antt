@@ -3,10 +3,10 @@ use Rattle.std.proofs.Common.{◌≡◌, ℕ, Bool, true, false, ◌&&◌, Optio
 use Rattle.std.specs.Prelude.{if◌then◌else◌}
 use Rattle.rational.specs.Number.{Number, zero_ℚ}
 use Rattle.lp_model.specs.Sparse.{dense}
-use Rattle.presolve_model.specs.Matrices.{IsMatrix}
-use Rattle.presolve_model.specs.Problems.{row_at, column_at, row_entries, column_entries}
-use Rattle.presolve_model.specs.Showing.{coefficient_of, end_if}
-use Rattle.presolve_model.specs.Sparse.{Sparse}
+use Rattle.problem_model.specs.Matrices.{IsMatrix}
+use Rattle.problem_model.specs.Problems.{row_at, column_at, row_entries, column_entries}
+use Rattle.problem_model.specs.Showing.{coefficient_of, end_if}
+use Rattle.problem_model.specs.Sparse.{Sparse}
 use Rattle.problem_laws.proofs.Entries.{dense-live_only}
 
 pub zero_either : (b : Bool) → (if b then zero_ℚ else zero_ℚ) ≡ zero_ℚ

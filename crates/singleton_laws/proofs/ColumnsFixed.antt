@@ -8,11 +8,11 @@ use Rattle.rational.specs.Ends.{less}
 use Rattle.lp_model.specs.declared.terms.Term.{Term}
 use Rattle.lp_model.specs.Sparse.{Ascends, dense, no_term}
 use Rattle.lp_theory.proofs.SparseSums.{dense-below}
-use Rattle.presolve_model.specs.declared.line.Sides.{Sides}
-use Rattle.presolve_model.specs.Problems.{sides_at, cost_at, column_entries}
-use Rattle.presolve_model.specs.Edits.{sides_moved, column_deleted, offset_set}
+use Rattle.problem_model.specs.declared.line.Sides.{Sides}
+use Rattle.problem_model.specs.Problems.{sides_at, cost_at, column_entries}
+use Rattle.problem_model.specs.Edits.{sides_moved, column_deleted, offset_set}
 use Rattle.presolve_model.specs.Changes.{sides_less, all_less, column_fixed}
-use Rattle.presolve_model.specs.Sparse.{Sparse}
+use Rattle.problem_model.specs.Sparse.{Sparse}
 use Rattle.problem_laws.proofs.AtIds.{sides_set-same, sides_set-other}
 use Rattle.problem_laws.proofs.Terms.{dense-cons_same, dense-cons_other}
 

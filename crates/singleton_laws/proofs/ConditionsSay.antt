@@ -8,16 +8,16 @@ use Rattle.rational.specs.Ends.{Between}
 use Rattle.lp_model.specs.declared.terms.Term.{Term}
 use Rattle.lp_rules.specs.Crossed.{AreCrossed}
 use Rattle.lp_rules.specs.EmptyColumn.{resting_place}
-use Rattle.presolve_model.specs.declared.part.Contents.TheVariants as holds
-use Rattle.presolve_model.specs.declared.part.Read.{Read}
+use Rattle.problem_model.specs.declared.part.Contents.TheVariants as holds
+use Rattle.problem_model.specs.declared.part.Read.{Read}
 use Rattle.presolve_model.specs.declared.instance.Instance.{Instance}
 use Rattle.presolve_model.specs.declared.instance.Instance.TheVariants as at
 use Rattle.presolve_model.specs.declared.instance.Reduction.TheVariants.{EmptyRow, SingletonRow, FixedColumn, RoundBounds, EmptyColumn}
 use Rattle.presolve_model.specs.declared.instance.Verdict.TheVariants.{CrossedBounds, CrossedSides}
-use Rattle.presolve_model.specs.Sparse.{Sparse}
-use Rattle.presolve_model.specs.Problems.{row_at, column_at, sides_at, bounds_at, cost_at, row_entries, column_entries}
-use Rattle.presolve_model.specs.Parts.{contents_of}
-use Rattle.presolve_model.specs.EndTests.{is_apart, is_place}
+use Rattle.problem_model.specs.Sparse.{Sparse}
+use Rattle.problem_model.specs.Problems.{row_at, column_at, sides_at, bounds_at, cost_at, row_entries, column_entries}
+use Rattle.problem_model.specs.Parts.{contents_of}
+use Rattle.problem_model.specs.EndTests.{is_apart, is_place}
 use Rattle.presolve_model.specs.Conditions.{is_empty_row, is_singleton_row, is_fixed_column, is_to_be_rounded, is_empty_column, are_crossed, condition}
 use Rattle.presolve_model.specs.Changes.{first_of, value_of, place_of}
 use Rattle.presolve_model.specs.Enabled.{Agrees, Enabled, enabled_on}

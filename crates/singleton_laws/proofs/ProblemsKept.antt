@@ -10,19 +10,19 @@ use Rattle.lp_model.specs.declared.terms.Term.{Term}
 use Rattle.lp_model.specs.Sparse.{dense, no_term}
 use Rattle.lp_model.specs.Writable.{IsNear, WritableNumber, WritableBound}
 use Rattle.lp_rules.specs.RoundBounds.{rounded_up, rounded_down}
-use Rattle.presolve_model.specs.declared.line.Sides.{Sides}
-use Rattle.presolve_model.specs.declared.line.Bounds.{Bounds}
-use Rattle.presolve_model.specs.declared.line.Line.{Line}
+use Rattle.problem_model.specs.declared.line.Sides.{Sides}
+use Rattle.problem_model.specs.declared.line.Bounds.{Bounds}
+use Rattle.problem_model.specs.declared.line.Line.{Line}
 use Rattle.presolve_model.specs.declared.instance.Instance.TheVariants as at
 use Rattle.presolve_model.specs.declared.instance.Reduction.{Reduction}
 use Rattle.presolve_model.specs.declared.instance.Reduction.TheVariants.{EmptyRow, SingletonRow, FixedColumn, RoundBounds, EmptyColumn}
-use Rattle.presolve_model.specs.Problems.{row_at, column_at, sides_at, bounds_at, cost_at, column_entries, IsSparse}
-use Rattle.presolve_model.specs.Edits.{row_deleted, bounds_set, offset_set}
-use Rattle.presolve_model.specs.Writing.{KeptSides, KeptColumn, IsWritable}
+use Rattle.problem_model.specs.Problems.{row_at, column_at, sides_at, bounds_at, cost_at, column_entries, IsSparse}
+use Rattle.problem_model.specs.Edits.{row_deleted, bounds_set, offset_set}
+use Rattle.problem_model.specs.Writing.{KeptSides, KeptColumn, IsWritable}
 use Rattle.presolve_model.specs.Changes.{sole_entry, met_lower, met_upper, value_of, place_of, changed}
 use Rattle.presolve_model.specs.Fitting.{WidthFits, WidthIsWritten, IsWritten, AreNear, TermFits, TermIsWritten, ChangeFits, ChangeIsWritten}
 use Rattle.presolve_model.specs.Enabled.{enabled_on}
-use Rattle.presolve_model.specs.Sparse.{Sparse}
+use Rattle.problem_model.specs.Sparse.{Sparse}
 use Rattle.problem_laws.proofs.AtIds.{without-dead, without-other, without-live, losing-live, losing-entries, row_deleted-other_sides, column_deleted-other_bounds, bounds_set-same, bounds_set-other, row_inside, column_inside, bounds_inside}
 use Rattle.problem_laws.proofs.Terms.{not_both}
 use Rattle.problem_laws.proofs.Entries.{column_entries-ascend}

@@ -28,15 +28,15 @@ use Rattle.undo_records.specs.declared.undo.Undo.TheVariants as undo
 use Rattle.presolve_model.specs.declared.instance.Instance.TheVariants as at
 use Rattle.presolve_model.specs.declared.instance.Reduction.{Reduction}
 use Rattle.presolve_model.specs.declared.instance.Reduction.TheVariants.{EmptyRow, SingletonRow, FixedColumn, RoundBounds, EmptyColumn}
-use Rattle.presolve_model.specs.Problems.{row_at, column_at, sides_at, bounds_at, cost_at, row_entries, column_entries, IsSparse}
-use Rattle.presolve_model.specs.Edits.{bounds_set}
-use Rattle.presolve_model.specs.Showing.{coefficient_of, end_if, shown}
+use Rattle.problem_model.specs.Problems.{row_at, column_at, sides_at, bounds_at, cost_at, row_entries, column_entries, IsSparse}
+use Rattle.problem_model.specs.Edits.{bounds_set}
+use Rattle.problem_model.specs.Showing.{coefficient_of, end_if, shown}
 use Rattle.presolve_model.specs.Changes.{sole_entry, met_lower, met_upper, entry_met, value_of, place_of, all_less, column_fixed, changed, added}
 use Rattle.presolve_model.specs.Recorded.{record_of}
 use Rattle.presolve_model.specs.Enabled.{enabled_on}
-use Rattle.presolve_model.specs.Sparse.{Sparse}
+use Rattle.problem_model.specs.Sparse.{Sparse}
 use Rattle.problem_laws.proofs.AtIds.{row_inside, column_inside}
-use Rattle.problem_laws.specs.LeftOut.{column_left_out}
+use Rattle.problem_model.specs.LeftOut.{column_left_out}
 use Rattle.problem_laws.proofs.Entries.{column_entries-ascend}
 use Rattle.problem_laws.proofs.Keeping.{bounds_set_sparse}
 use Rattle.problem_laws.proofs.ShowingEdits.{shown-row_deleted, shown-column_deleted, shown-bounds_set}

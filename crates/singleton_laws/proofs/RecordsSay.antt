@@ -8,19 +8,19 @@ use Rattle.lp_model.specs.declared.terms.Term.{Term}
 use Rattle.lp_model.specs.Sparse.{Ascends}
 use Rattle.undo_records.specs.Sound.{IsSound}
 use Rattle.undo_records.specs.Walk.{is_on, ids_of, NamesLive, after}
-use Rattle.presolve_model.specs.declared.line.Line.{Line}
-use Rattle.presolve_model.specs.declared.line.Sides.{Sides}
+use Rattle.problem_model.specs.declared.line.Line.{Line}
+use Rattle.problem_model.specs.declared.line.Sides.{Sides}
 use Rattle.presolve_model.specs.declared.instance.Instance.TheVariants as at
 use Rattle.presolve_model.specs.declared.instance.Reduction.{Reduction}
 use Rattle.presolve_model.specs.declared.instance.Reduction.TheVariants.{EmptyRow, SingletonRow, FixedColumn, RoundBounds, EmptyColumn}
-use Rattle.presolve_model.specs.Matrices.{no_line, line_at, live_only}
-use Rattle.presolve_model.specs.Problems.{row_at, column_at, row_entries, IsSparse}
-use Rattle.presolve_model.specs.Edits.{deleted, lines_without, lines_losing}
-use Rattle.presolve_model.specs.Flags.{flags_of}
+use Rattle.problem_model.specs.Matrices.{no_line, line_at, live_only}
+use Rattle.problem_model.specs.Problems.{row_at, column_at, row_entries, IsSparse}
+use Rattle.problem_model.specs.Edits.{deleted, lines_without, lines_losing}
+use Rattle.problem_model.specs.Flags.{flags_of}
 use Rattle.presolve_model.specs.Changes.{sole_entry, value_of, changed}
 use Rattle.presolve_model.specs.Recorded.{record_of}
 use Rattle.presolve_model.specs.Enabled.{enabled_on}
-use Rattle.presolve_model.specs.Sparse.{Sparse}
+use Rattle.problem_model.specs.Sparse.{Sparse}
 use Rattle.problem_laws.proofs.AtIds.{losing_live, row_inside, column_inside}
 use Rattle.problem_laws.proofs.Entries.{live_only-live, row_entries-ascend, row_entries-live, column_entries-ascend}
 use Rattle.singleton_laws.proofs.ConditionsSay.{OneEntry, empty_row_said, singleton_row_said, fixed_column_said, rounding_said, empty_column_said}

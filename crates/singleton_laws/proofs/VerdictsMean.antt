@@ -8,9 +8,9 @@ use Rattle.presolve_model.specs.declared.instance.Instance.TheVariants as at
 use Rattle.presolve_model.specs.declared.instance.Verdict.{Verdict}
 use Rattle.presolve_model.specs.declared.instance.Verdict.TheVariants.{CrossedBounds, CrossedSides}
 use Rattle.presolve_model.specs.Enabled.{enabled_on}
-use Rattle.presolve_model.specs.Problems.{row_at, column_at, sides_at, bounds_at}
-use Rattle.presolve_model.specs.Showing.{shown, end_if}
-use Rattle.presolve_model.specs.Sparse.{Sparse}
+use Rattle.problem_model.specs.Problems.{row_at, column_at, sides_at, bounds_at}
+use Rattle.problem_model.specs.Showing.{shown, end_if}
+use Rattle.problem_model.specs.Sparse.{Sparse}
 use Rattle.problem_laws.proofs.AtIds.{row_inside, column_inside}
 use Rattle.singleton_laws.proofs.ConditionsSay.{CrossedLine, crossed_bounds_said, crossed_sides_said}
 

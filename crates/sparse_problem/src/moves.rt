@@ -2,7 +2,7 @@
 
 ghost use Rattle.std.specs.Prelude.{◌≡◌, if◌then◌else◌, ◌&&◌};
 ghost use Rattle.rational.specs.Ends.{same_end};
-ghost use Rattle.presolve_model.specs.Edits.{bounds_moved, deleted, risen, sides_moved, touched_bounds, touched_sides};
+ghost use Rattle.problem_model.specs.Edits.{bounds_moved, deleted, risen, sides_moved, touched_bounds, touched_sides};
 ghost use Rattle.sparse_problem.specs.Losses.{counted_out};
 
 use fractions::ext::Ext;

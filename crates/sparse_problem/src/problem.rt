@@ -1,8 +1,8 @@
 //! Problems.
 
 ghost use Rattle.std.specs.Prelude.{◌≡◌, ◌<◌, ◌^◌, length, IfOk, true, [], ◌∷◌};
-ghost use Rattle.presolve_model.specs.Edits.{bounds_set, column_deleted, offset_set, row_deleted, sides_set};
-ghost use Rattle.presolve_model.specs.Problems.{bounds_at, column_at, column_entries, cost_at, IsSparse, row_at, row_entries, sides_at};
+ghost use Rattle.problem_model.specs.Edits.{bounds_set, column_deleted, offset_set, row_deleted, sides_set};
+ghost use Rattle.problem_model.specs.Problems.{bounds_at, column_at, column_entries, cost_at, IsSparse, row_at, row_entries, sides_at};
 
 use crate::lines::{delete_line, first_live, is_live, live_entries_of, live_terms_of};
 use crate::moves::{moved_bounds, moved_sides, touch_bounds, touch_sides};
@@ -28,13 +28,13 @@ pub struct Problem {
 impl Model for Problem {
     ghost use Rattle.std.specs.Coded.{codes};
     ghost use Rattle.rational.specs.Lowest.{number_code};
-    ghost use Rattle.presolve_model.specs.Sparse.{Sparse};
+    ghost use Rattle.problem_model.specs.Sparse.{Sparse};
 
     ghost Value = { Sparse };
 
     ghost coded = { Prim.hlevel (codes, number_code) };
 
-    ghost use Rattle.presolve_model.specs.Problems.{IsSparse};
+    ghost use Rattle.problem_model.specs.Problems.{IsSparse};
 
     ghost view = { λ p. record { matrix = record { rows = p.rows.items; columns = p.columns.items }; sides = p.sides.items; bounds = p.bounds.items; costs = p.costs.items; offset = p.offset; constant = p.constant } };
 

@@ -9,7 +9,7 @@ use Rattle.presolve_model.specs.Enabled.{enabled_on}
 use Rattle.presolve_model.specs.Fitting.{ChangeFits, ChangeIsWritten}
 use Rattle.presolve_model.specs.Ledger.{Ledger, Stands}
 use Rattle.presolve_model.specs.Recorded.{record_of}
-use Rattle.presolve_model.specs.Sparse.{Sparse}
+use Rattle.problem_model.specs.Sparse.{Sparse}
 use Rattle.history_laws.proofs.Books.{stands_reduction}
 
 -- one reduction more

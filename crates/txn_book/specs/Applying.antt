@@ -4,8 +4,8 @@ use Rattle.presolve_model.specs.declared.instance.Reduction.{Reduction}
 use Rattle.presolve_model.specs.declared.instance.Instance.TheVariants as at
 use Rattle.presolve_model.specs.declared.outcome.Outcome.{Outcome}
 use Rattle.presolve_model.specs.declared.outcome.Outcome.TheVariants as outcome
-use Rattle.presolve_model.specs.declared.outcome.Refusal.{Refusal}
-use Rattle.presolve_model.specs.declared.outcome.Refusal.TheVariants.{Past, NotDecimal, NoMemory}
+use Rattle.problem_model.specs.declared.refusal.Refusal.{Refusal}
+use Rattle.problem_model.specs.declared.refusal.Refusal.TheVariants.{Past, NotDecimal, NoMemory}
 use Rattle.presolve_model.specs.Fitting.{ChangeFits, ChangeIsWritten}
 use Rattle.presolve_model.specs.Ledger.{Ledger}
 use Rattle.presolve_model.specs.Commits.{next_place, with_instance}

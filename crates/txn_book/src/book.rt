@@ -11,9 +11,9 @@ ghost use Rattle.presolve_model.specs.declared.instance.Instance.TheVariants as 
 ghost use Rattle.presolve_model.specs.Commits.{Allows, HasRoom, IsFull, left_by, next_place, with_instance};
 ghost use Rattle.presolve_model.specs.Enabled.{enabled_on};
 ghost use Rattle.presolve_model.specs.Ledger.{Stands};
-ghost use Rattle.presolve_model.specs.Showing.{shown};
+ghost use Rattle.problem_model.specs.Showing.{shown};
 ghost use Rattle.presolve_model.specs.Worlds.{version_of};
-ghost use Rattle.presolve_model.specs.Writing.{IsWritable};
+ghost use Rattle.problem_model.specs.Writing.{IsWritable};
 ghost use Rattle.txn_book.specs.Applying.{Applies, outcome_of};
 
 use crate::version::Version;

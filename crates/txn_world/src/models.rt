@@ -6,7 +6,7 @@ ghost use Rattle.rational.specs.Number.{zero_ℚ};
 ghost use Rattle.rational.specs.Order.{◌<ℚ◌};
 ghost use Rattle.lp_model.specs.Sparse.{Ascends};
 ghost use Rattle.lp_model.specs.Writable.{EntriesAscend, IsNear, Writable, WritableBound, WritableColumn, WritableNumber, WritableRow};
-ghost use Rattle.presolve_model.specs.Writing.{IsWritable};
+ghost use Rattle.problem_model.specs.Writing.{IsWritable};
 
 use fractions::Numbers;
 use fractions::ext::Ext;

@@ -2,7 +2,7 @@ use Rattle.std.proofs.Common.{length, sym, ap, ap₂, ◌∙◌}
 use Rattle.lp_model.specs.Names.{names_of_columns, names_of_rows}
 use Rattle.lp_theory.specs.Turning.{signed}
 use Rattle.undo_records.specs.Postsolve.{Postsolve}
-use Rattle.presolve_model.specs.Sparse.{Sparse}
+use Rattle.problem_model.specs.Sparse.{Sparse}
 use Rattle.round_laws.specs.Telling.{are_live, IsToldOf}
 use Rattle.round_laws.proofs.Telling.{problem_is_of, told_sound}
 use Rattle.presolve_rounds.proofs.labels.records_of.Goals as goal

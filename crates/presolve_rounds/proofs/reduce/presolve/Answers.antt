@@ -1,5 +1,5 @@
 use Rattle.std.proofs.Common.{Option, sym, ap₂, ◌∙◌, subst}
-use Rattle.presolve_model.specs.Programs.{IsProblemOf}
+use Rattle.problem_model.specs.Programs.{IsProblemOf}
 use Rattle.round_laws.proofs.Telling.{decided_infeasible}
 use Rattle.presolve_rounds.specs.declared.outcome.End.{End}
 use Rattle.presolve_rounds.specs.declared.outcome.Options.{Options}

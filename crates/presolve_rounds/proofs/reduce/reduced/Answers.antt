@@ -1,7 +1,7 @@
 use Rattle.std.proofs.Common.{length, sym, ap, ◌∙◌, subst}
 use Rattle.lp_model.specs.ProgramData.{ProgramData}
-use Rattle.presolve_model.specs.Programs.{written_program}
-use Rattle.presolve_model.specs.Sparse.{Sparse}
+use Rattle.problem_model.specs.Programs.{written_program}
+use Rattle.problem_model.specs.Sparse.{Sparse}
 use Rattle.round_laws.proofs.Telling.{problem_is_of}
 use Rattle.presolve_rounds.specs.Conclusions.{Concluded}
 use Rattle.presolve_rounds.proofs.Concluding.{concluded, options_with}

@@ -1,7 +1,7 @@
 use Rattle.std.proofs.Common.{◌≡◌, true, List, refl, subst, sym}
 use Rattle.presolve_model.specs.declared.instance.Instance.{Instance}
 use Rattle.presolve_model.specs.declared.instance.Instance.TheVariants as at
-use Rattle.presolve_model.specs.declared.part.Read.{Read}
+use Rattle.problem_model.specs.declared.part.Read.{Read}
 use Rattle.presolve_model.specs.Enabled.{Agrees, enabled_on}
 use Rattle.presolve_model.specs.Ledger.{Ledger}
 use Rattle.singleton_laws.proofs.ConditionsSay.{enabled_by}

@@ -5,7 +5,7 @@ use Rattle.lp_model.specs.Reductions.{Reduces}
 use Rattle.lp_model.specs.Verdicts.{NoPoint}
 use Rattle.undo_records.specs.Lift.{lift}
 use Rattle.presolve_model.specs.Ledger.{Ledger}
-use Rattle.presolve_model.specs.Showing.{shown}
+use Rattle.problem_model.specs.Showing.{shown}
 use Rattle.history_laws.proofs.Books.{book_means}
 use Rattle.txn_book.proofs.book.Book.stands.Goals as goal
 

@@ -1,9 +1,9 @@
 -- A problem as data.
 use Rattle.std.specs.Prelude.{List}
 use Rattle.rational.specs.Number.{Number}
-use Rattle.presolve_model.specs.declared.line.Sides.{Sides}
-use Rattle.presolve_model.specs.declared.line.Bounds.{Bounds}
-use Rattle.presolve_model.specs.Grids.{Grid}
+use Rattle.problem_model.specs.declared.line.Sides.{Sides}
+use Rattle.problem_model.specs.declared.line.Bounds.{Bounds}
+use Rattle.problem_model.specs.Grids.{Grid}
 
 -- Rows and columns, the rows' sides, the columns' bounds and costs, what was added to the cost, and the constant.
 -- Costs, what was added and the constant are in the minimizing sense.

@@ -1,19 +1,19 @@
 -- Problems of programs, and the programs that are written of problems.
 use Rattle.std.specs.Prelude.{◌≡◌, ℕ, ◌+◌, ◌<◌, true, List, [], ◌∷◌, length, map, take, if◌then◌else◌}
 use Rattle.std.specs.List.{count_by}
-use Rattle.rational.specs.Number.{Number, zero_ℚ, neg_ℚ}
+use Rattle.rational.specs.Number.{Number, zero_ℚ}
 use Rattle.lp_model.specs.declared.program.Sense.{Sense}
 use Rattle.lp_model.specs.declared.program.RowDef.{RowDef}
 use Rattle.lp_model.specs.declared.program.ColumnDef.{ColumnDef}
 use Rattle.lp_model.specs.declared.terms.Term.{Term}
 use Rattle.lp_model.specs.ProgramData.{ProgramData}
 use Rattle.lp_theory.specs.Turning.{signed}
-use Rattle.presolve_model.specs.declared.line.Line.{Line}
-use Rattle.presolve_model.specs.declared.line.Sides.{Sides}
-use Rattle.presolve_model.specs.declared.line.Bounds.{Bounds}
-use Rattle.presolve_model.specs.Matrices.{live_only}
-use Rattle.presolve_model.specs.Problems.{IsSparse, row_at}
-use Rattle.presolve_model.specs.Sparse.{Sparse}
+use Rattle.problem_model.specs.declared.line.Line.{Line}
+use Rattle.problem_model.specs.declared.line.Sides.{Sides}
+use Rattle.problem_model.specs.declared.line.Bounds.{Bounds}
+use Rattle.problem_model.specs.Matrices.{live_only}
+use Rattle.problem_model.specs.Problems.{IsSparse, row_at}
+use Rattle.problem_model.specs.Sparse.{Sparse}
 
 -- a live line with these entries, which has never changed
 abbrev pub line_of : List Term → Line

@@ -1,5 +1,5 @@
 -- Tests of a lower and an upper end; none is infinite.
-use Rattle.std.specs.Prelude.{Bool, true, false, not, ◌&&◌, ◌||◌, Option, Some, None, is_some}
+use Rattle.std.specs.Prelude.{Bool, true, false, not, ◌&&◌, ◌||◌, Option, Some, None}
 use Rattle.rational.specs.Number.{Number, zero_ℚ}
 use Rattle.rational.specs.Compare.{le_ℚ, lt_ℚ, eq_ℚ}
 use Rattle.rational.specs.Floor.{is_whole}

@@ -1,11 +1,10 @@
 -- What rows and columns of a matrix have to do with one another.
-use Rattle.std.specs.Prelude.{◌≡◌, ◌≢◌, ℕ, true, false, List, [], ◌∷◌, length, slice_index_or}
+use Rattle.std.specs.Prelude.{◌≡◌, ℕ, false, List, [], length, slice_index_or}
 use Rattle.std.specs.List.{filter}
-use Rattle.rational.specs.Number.{zero_ℚ}
 use Rattle.lp_model.specs.declared.terms.Term.{Term}
 use Rattle.lp_model.specs.Sparse.{Ascends, dense}
-use Rattle.presolve_model.specs.declared.line.Line.{Line}
-use Rattle.presolve_model.specs.Grids.{Grid}
+use Rattle.problem_model.specs.declared.line.Line.{Line}
+use Rattle.problem_model.specs.Grids.{Grid}
 
 abbrev pub no_line : Line
 no_line = record { live = false; entries = []; live_entries = 0; changes = 0 }

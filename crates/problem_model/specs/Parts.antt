@@ -1,11 +1,11 @@
 -- The parts of a problem: what each holds, and how often it has changed. A part past the ids is gone and has never changed.
 use Rattle.std.specs.Prelude.{ℕ, if◌then◌else◌}
-use Rattle.presolve_model.specs.declared.part.Part.{Part}
-use Rattle.presolve_model.specs.declared.part.Part.TheVariants.{Row, Sides, Col, Bounds}
-use Rattle.presolve_model.specs.declared.part.Contents.{Contents}
-use Rattle.presolve_model.specs.declared.part.Contents.TheVariants as holds
-use Rattle.presolve_model.specs.Problems.{row_at, column_at, sides_at, bounds_at, cost_at, row_entries, column_entries}
-use Rattle.presolve_model.specs.Sparse.{Sparse}
+use Rattle.problem_model.specs.declared.part.Part.{Part}
+use Rattle.problem_model.specs.declared.part.Part.TheVariants.{Row, Sides, Col, Bounds}
+use Rattle.problem_model.specs.declared.part.Contents.{Contents}
+use Rattle.problem_model.specs.declared.part.Contents.TheVariants as holds
+use Rattle.problem_model.specs.Problems.{row_at, column_at, sides_at, bounds_at, cost_at, row_entries, column_entries}
+use Rattle.problem_model.specs.Sparse.{Sparse}
 
 -- a row's entries in live columns, its sides, a column's entries in live rows and its cost, its bounds and whether it is whole;
 -- of a row or column that isn't live they are gone

@@ -1,10 +1,10 @@
 -- The linear program that a problem shows: with original ids, to be minimized. What is deleted has no coefficients, no ends and no cost.
-use Rattle.std.specs.Prelude.{ℕ, Bool, false, ◌&&◌, length, Option, None, if◌then◌else◌}
+use Rattle.std.specs.Prelude.{ℕ, Bool, ◌&&◌, length, Option, None, if◌then◌else◌}
 use Rattle.rational.specs.Number.{Number, zero_ℚ}
 use Rattle.lp_model.specs.Sparse.{dense}
 use Rattle.lp_model.specs.LinearProgram.{LinearProgram}
-use Rattle.presolve_model.specs.Problems.{row_at, column_at, sides_at, bounds_at, cost_at}
-use Rattle.presolve_model.specs.Sparse.{Sparse}
+use Rattle.problem_model.specs.Problems.{row_at, column_at, sides_at, bounds_at, cost_at}
+use Rattle.problem_model.specs.Sparse.{Sparse}
 
 abbrev pub coefficient_of : Sparse → ℕ → ℕ → Number
 coefficient_of p i j = if (row_at p i).live && (column_at p j).live then dense (row_at p i).entries j else zero_ℚ
