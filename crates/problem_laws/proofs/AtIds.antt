@@ -10,7 +10,7 @@ use Rattle.lp_model.specs.Sparse.{has}
 use Rattle.problem_model.specs.declared.line.Line.{Line}
 use Rattle.problem_model.specs.Matrices.{no_line, line_at}
 use Rattle.problem_model.specs.Problems.{no_sides, no_bounds, row_at, column_at, sides_at, bounds_at, IsSparse}
-use Rattle.problem_model.specs.Edits.{risen, deleted, losing, lines_without, lines_losing, touched_sides, touched_bounds, sides_moved, bounds_moved, row_deleted, column_deleted, sides_set, bounds_set}
+use Rattle.problem_model.specs.Edits.{deleted, losing, lines_without, lines_losing, sides_moved, bounds_moved, row_deleted, column_deleted, sides_set, bounds_set}
 use Rattle.problem_model.specs.Sparse.{Sparse}
 
 -- what is live stands before the end of the list
@@ -47,7 +47,7 @@ without-live lines k m n = ap (λ (y : Line). y.live) (without-other lines k m n
 -- ---- lines that lose an entry
 -- a line that loses an entry, if it had it
 abbrev lost : Bool → Line → Line
-lost b l = if b then record l { live_entries = pred l.live_entries; changes = if l.live then risen l.changes else l.changes } else l
+lost b l = if b then record l { live_entries = pred l.live_entries } else l
 
 pub losing_live : (k : ℕ) (l : Line) → (losing k l).live ≡ l.live
 losing_live k l = by (has k l.entries)
@@ -93,12 +93,6 @@ row_deleted-other p i k n = without-other p.matrix.rows i k n
 pub row_deleted-column : (p : Sparse) (i j : ℕ) → column_at (row_deleted p i) j ≡ losing i (column_at p j)
 row_deleted-column p i j = losing-at p.matrix.columns i j
 
-pub row_deleted-sides : (p : Sparse) (i : ℕ) → i < length p.sides → sides_at (row_deleted p i) i ≡ touched_sides (sides_at p i)
-row_deleted-sides p i l = get_or-set_same p.sides i (touched_sides (sides_at p i)) no_sides l
-
-pub row_deleted-other_sides : (p : Sparse) (i k : ℕ) → k ≢ i → sides_at (row_deleted p i) k ≡ sides_at p k
-row_deleted-other_sides p i k n = get_or-set_other p.sides i k (touched_sides (sides_at p i)) no_sides n
-
 -- ---- and with a deleted column
 pub column_deleted-same : (p : Sparse) (j : ℕ) → j < length p.matrix.columns → column_at (column_deleted p j) j ≡ deleted (column_at p j)
 column_deleted-same p j l = without-same p.matrix.columns j l
@@ -108,12 +102,6 @@ column_deleted-other p j k n = without-other p.matrix.columns j k n
 
 pub column_deleted-row : (p : Sparse) (j i : ℕ) → row_at (column_deleted p j) i ≡ losing j (row_at p i)
 column_deleted-row p j i = losing-at p.matrix.rows j i
-
-pub column_deleted-bounds : (p : Sparse) (j : ℕ) → j < length p.bounds → bounds_at (column_deleted p j) j ≡ touched_bounds (bounds_at p j)
-column_deleted-bounds p j l = get_or-set_same p.bounds j (touched_bounds (bounds_at p j)) no_bounds l
-
-pub column_deleted-other_bounds : (p : Sparse) (j k : ℕ) → k ≢ j → bounds_at (column_deleted p j) k ≡ bounds_at p k
-column_deleted-other_bounds p j k n = get_or-set_other p.bounds j k (touched_bounds (bounds_at p j)) no_bounds n
 
 -- ---- new sides and bounds
 pub sides_set-same : (p : Sparse) (i : ℕ) (l u : Option Number) → i < length p.sides → sides_at (sides_set p i l u) i ≡ sides_moved (sides_at p i) l u

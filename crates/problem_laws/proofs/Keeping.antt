@@ -9,7 +9,7 @@ use Rattle.problem_model.specs.declared.line.Line.{Line}
 use Rattle.problem_model.specs.Grids.{Grid}
 use Rattle.problem_model.specs.Matrices.{line_at, live_only, Crosses, IsMatrix}
 use Rattle.problem_model.specs.Problems.{row_at, column_at, sides_at, bounds_at, IsSparse}
-use Rattle.problem_model.specs.Edits.{deleted, losing, lines_without, lines_losing, touched_sides, touched_bounds, sides_moved, bounds_moved, row_deleted, column_deleted, sides_set, bounds_set, offset_set}
+use Rattle.problem_model.specs.Edits.{deleted, losing, lines_without, lines_losing, sides_moved, bounds_moved, row_deleted, column_deleted, sides_set, bounds_set, offset_set}
 use Rattle.problem_model.specs.Sparse.{Sparse}
 use Rattle.problem_laws.proofs.AtIds.{live_inside, without-entries, without-live_entries, losing-entries, losing-live_entries}
 use Rattle.problem_laws.proofs.Terms.{length-without}
@@ -62,7 +62,7 @@ column_deleted_matrix g j live m = record {
   agree = λ a b. ap (λ (ts : List Term). dense ts b) (losing-entries g.rows j a) ∙ m.agree a b ∙ ap (λ (ts : List Term). dense ts a) (sym (without-entries g.columns j (live_inside g.columns j live) b));
 }
 
-few : (m n : ℕ) → n ≡ m → m < 2 ^ 32 → n < 2 ^ 32
+pub few : (m n : ℕ) → n ≡ m → m < 2 ^ 32 → n < 2 ^ 32
 few m n e l = subst (λ (k : ℕ). k < 2 ^ 32) (sym e) l
 
 pub row_deleted_sparse : (p : Sparse) (i : ℕ) → IsSparse p → (row_at p i).live ≡ true → IsSparse (row_deleted p i)
@@ -70,7 +70,7 @@ row_deleted_sparse p i s live = record {
   matrix = row_deleted_matrix p.matrix i live s.matrix;
   few_rows = few (length p.matrix.rows) _ (length-lines_without p.matrix.rows i) s.few_rows;
   few_columns = few (length p.matrix.columns) _ (length-lines_losing p.matrix.columns i) s.few_columns;
-  sides = length-set p.sides i (touched_sides (sides_at p i)) ∙ s.sides ∙ sym (length-lines_without p.matrix.rows i);
+  sides = s.sides ∙ sym (length-lines_without p.matrix.rows i);
   bounds = s.bounds ∙ sym (length-lines_losing p.matrix.columns i);
   costs = s.costs ∙ sym (length-lines_losing p.matrix.columns i);
 }
@@ -81,7 +81,7 @@ column_deleted_sparse p j s live = record {
   few_rows = few (length p.matrix.rows) _ (length-lines_losing p.matrix.rows j) s.few_rows;
   few_columns = few (length p.matrix.columns) _ (length-lines_without p.matrix.columns j) s.few_columns;
   sides = s.sides ∙ sym (length-lines_losing p.matrix.rows j);
-  bounds = length-set p.bounds j (touched_bounds (bounds_at p j)) ∙ s.bounds ∙ sym (length-lines_without p.matrix.columns j);
+  bounds = s.bounds ∙ sym (length-lines_without p.matrix.columns j);
   costs = s.costs ∙ sym (length-lines_without p.matrix.columns j);
 }
 

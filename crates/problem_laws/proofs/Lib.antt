@@ -3,4 +3,15 @@ pub mod Terms
 pub mod Entries
 pub mod Keeping
 pub mod ShowingEdits
-pub mod ChangesTell
+pub mod PutTerms
+pub mod EntriesKept
+pub mod EntriesShown
+pub mod Numbering
+pub mod Untouched
+pub mod Writing
+pub mod Lists
+pub mod Sweeps
+pub mod Touched
+pub mod SameContents
+pub mod Raising
+pub mod Commits

@@ -1,5 +1,5 @@
 -- What each edit does to the linear program that a problem shows.
-use Rattle.std.proofs.Common.{◌≡◌, ◌≢◌, ℕ, ◌<◌, Bool, true, false, ◌&&◌, List, length, sym, refl, ap, ap₂, ◌∙◌, ◌⊎◌, inl, inr, Option, None}
+use Rattle.std.proofs.Common.{◌≡◌, ◌≢◌, ℕ, ◌<◌, Bool, true, false, ◌&&◌, List, length, sym, refl, ap, ◌∙◌, ◌⊎◌, inl, inr, Option, None}
 use Rattle.std.specs.Prelude.{if◌then◌else◌}
 use Rattle.std.proofs.lemmas.Bool.{cases_eq}
 use Rattle.rational.specs.Number.{Number, zero_ℚ}
@@ -15,7 +15,7 @@ use Rattle.problem_model.specs.Edits.{sides_moved, bounds_moved, row_deleted, co
 use Rattle.problem_model.specs.Showing.{coefficient_of, end_if, shown}
 use Rattle.problem_model.specs.Sparse.{Sparse}
 use Rattle.problem_model.specs.LeftOut.{column_left_out}
-use Rattle.problem_laws.proofs.AtIds.{without-dead, without-live, without-entries, losing-live, losing-entries, row_inside, column_inside, sides_inside, bounds_inside, row_deleted-other_sides, column_deleted-other_bounds, sides_set-same, sides_set-other, bounds_set-same, bounds_set-other}
+use Rattle.problem_laws.proofs.AtIds.{without-dead, without-live, without-entries, losing-live, losing-entries, row_inside, column_inside, sides_inside, bounds_inside, sides_set-same, sides_set-other, bounds_set-same, bounds_set-other}
 use Rattle.problem_laws.proofs.Keeping.{length-lines_without, length-lines_losing}
 
 -- a coefficient by what it is made of: whether the row and the column are live, and the number there
@@ -51,7 +51,7 @@ module _ (p : Sparse) (i : ℕ) (s : IsSparse p) (live : (row_at p i).live ≡ t
   row_end : (end_of : Sides → Option Number) (k : ℕ) → end_if (row_at (row_deleted p i) k).live (end_of (sides_at (row_deleted p i) k)) ≡ put (λ k. end_if (row_at p k).live (end_of (sides_at p k))) i None k
   row_end end_of = at_or_off (λ k. end_if (row_at (row_deleted p i) k).live (end_of (sides_at (row_deleted p i) k)) ≡ put (λ k. end_if (row_at p k).live (end_of (sides_at p k))) i None k) i
       (ap (λ (b : Bool). end_if b (end_of (sides_at (row_deleted p i) i))) (without-dead p.matrix.rows i row_there) ∙ sym (put-same (λ k. end_if (row_at p k).live (end_of (sides_at p k))) i None))
-      (λ k n. same_end_if (without-live p.matrix.rows i k n) (ap end_of (row_deleted-other_sides p i k n)) ∙ sym (put-other (λ k. end_if (row_at p k).live (end_of (sides_at p k))) i None k n))
+      (λ k n. same_end_if (without-live p.matrix.rows i k n) refl ∙ sym (put-other (λ k. end_if (row_at p k).live (end_of (sides_at p k))) i None k n))
 
   pub shown-row_deleted : shown (row_deleted p i) ≡ without_row (shown p) i
   shown-row_deleted t = record {
@@ -84,7 +84,7 @@ module _ (p : Sparse) (j : ℕ) (s : IsSparse p) (live : (column_at p j).live �
   column_shows none show dead = at_or_off (λ k. show (column_at (column_deleted p j) k).live (bounds_at (column_deleted p j) k) k ≡ put (λ k. show (column_at p k).live (bounds_at p k) k) j none k) j
       (ap (λ (b : Bool). show b (bounds_at (column_deleted p j) j) j) (without-dead p.matrix.columns j column_there) ∙ dead (bounds_at (column_deleted p j) j) j
       ∙ sym (put-same (λ k. show (column_at p k).live (bounds_at p k) k) j none))
-      (λ k n. ap₂ (λ (b : Bool) (e : Bounds). show b e k) (without-live p.matrix.columns j k n) (column_deleted-other_bounds p j k n)
+      (λ k n. ap (λ (b : Bool). show b (bounds_at p k) k) (without-live p.matrix.columns j k n)
       ∙ sym (put-other (λ k. show (column_at p k).live (bounds_at p k) k) j none k n))
 
   pub shown-column_deleted : shown (column_deleted p j) ≡ column_left_out (shown p) j

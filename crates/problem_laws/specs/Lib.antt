@@ -1,2 +1,2 @@
-pub mod LeftOut
+pub mod Sizes
 pub mod Telling

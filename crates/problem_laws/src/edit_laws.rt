@@ -1,39 +1,43 @@
-//! What each edit of a problem keeps, and what it does to the linear program that the problem shows.
+//! What edits of a problem, one after the other, keep, and what they make of what it shows.
 
-ghost use Rattle.std.specs.Prelude.{◌≡◌, ℕ, true, Option};
-ghost use Rattle.rational.specs.Number.{Number};
-ghost use Rattle.lp_theory.specs.Edits.{without_row, with_bounds, with_sides};
+ghost use Rattle.std.specs.Prelude.{◌≡◌, ◌++◌, List, All, false};
+ghost use Rattle.rational.specs.Number.{◌+ℚ◌};
+ghost use Rattle.fractions.specs.declared.Numbers.{Numbers};
+ghost use Rattle.problem_model.specs.declared.edit.Edit.{Edit};
 ghost use Rattle.problem_model.specs.declared.part.Part.{Part};
-ghost use Rattle.problem_model.specs.Sparse.{Sparse};
-ghost use Rattle.problem_model.specs.Problems.{row_at, column_at, IsSparse};
-ghost use Rattle.problem_model.specs.Edits.{row_deleted, column_deleted, sides_set, bounds_set, offset_set};
+ghost use Rattle.problem_model.specs.Allowed.{AreAllowed, IsAllowed};
+ghost use Rattle.problem_model.specs.Applied.{applied, edited};
+ghost use Rattle.problem_model.specs.EditedPrograms.{edited_program, programs_edited};
+ghost use Rattle.problem_model.specs.Flags.{flags_of};
+ghost use Rattle.problem_model.specs.Living.{all_flags_edited};
+ghost use Rattle.problem_model.specs.NewNumbers.{EditFits, EditIsSided, EditsAreWritten};
+ghost use Rattle.problem_model.specs.Offsets.{added_by};
+ghost use Rattle.problem_model.specs.Parts.{contents_of};
+ghost use Rattle.problem_model.specs.Problems.{IsSparse};
 ghost use Rattle.problem_model.specs.Showing.{shown};
-ghost use Rattle.problem_model.specs.LeftOut.{column_left_out};
-ghost use Rattle.problem_laws.specs.Telling.{IsTold};
+ghost use Rattle.problem_model.specs.Sparse.{Sparse};
+ghost use Rattle.problem_model.specs.Touching.{touched_by};
+ghost use Rattle.problem_model.specs.Writing.{IsWritable};
+ghost use Rattle.problem_laws.specs.Sizes.{SameSize};
 
-/// Each edit keeps what is asked of a problem.
-pub fn edits_keep_problems()
-    ensures row { (p : Sparse) (i : ℕ) → IsSparse p → (row_at p i).live ≡ true → IsSparse (row_deleted p i) }
-    ensures column { (p : Sparse) (j : ℕ) → IsSparse p → (column_at p j).live ≡ true → IsSparse (column_deleted p j) }
-    ensures sides { (p : Sparse) (i : ℕ) (l u : Option Number) → IsSparse p → IsSparse (sides_set p i l u) }
-    ensures bounds { (p : Sparse) (j : ℕ) (l u : Option Number) → IsSparse p → IsSparse (bounds_set p j l u) }
-    ensures offset { (p : Sparse) (k : Number) → IsSparse p → IsSparse (offset_set p k) }
-{}
-
-/// What each edit does to the linear program that is shown.
+/// What one edit keeps and makes.
 pub fn edits_show()
-    ensures row { (p : Sparse) (i : ℕ) → IsSparse p → (row_at p i).live ≡ true → shown (row_deleted p i) ≡ without_row (shown p) i }
-    ensures column { (p : Sparse) (j : ℕ) → IsSparse p → (column_at p j).live ≡ true → shown (column_deleted p j) ≡ column_left_out (shown p) j }
-    ensures sides { (p : Sparse) (i : ℕ) (l u : Option Number) → IsSparse p → (row_at p i).live ≡ true → shown (sides_set p i l u) ≡ with_sides (shown p) i l u }
-    ensures bounds { (p : Sparse) (j : ℕ) (l u : Option Number) → IsSparse p → (column_at p j).live ≡ true → shown (bounds_set p j l u) ≡ with_bounds (shown p) j l u }
-    ensures offset { (p : Sparse) (k : Number) → shown (offset_set p k) ≡ shown p }
+    ensures sparse { (p : Sparse) (e : Edit) → IsSparse p → IsAllowed p e → IsSparse (edited p e) }
+    ensures shown { (p : Sparse) (e : Edit) → IsSparse p → IsAllowed p e → shown (edited p e) ≡ edited_program (shown p) e }
 {}
 
-/// What a part holds changes only where its number of changes rises, or stands at the end of its type.
-pub fn edits_tell_changes()
-    ensures row { (p : Sparse) (i : ℕ) (a : Part) → IsSparse p → (row_at p i).live ≡ true → IsTold p (row_deleted p i) a }
-    ensures column { (p : Sparse) (j : ℕ) (a : Part) → IsSparse p → (column_at p j).live ≡ true → IsTold p (column_deleted p j) a }
-    ensures sides { (p : Sparse) (i : ℕ) (l u : Option Number) (a : Part) → IsSparse p → (row_at p i).live ≡ true → IsTold p (sides_set p i l u) a }
-    ensures bounds { (p : Sparse) (j : ℕ) (l u : Option Number) (a : Part) → IsSparse p → (column_at p j).live ≡ true → IsTold p (bounds_set p j l u) a }
-    ensures offset { (p : Sparse) (k : Number) (a : Part) → IsTold p (offset_set p k) a }
+/// What edits keep.
+pub fn edits_keep()
+    ensures sparse { (p : Sparse) (es : List Edit) → IsSparse p → AreAllowed p es → IsSparse (applied p es) }
+    ensures size { (p : Sparse) (es : List Edit) → SameSize p (applied p es) }
+    ensures writable { (numbers : Numbers) (p : Sparse) (es : List Edit) → IsSparse p → IsWritable numbers p → AreAllowed p es → All EditFits es → EditsAreWritten numbers es → All EditIsSided es → IsWritable numbers (applied p es) }
+    ensures untouched { (p : Sparse) (es : List Edit) (a : Part) → IsSparse p → AreAllowed p es → touched_by p es a ≡ false → contents_of (applied p es) a ≡ contents_of p a }
+{}
+
+/// What edits make of what is shown, of the offset and of what is live.
+pub fn edits_make()
+    ensures shown { (p : Sparse) (es : List Edit) → IsSparse p → AreAllowed p es → shown (applied p es) ≡ programs_edited (shown p) es }
+    ensures offset { (p : Sparse) (es : List Edit) → (applied p es).offset ≡ p.offset +ℚ added_by es }
+    ensures live { (p : Sparse) (es : List Edit) → flags_of (applied p es) ≡ all_flags_edited (flags_of p) es }
+    ensures more { (p : Sparse) (es fs : List Edit) → applied p (es ++ fs) ≡ applied (applied p es) fs }
 {}

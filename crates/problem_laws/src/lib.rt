@@ -2,4 +2,5 @@
 //! check proves them. The lemmas in `proofs/` are meant for the crates above too.
 #![tactic(auto)]
 
+pub mod commit_laws;
 pub mod edit_laws;
