@@ -9,6 +9,7 @@ use Rattle.lp_rules.specs.RoundBounds.{rounded_up, rounded_down}
 use Rattle.lp_rules.specs.EmptyColumn.{resting_place}
 use Rattle.problem_model.specs.declared.line.Sides.{Sides}
 use Rattle.problem_model.specs.declared.line.Bounds.{Bounds}
+pub use Rattle.problem_model.specs.Problems.{first_of}
 use Rattle.problem_model.specs.Problems.{sides_at, bounds_at, cost_at, row_entries, column_entries}
 use Rattle.problem_model.specs.Edits.{row_deleted, column_deleted, sides_set, bounds_set, offset_set}
 use Rattle.problem_model.specs.Raised.{raised}
@@ -17,10 +18,6 @@ use Rattle.presolve_model.specs.declared.instance.Reduction.{Reduction}
 use Rattle.presolve_model.specs.declared.instance.Reduction.TheVariants.{EmptyRow, SingletonRow, FixedColumn, RoundBounds, EmptyColumn}
 
 -- the one entry of a row that has one
-abbrev pub first_of : List Term → Term
-first_of [] = no_term
-first_of (t ∷ ts) = t
-
 abbrev pub sole_entry : Sparse → ℕ → Term
 sole_entry p i = first_of (row_entries p i)
 

@@ -1,7 +1,8 @@
 -- Rows and columns of a problem by their ids.
-use Rattle.std.specs.Prelude.{◌≡◌, ℕ, ◌<◌, ◌^◌, false, List, length, slice_index_or, None}
+use Rattle.std.specs.Prelude.{◌≡◌, ℕ, ◌<◌, ◌^◌, false, List, [], ◌∷◌, length, slice_index_or, None}
 use Rattle.rational.specs.Number.{Number, zero_ℚ}
 use Rattle.lp_model.specs.declared.terms.Term.{Term}
+use Rattle.lp_model.specs.Sparse.{no_term}
 use Rattle.problem_model.specs.declared.line.Line.{Line}
 use Rattle.problem_model.specs.declared.line.Sides.{Sides}
 use Rattle.problem_model.specs.declared.line.Bounds.{Bounds}
@@ -36,6 +37,11 @@ row_entries p i = live_only p.matrix.columns (row_at p i).entries
 
 abbrev pub column_entries : Sparse → ℕ → List Term
 column_entries p j = live_only p.matrix.rows (column_at p j).entries
+
+-- the first of terms
+abbrev pub first_of : List Term → Term
+first_of [] = no_term
+first_of (t ∷ ts) = t
 
 -- each row has sides, each column bounds and a cost, and ids have 32 bits
 pub record IsSparse (p : Sparse) : Type 0 where

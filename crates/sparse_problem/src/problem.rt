@@ -1,15 +1,15 @@
 //! Problems.
 
 ghost use Rattle.std.specs.Prelude.{◌≡◌, ◌<◌, ◌^◌, length, IfOk, true, [], ◌∷◌};
-ghost use Rattle.problem_model.specs.Edits.{bounds_set, column_deleted, offset_set, row_deleted, sides_set};
+ghost use Rattle.problem_model.specs.Edits.{bounds_set, column_deleted, cost_set, offset_set, row_deleted, sides_set};
 ghost use Rattle.problem_model.specs.Problems.{bounds_at, column_at, column_entries, cost_at, IsSparse, row_at, row_entries, sides_at};
 
 use crate::lines::{delete_line, first_live, is_live, live_entries_of, live_terms_of};
-use crate::moves::{moved_bounds, moved_sides, touch_bounds, touch_sides};
+use crate::moves::{move_bounds, move_sides};
 use fractions::ext::Ext;
 use fractions::frac::Frac;
 use lp_model::{Term, Terms};
-use presolve_model::{Bounds, Line, Sides};
+use problem_model::{Bounds, Line, Sides};
 use std::alloc::{AllocError, Global};
 use std::marker::Model;
 
@@ -232,7 +232,7 @@ impl Problem {
         requires { (row_at self.old i).live ≡ true }
         ensures { self.new ≡ sides_set self.old i lower upper }
     {
-        self.sides[i as usize] = moved_sides(self.sides[i as usize], lower, upper);
+        move_sides(&mut self.sides[i as usize], lower, upper);
     }
 
     /// Gives a column bounds.
@@ -240,7 +240,15 @@ impl Problem {
         requires { (column_at self.old j).live ≡ true }
         ensures { self.new ≡ bounds_set self.old j lower upper }
     {
-        self.bounds[j as usize] = moved_bounds(self.bounds[j as usize], lower, upper);
+        move_bounds(&mut self.bounds[j as usize], lower, upper);
+    }
+
+    /// Gives a column a cost, in the minimizing sense.
+    pub fn set_cost(&mut self, j: u32, cost: Frac)
+        requires { (column_at self.old j).live ≡ true }
+        ensures { self.new ≡ cost_set self.old j cost }
+    {
+        self.costs[j as usize] = cost;
     }
 
     /// Deletes a row with its sides. The columns' entries there stay in place, and are live no more.
@@ -248,7 +256,6 @@ impl Problem {
         requires { (row_at self.old i).live ≡ true }
         ensures { self.new ≡ row_deleted self.old i }
     {
-        touch_sides(&mut self.sides[i as usize]);
         delete_line(&mut self.rows, &mut self.columns, i);
     }
 
@@ -257,7 +264,6 @@ impl Problem {
         requires { (column_at self.old j).live ≡ true }
         ensures { self.new ≡ column_deleted self.old j }
     {
-        touch_bounds(&mut self.bounds[j as usize]);
         delete_line(&mut self.columns, &mut self.rows, j);
     }
 }
