@@ -7,3 +7,4 @@ pub mod Edited
 pub mod Crossing
 pub mod MadeProblems
 pub mod WrittenRows
+pub mod Renumbering

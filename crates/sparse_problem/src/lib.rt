@@ -4,6 +4,7 @@
 mod lines;
 mod made;
 mod moves;
+mod numbers;
 mod problem;
 mod transpose;
 mod written;

@@ -2,14 +2,18 @@
 
 ghost use Rattle.std.specs.Prelude.{◌≡◌, ◌<◌, ◌^◌, length, IfOk, true, [], ◌∷◌};
 ghost use Rattle.problem_model.specs.Edits.{bounds_set, column_deleted, cost_set, offset_set, row_deleted, sides_set};
+ghost use Rattle.problem_model.specs.Parts.{changes_of};
+ghost use Rattle.problem_model.specs.declared.part.Part.TheVariants as part;
+ghost use Rattle.sparse_problem.specs.Renumbered.{changes_put, IsThere};
 ghost use Rattle.problem_model.specs.Problems.{bounds_at, column_at, column_entries, cost_at, IsSparse, row_at, row_entries, sides_at};
 
 use crate::lines::{delete_line, first_live, is_live, live_entries_of, live_terms_of};
 use crate::moves::{move_bounds, move_sides};
+use crate::numbers::{line_changes, number_line};
 use fractions::ext::Ext;
 use fractions::frac::Frac;
 use lp_model::{Term, Terms};
-use problem_model::{Bounds, Line, Sides};
+use problem_model::{Bounds, Line, Part, Sides};
 use std::alloc::{AllocError, Global};
 use std::marker::Model;
 
@@ -265,5 +269,70 @@ impl Problem {
         ensures { self.new ≡ column_deleted self.old j }
     {
         delete_line(&mut self.columns, &mut self.rows, j);
+    }
+
+    /// Says how often a row's entries have changed.
+    fn set_row_changes(&mut self, i: u32, changes: u64)
+        requires { i < length self.old.matrix.rows }
+        ensures { self.new ≡ changes_put self.old (part.Row i) changes }
+    {
+        number_line(&mut self.rows, i, changes);
+    }
+
+    /// Says how often a column's entries and cost have changed.
+    fn set_column_changes(&mut self, j: u32, changes: u64)
+        requires { j < length self.old.matrix.columns }
+        ensures { self.new ≡ changes_put self.old (part.Col j) changes }
+    {
+        number_line(&mut self.columns, j, changes);
+    }
+
+    /// Says how often a row's sides have changed.
+    fn set_sides_changes(&mut self, i: u32, changes: u64)
+        requires { i < length self.old.sides }
+        ensures { self.new ≡ changes_put self.old (part.Sides i) changes }
+    {
+        let sides = &mut self.sides[i as usize];
+        sides.changes = changes;
+    }
+
+    /// Says how often a column's bounds have changed.
+    fn set_bounds_changes(&mut self, j: u32, changes: u64)
+        requires { j < length self.old.bounds }
+        ensures { self.new ≡ changes_put self.old (part.Bounds j) changes }
+    {
+        let bounds = &mut self.bounds[j as usize];
+        bounds.changes = changes;
+    }
+
+    /// Says how often a part has changed.
+    pub fn set_changes(&mut self, part: Part, changes: u64)
+        requires { IsThere self.old part }
+        ensures { self.new ≡ changes_put self.old part changes }
+    {
+        match part {
+            Part::Row(i) => self.set_row_changes(i, changes),
+            Part::Sides(i) => self.set_sides_changes(i, changes),
+            Part::Col(j) => self.set_column_changes(j, changes),
+            Part::Bounds(j) => self.set_bounds_changes(j, changes),
+        }
+    }
+
+    /// How often a part has changed; a part past the ids never has.
+    pub fn changes(&self, part: Part) -> u64
+        ensures { result ≡ changes_of self.now part }
+    {
+        match part {
+            Part::Row(i) => line_changes(self.rows.as_slice(), i),
+            Part::Sides(i) => match self.sides.get(i as usize) {
+                Some(sides) => sides.changes,
+                None => 0,
+            },
+            Part::Col(j) => line_changes(self.columns.as_slice(), j),
+            Part::Bounds(j) => match self.bounds.get(j as usize) {
+                Some(bounds) => bounds.changes,
+                None => 0,
+            },
+        }
     }
 }
