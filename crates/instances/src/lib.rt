@@ -2,10 +2,8 @@
 #![tactic(auto)]
 
 mod chunk;
-mod contents;
 mod enabled;
 mod ends;
-mod parts;
 mod proposal;
 mod reading;
 mod scans;
@@ -15,7 +13,6 @@ mod tests;
 
 pub use chunk::Chunk;
 pub use enabled::is_enabled;
-pub use parts::{changes, read, stands};
 pub use proposal::Proposal;
 pub use reading::{Differs, Reading};
 pub use scans::{reading_for, scan, scan_at};

@@ -3,8 +3,8 @@
 ghost use Rattle.std.specs.Prelude.{◌≡◌, ◌≢◌, ℕ, ◌<◌, length, take, Ok, IsOk, IfErr, ◌↔◌, slice_get, Some};
 ghost use Rattle.presolve_model.specs.Enabled.{Agrees, DiffersAt};
 
-use crate::parts::stands;
-use presolve_model::Read;
+use problem_commits::stands;
+use problem_model::Read;
 use sparse_problem::Problem;
 use std::marker::Model;
 

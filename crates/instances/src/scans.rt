@@ -8,11 +8,11 @@ ghost use Rattle.instances.specs.Ids.{id_count};
 
 use crate::chunk::Chunk;
 use crate::enabled::is_enabled;
-use crate::parts::read;
 use crate::proposal::Proposal;
 use crate::reading::Reading;
 use crate::tally::Tally;
 use presolve_model::{Instance, Part, Read, Reduction, Rule, Verdict};
+use problem_commits::read;
 use sparse_problem::Problem;
 use std::alloc::{AllocError, Global};
 

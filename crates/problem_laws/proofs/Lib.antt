@@ -15,3 +15,4 @@ pub mod Touched
 pub mod SameContents
 pub mod Raising
 pub mod Commits
+pub mod NumbersStay

@@ -164,3 +164,15 @@ module _ (q : Sparse) (number : Part → ℕ) where
       entries = subst (All (λ (t : Term). WritableNumber numbers t.value)) (sym (columns_like.entries j)) k.entries;
     };
   }
+
+-- ---- numbers count where there are parts
+each_ext : {X : Type 0} (f g : ℕ → X → X) (k : ℕ) (xs : List X) → ((m : ℕ) → m < length xs → (x : X) → f (k + m) x ≡ g (k + m) x) → each_at f k xs ≡ each_at g k xs
+each_ext f g k [] h = refl
+each_ext f g k (x ∷ xs) h = ap₂ ◌∷◌ (rw (sym (add-zero k)) (h 0 (omega arith) x)) (each_ext f g (suc k) xs (λ m l y. let e : suc k + m ≡ k + suc m = omega arith in rw e (h (suc m) (omega (arith, l)) y)))
+
+pub each_at-ext : {X : Type 0} (f g : ℕ → X → X) (xs : List X) → ((m : ℕ) → m < length xs → (x : X) → f m x ≡ g m x) → each_at f 0 xs ≡ each_at g 0 xs
+each_at-ext f g xs h = each_ext f g 0 xs (λ m l x. let e : 0 + m ≡ m = omega arith in rw e (h m l x))
+
+pub each_at-twice : {X : Type 0} (f g : ℕ → X → X) → ((k : ℕ) (x : X) → g k (f k x) ≡ g k x) → (k : ℕ) (xs : List X) → each_at g k (each_at f k xs) ≡ each_at g k xs
+each_at-twice f g h k [] = refl
+each_at-twice f g h k (x ∷ xs) = ap₂ ◌∷◌ (h k x) (each_at-twice f g h (suc k) xs)

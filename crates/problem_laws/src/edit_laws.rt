@@ -12,7 +12,7 @@ ghost use Rattle.problem_model.specs.Flags.{flags_of};
 ghost use Rattle.problem_model.specs.Living.{all_flags_edited};
 ghost use Rattle.problem_model.specs.NewNumbers.{EditFits, EditIsSided, EditsAreWritten};
 ghost use Rattle.problem_model.specs.Offsets.{added_by};
-ghost use Rattle.problem_model.specs.Parts.{contents_of};
+ghost use Rattle.problem_model.specs.Parts.{changes_of, contents_of};
 ghost use Rattle.problem_model.specs.Problems.{IsSparse};
 ghost use Rattle.problem_model.specs.Showing.{shown};
 ghost use Rattle.problem_model.specs.Sparse.{Sparse};
@@ -31,6 +31,7 @@ pub fn edits_keep()
     ensures sparse { (p : Sparse) (es : List Edit) → IsSparse p → AreAllowed p es → IsSparse (applied p es) }
     ensures size { (p : Sparse) (es : List Edit) → SameSize p (applied p es) }
     ensures writable { (numbers : Numbers) (p : Sparse) (es : List Edit) → IsSparse p → IsWritable numbers p → AreAllowed p es → All EditFits es → EditsAreWritten numbers es → All EditIsSided es → IsWritable numbers (applied p es) }
+    ensures numbers { (p : Sparse) (es : List Edit) (a : Part) → IsSparse p → AreAllowed p es → changes_of (applied p es) a ≡ changes_of p a }
     ensures untouched { (p : Sparse) (es : List Edit) (a : Part) → IsSparse p → AreAllowed p es → touched_by p es a ≡ false → contents_of (applied p es) a ≡ contents_of p a }
 {}
 

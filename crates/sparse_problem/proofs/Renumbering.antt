@@ -9,7 +9,8 @@ use Rattle.problem_model.specs.declared.line.Bounds.{Bounds}
 use Rattle.problem_model.specs.declared.part.Part.TheVariants as part
 use Rattle.problem_model.specs.Matrices.{no_line, line_at}
 use Rattle.problem_model.specs.Problems.{no_sides, no_bounds}
-use Rattle.problem_model.specs.Raised.{each_at}
+use Rattle.problem_model.specs.Parts.{changes_of}
+use Rattle.problem_model.specs.Raised.{each_at, numbered}
 use Rattle.problem_model.specs.Sparse.{Sparse}
 use Rattle.problem_laws.proofs.Numbering.{length-each_at, each_at-get}
 use Rattle.sparse_problem.specs.Renumbered.{changes_put}
@@ -75,4 +76,12 @@ bounds_put p j n x d l e t = record p {
   matrix = record { rows = sym (lines_self p.matrix.rows) t; columns = sym (lines_self p.matrix.columns) t };
   sides = sym (sides_self p.sides) t;
   bounds = (ap (λ (b : Bounds). set p.bounds j (record b { changes = n })) (e ∙ get_or_default p.bounds j d no_bounds l) ∙ set_each (λ (b : Bounds). b.changes) (λ n b. record b { changes = n }) no_bounds (λ b. refl) p.bounds j n l) t;
+}
+
+-- a problem with the numbers that it has
+pub numbered_self : (p : Sparse) → numbered p (changes_of p) ≡ p
+numbered_self p t = record p {
+  matrix = record { rows = lines_self p.matrix.rows t; columns = lines_self p.matrix.columns t };
+  sides = sides_self p.sides t;
+  bounds = bounds_self p.bounds t;
 }

@@ -9,5 +9,6 @@ mod problem;
 mod transpose;
 mod written;
 
+pub use lines::is_live;
 pub use made::in_sense;
 pub use problem::Problem;

@@ -1,4 +1,5 @@
 use Rattle.problem_laws.proofs.Lists.{sparse_applied, size_applied, writable_applied, untouched_applied}
+use Rattle.problem_laws.proofs.NumbersStay.{changes_applied}
 use Rattle.problem_laws.proofs.edit_laws.edits_keep.Goals as goal
 
 pub returns-clause-sparse : goal.returns-clause-sparse
@@ -12,3 +13,6 @@ returns-clause-writable c = writable_applied
 
 pub returns-clause-untouched : goal.returns-clause-untouched
 returns-clause-untouched c = untouched_applied
+
+pub returns-clause-numbers : goal.returns-clause-numbers
+returns-clause-numbers c = λ p es a s h. changes_applied p es s h a

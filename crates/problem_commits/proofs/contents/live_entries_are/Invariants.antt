@@ -1,6 +1,6 @@
 use Rattle.std.proofs.Common.{◌≡◌, ◌↔◌, length}
 use Rattle.problem_model.specs.Matrices.{live_only}
-use Rattle.instances.proofs.contents.live_entries_are.Given as goal
+use Rattle.problem_commits.proofs.contents.live_entries_are.Given as goal
 
 -- the live entries are those wanted where what is left of them is what is left of those
 abbrev pub invariant-loop-rest : goal.invariant-loop-rest

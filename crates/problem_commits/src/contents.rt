@@ -1,32 +1,13 @@
 //! What lines hold, looked at in place.
 
 ghost use Rattle.std.specs.Prelude.{◌≡◌, ◌↔◌, ℕ, IsTrue, [], ◌∷◌, option_map};
-ghost use Rattle.problem_model.specs.Matrices.{line_at, live_only};
-ghost use Rattle.instances.specs.Lefts.{IsLeft};
+ghost use Rattle.problem_model.specs.Matrices.{live_only};
+ghost use Rattle.problem_commits.specs.Lefts.{IsLeft};
 
 use fractions::ext::Ext;
 use lp_model::Term;
-use presolve_model::Line;
-
-/// Whether a line is there.
-pub fn is_live(lines: &[Line], k: u32) -> bool
-    ensures { result ≡ (line_at lines.now k).live }
-{
-    match lines.get(k as usize) {
-        Some(line) => line.live,
-        None => false,
-    }
-}
-
-/// How often a line has changed.
-pub fn line_changes(lines: &[Line], k: u32) -> u64
-    ensures { result ≡ (line_at lines.now k).changes }
-{
-    match lines.get(k as usize) {
-        Some(line) => line.changes,
-        None => 0,
-    }
-}
+use problem_model::Line;
+use sparse_problem::is_live;
 
 /// Whether two terms are the same.
 fn same_term(a: &Term, b: &Term) -> bool

@@ -1,0 +1,4 @@
+pub mod Lefts
+pub mod Changed
+pub mod Noted
+pub mod Committing

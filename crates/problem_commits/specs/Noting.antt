@@ -1,0 +1,57 @@
+-- Notes of parts that edits touch, as they stood before, and the numbers that rise by them.
+use Rattle.std.specs.Prelude.{Bool, true, not, List, [], ◌∷◌, ◌++◌, map, Option, Some, None, if◌then◌else◌}
+use Rattle.lp_model.specs.declared.terms.Term.{Term}
+use Rattle.problem_model.specs.declared.edit.Edit.{Edit}
+use Rattle.problem_model.specs.declared.edit.Edit.TheVariants.{DeleteRow, DeleteColumn, SetSides, SetBounds, AddOffset, SetCost, SetEntry}
+use Rattle.problem_model.specs.declared.part.Part.{Part}
+use Rattle.problem_model.specs.declared.part.Part.TheVariants as part
+use Rattle.problem_model.specs.declared.part.Contents.{Contents}
+use Rattle.problem_model.specs.Parts.{contents_of, changes_of}
+use Rattle.problem_model.specs.Problems.{row_entries, column_entries}
+use Rattle.problem_model.specs.Raised.{risen, same_contents}
+use Rattle.problem_model.specs.Sparse.{Sparse}
+use Rattle.sparse_problem.specs.Renumbered.{changes_put}
+use Rattle.problem_commits.specs.declared.notes.Note.{Note}
+
+-- a part that may change, and one that changes for certain
+abbrev pub asked : Sparse → Part → Note
+asked p a = record { part = a; changes = changes_of p a; held = Some (contents_of p a) }
+
+abbrev pub certain : Sparse → Part → Note
+certain p a = record { part = a; changes = changes_of p a; held = None }
+
+abbrev pub columns_noted : Sparse → List Term → List Note
+columns_noted p ts = map (λ t. certain p (part.Col t.id)) ts
+
+abbrev pub rows_noted : Sparse → List Term → List Note
+rows_noted p ts = map (λ t. certain p (part.Row t.id)) ts
+
+-- the notes of one edit on the problem before all of them
+abbrev pub noted : Sparse → Edit → List Note
+noted p (DeleteRow i) = certain p (part.Row i) ∷ certain p (part.Sides i) ∷ columns_noted p (row_entries p i)
+noted p (DeleteColumn j) = certain p (part.Col j) ∷ certain p (part.Bounds j) ∷ rows_noted p (column_entries p j)
+noted p (SetSides i l u) = asked p (part.Sides i) ∷ []
+noted p (SetBounds j l u) = asked p (part.Bounds j) ∷ []
+noted p (AddOffset k) = []
+noted p (SetCost j c) = asked p (part.Col j) ∷ []
+noted p (SetEntry i j a) = asked p (part.Row i) ∷ asked p (part.Col j) ∷ []
+
+abbrev pub all_noted : Sparse → List Edit → List Note
+all_noted p [] = []
+all_noted p (e ∷ es) = noted p e ++ all_noted p es
+
+-- whether a note's part holds something else in q
+abbrev pub is_other : Option Contents → Contents → Bool
+is_other None d = true
+is_other (Some c) d = not (same_contents c d)
+
+abbrev pub has_changed : Sparse → Note → Bool
+has_changed q n = is_other n.held (contents_of q n.part)
+
+-- its number is one more than it was before
+abbrev pub raised_note : Sparse → Note → Sparse
+raised_note q n = if has_changed q n then changes_put q n.part (risen n.changes) else q
+
+abbrev pub all_raised : Sparse → List Note → Sparse
+all_raised q [] = q
+all_raised q (n ∷ ns) = all_raised (raised_note q n) ns

@@ -1,0 +1,32 @@
+//! Commits.
+
+ghost use Rattle.std.specs.Prelude.{◌≡◌, OnErr, OnOk};
+ghost use Rattle.problem_model.specs.Allowed.{AreAllowed, NoEntries};
+ghost use Rattle.problem_model.specs.Offsets.{OffsetFits};
+ghost use Rattle.problem_model.specs.Raised.{committed};
+
+use crate::edits::make_all;
+use crate::notes::note_all;
+use crate::raises::raise_all;
+use problem_model::Edit;
+use sparse_problem::Problem;
+use std::alloc::{AllocError, Global};
+
+/// Makes edits, one after the other, and raises the number of each part that holds something else then by one. It takes time and memory
+/// for what the edits touch, and looks at nothing else.
+///
+/// # Errors
+/// Memory ran out. The problem is as it was.
+pub fn commit(problem: &mut Problem, alloc: Global, edits: &[Edit]) -> Result<(), AllocError>
+    requires allowed { AreAllowed problem.old edits.now }
+    requires fits { OffsetFits problem.old.offset edits.now }
+    requires plain { NoEntries edits.now }
+    ensures ok { OnOk result (problem.new ≡ committed problem.old edits.now) }
+    ensures err { OnErr result (problem.new ≡ problem.old) }
+{
+    problem.is_sparse();
+    let notes = note_all(alloc, problem, edits)?;
+    make_all(problem, edits);
+    raise_all(problem, notes.as_slice());
+    Ok(())
+}
