@@ -3,7 +3,6 @@ use Rattle.std.proofs.Common.{◌≡◌, ℕ, ◌+◌, ◌<◌, ◌≤◌, true,
 use Rattle.rational.specs.Number.{◌-ℚ◌}
 use Rattle.lp_model.specs.declared.program.Sense.TheVariants.{Min}
 use Rattle.lp_model.specs.Reductions.{Reduces}
-use Rattle.lp_model.specs.Verdicts.{NoPoint}
 use Rattle.undo_records.specs.Lift.{lift}
 use Rattle.problem_model.specs.Showing.{shown}
 use Rattle.problem_model.specs.declared.part.Read.{Read}
@@ -14,13 +13,15 @@ use Rattle.presolve_model.specs.declared.instance.Instance.TheVariants as at
 use Rattle.presolve_model.specs.declared.outcome.Outcome.{Outcome}
 use Rattle.presolve_model.specs.declared.outcome.Outcome.TheVariants.{Closed, Full, Stale, Past, NotDecimal, Applied, NoMemory}
 use Rattle.presolve_model.specs.Given.{Proposed}
-use Rattle.presolve_model.specs.Enabled.{enabled_on, Agrees, Enabled}
+use Rattle.presolve_model.specs.Enabled.{enabled_on, Enabled}
+use Rattle.problem_model.specs.Reading.{Agrees}
 use Rattle.presolve_model.specs.Changes.{changed}
-use Rattle.presolve_model.specs.Recorded.{record_of}
+use Rattle.presolve_model.specs.Tables.{record_of}
+use Rattle.presolve_model.specs.Meanings.{Meant}
 use Rattle.presolve_model.specs.Replay.{replay, records, Replays, CanApply}
 use Rattle.presolve_model.specs.Ledger.{Ledger, Stands}
 use Rattle.presolve_model.specs.Commits.{Allows, left_by, with_instance, IsOpen, HasRoom, Fits, CanWrite}
-use Rattle.singleton_laws.proofs.ConditionsSay.{enabled_by}
+use Rattle.presolve_model.proofs.Tabled.{enabled_by}
 use Rattle.history_laws.specs.Meanings.{Means}
 use Rattle.history_laws.proofs.Histories.{history_reduces, replay_grows, replays_grow, records_grow}
 use Rattle.history_laws.proofs.Keeping.{verdict_means}
@@ -61,10 +62,10 @@ reduces_of b s = subst (λ q. Reduces Min (shown b.start) (shown q) (lift b.reco
     (subst (λ us. Reduces Min (shown b.start) (shown (replay b.start b.history)) (lift us) ((replay b.start b.history).offset -ℚ b.start.offset)) (sym s.records)
     (history_reduces b.numbers b.start b.history s.sound s.replays))
 
-verdict_of : (b : Ledger) → Stands b → IfSome b.verdict (λ v. NoPoint (shown b.start))
+verdict_of : (b : Ledger) → Stands b → IfSome b.verdict (λ v. Meant v Min (shown b.start))
 verdict_of b s = by b.verdict s.verdict
   where
-    by : (o : Option Verdict) → IfSome o (λ v. enabled_on b.problem (at.Verdict v) ≡ true) → IfSome o (λ v. NoPoint (shown b.start))
+    by : (o : Option Verdict) → IfSome o (λ v. enabled_on b.problem (at.Verdict v) ≡ true) → IfSome o (λ v. Meant v Min (shown b.start))
     by None e = tt
     by (Some v) e = verdict_means b.numbers b.start b.history v s.sound s.replays (subst (λ q. enabled_on q (at.Verdict v) ≡ true) s.problem e)
 

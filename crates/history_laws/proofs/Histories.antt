@@ -11,11 +11,10 @@ use Rattle.problem_model.specs.Sparse.{Sparse}
 use Rattle.problem_model.specs.Showing.{shown}
 use Rattle.presolve_model.specs.declared.instance.Reduction.{Reduction}
 use Rattle.presolve_model.specs.Changes.{changed, added}
-use Rattle.presolve_model.specs.Recorded.{record_of}
+use Rattle.presolve_model.specs.Tables.{record_of}
 use Rattle.presolve_model.specs.Replay.{replay, records, Replays, CanApply}
 use Rattle.presolve_model.specs.Laws.{HistoryReduces}
-use Rattle.singleton_laws.proofs.ProblemsKept.{sound_changed}
-use Rattle.singleton_laws.proofs.ProgramsReduced.{reduces_changed, adds}
+use Rattle.presolve_model.proofs.Tabled.{reduces_changed, adds, sound_changed}
 
 pub history_reduces : HistoryReduces
 history_reduces numbers p [] s h = subst (λ k. Reduces Min (shown p) (shown p) (λ x. x) k) (ring rational (p.offset ∷ []) (num (pos 0)) (v 0 :- v 0) refl)

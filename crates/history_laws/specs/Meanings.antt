@@ -3,13 +3,13 @@ use Rattle.std.specs.Prelude.{IfSome}
 use Rattle.rational.specs.Number.{◌-ℚ◌}
 use Rattle.lp_model.specs.declared.program.Sense.TheVariants.{Min}
 use Rattle.lp_model.specs.Reductions.{Reduces}
-use Rattle.lp_model.specs.Verdicts.{NoPoint}
 use Rattle.undo_records.specs.Lift.{lift}
 use Rattle.presolve_model.specs.Ledger.{Ledger}
+use Rattle.presolve_model.specs.Meanings.{Meant}
 use Rattle.problem_model.specs.Showing.{shown}
 
 -- the linear program that was shown at first is reduced to the one that is shown now, as the records and the offset say; and a verdict
--- says that no point was feasible at first
+-- means at first what it says
 pub record Means (b : Ledger) : Type 0 where
   pub reduces : Reduces Min (shown b.start) (shown b.problem) (lift b.records) (b.problem.offset -ℚ b.start.offset)
-  pub verdict : IfSome b.verdict (λ v. NoPoint (shown b.start))
+  pub verdict : IfSome b.verdict (λ v. Meant v Min (shown b.start))

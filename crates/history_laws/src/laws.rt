@@ -18,14 +18,14 @@ ghost use Rattle.presolve_model.specs.Given.{Proposed};
 ghost use Rattle.presolve_model.specs.Laws.{HistoryReduces, VerdictMeans};
 ghost use Rattle.presolve_model.specs.Ledger.{Ledger, Stands};
 ghost use Rattle.problem_model.specs.Problems.{IsSparse};
-ghost use Rattle.presolve_model.specs.Recorded.{record_of};
+ghost use Rattle.presolve_model.specs.Tables.{record_of};
 ghost use Rattle.presolve_model.specs.Replay.{CanApply, records, replay, Replays};
 ghost use Rattle.problem_model.specs.Sparse.{Sparse};
 ghost use Rattle.presolve_model.specs.Worlds.{AreProposals, Happening, opened, Runs, State};
 ghost use Rattle.problem_model.specs.Writing.{IsWritable};
 ghost use Rattle.history_laws.specs.Meanings.{Means};
 
-/// A history reduces the linear program that is shown, and a verdict after it says that no point was feasible before it.
+/// A history reduces the linear program that is shown, and a verdict after it means before it what it says.
 pub fn histories_reduce()
     ensures reduces { HistoryReduces }
     ensures verdict { VerdictMeans }

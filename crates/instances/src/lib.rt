@@ -1,19 +1,26 @@
-//! Instances of rules on a problem: what they read, whether it still stands, where they are enabled, and scans for them.
+//! Instances of rules on a problem: what they read, whether it still stands, where they are enabled, scans for them, and reductions applied.
+//! What differs from rule to rule stands in tables, a line a rule.
 #![tactic(auto)]
 
+mod admit;
+mod applying;
 mod chunk;
 mod enabled;
-mod ends;
+mod listing;
 mod proposal;
 mod reading;
+mod reads;
 mod scans;
 mod tally;
 #[cfg(test)]
 mod tests;
 
+pub use applying::after;
 pub use chunk::Chunk;
-pub use enabled::is_enabled;
+pub use enabled::{change, is_enabled};
+pub use listing::{is_of_rows, reduction_rules, verdict_rules};
 pub use proposal::Proposal;
 pub use reading::{Differs, Reading};
-pub use scans::{reading_for, scan, scan_at};
+pub use reads::reading_for;
+pub use scans::{scan, scan_at};
 pub use tally::Tally;

@@ -1,11 +1,13 @@
 //! What was read of a problem.
 
-ghost use Rattle.std.specs.Prelude.{◌≡◌, ◌≢◌, ℕ, ◌<◌, length, take, Ok, IsOk, IfErr, ◌↔◌, slice_get, Some};
-ghost use Rattle.presolve_model.specs.Enabled.{Agrees, DiffersAt};
+ghost use Rattle.std.specs.Prelude.{◌≡◌, ◌≢◌, ℕ, ◌<◌, length, take, Ok, IsOk, IfErr, IfOk, ◌↔◌, slice_get, Some};
+ghost use Rattle.problem_model.specs.declared.part.Read.{Read};
+ghost use Rattle.problem_model.specs.Reading.{Agrees, DiffersAt, read_of};
 
-use problem_commits::stands;
+use problem_commits::{read, stands};
 use problem_model::Read;
 use sparse_problem::Problem;
+use std::alloc::{AllocError, Global};
 use std::marker::Model;
 
 /// What an instance read, part by part.
@@ -63,5 +65,14 @@ impl Reading {
             }
         }
         Ok(())
+    }
+
+    /// What stands now of the part at a place of the reading. For a place where `agrees` found that it differs, the part, what was read of
+    /// it, and this tell how.
+    pub fn now_at(&self, alloc: Global, problem: &Problem, place: usize) -> Result<Read, AllocError>
+        requires { place < length self.now }
+        ensures { IfOk result (λ now. (r : Read) → slice_get self.now place ≡ Some r → now ≡ read_of problem.now r.part) }
+    {
+        read(alloc, problem, self.reads[place].part)
     }
 }

@@ -1,93 +1,20 @@
 //! Scans for enabled instances.
 
-ghost use Rattle.std.specs.Prelude.{◌≡◌, ◌+◌, ◌<◌, ◌^◌, ◌++◌, ◌∷◌, [], true, map, IfOk, OnOk};
+ghost use Rattle.std.specs.Prelude.{◌≡◌, ◌+◌, ◌<◌, ◌^◌, ◌++◌, ◌∷◌, [], true, map, IfOk, length, OnOk};
 ghost use Rattle.std.specs.List.{filter, range_with_len};
-ghost use Rattle.presolve_model.specs.Enabled.{enabled_on, reading_of, read_of, read_by, looked_at_by};
-ghost use Rattle.presolve_model.specs.Scans.{instance_at, proposal_of, found_at, found_in};
-ghost use Rattle.instances.specs.Ids.{id_count};
+ghost use Rattle.presolve_model.specs.Enabled.{enabled_on};
+ghost use Rattle.presolve_model.specs.Instances.{id_count};
+ghost use Rattle.presolve_model.specs.Scans.{found_at, found_in, proposal_of};
 
 use crate::chunk::Chunk;
 use crate::enabled::is_enabled;
+use crate::listing::is_of_rows;
 use crate::proposal::Proposal;
-use crate::reading::Reading;
+use crate::reads::reading_for;
 use crate::tally::Tally;
-use presolve_model::{Instance, Part, Read, Reduction, Rule, Verdict};
-use problem_commits::read;
+use presolve_model::{Instance, Reduction, Rule, Verdict};
 use sparse_problem::Problem;
 use std::alloc::{AllocError, Global};
-
-/// A rule at an id of a row or a column.
-fn instance_of(rule: Rule, id: u32) -> Instance
-    ensures { result ≡ instance_at rule id }
-{
-    match rule {
-        Rule::CrossedBounds => Instance::Verdict(Verdict::CrossedBounds { column: id }),
-        Rule::CrossedSides => Instance::Verdict(Verdict::CrossedSides { row: id }),
-        Rule::EmptyRow => Instance::Reduction(Reduction::EmptyRow { row: id }),
-        Rule::SingletonRow => Instance::Reduction(Reduction::SingletonRow { row: id }),
-        Rule::FixedColumn => Instance::Reduction(Reduction::FixedColumn { column: id }),
-        Rule::RoundBounds => Instance::Reduction(Reduction::RoundBounds { column: id }),
-        Rule::EmptyColumn => Instance::Reduction(Reduction::EmptyColumn { column: id }),
-    }
-}
-
-/// Reads parts.
-fn read_all(alloc: Global, problem: &Problem, parts: &[Part]) -> Result<Reading, AllocError>
-    ensures { IfOk result (λ reading. reading ≡ map (read_of problem.now) parts.now) }
-{
-    let mut reads = Vec::with_capacity(alloc, parts.len())?;
-    for part in parts {
-        reads.push(read(alloc, problem, *part)?)?;
-    }
-    Ok(Reading::of(reads))
-}
-
-/// What a reduction reads.
-fn read_for_reduction(
-    alloc: Global,
-    problem: &Problem,
-    reduction: Reduction,
-) -> Result<Reading, AllocError>
-    ensures { IfOk result (λ reading. reading ≡ map (read_of problem.now) (read_by reduction)) }
-{
-    match reduction {
-        Reduction::EmptyRow { row } | Reduction::SingletonRow { row } => {
-            read_all(alloc, problem, &[Part::Row(row), Part::Sides(row)])
-        }
-        Reduction::FixedColumn { column } | Reduction::EmptyColumn { column } => {
-            read_all(alloc, problem, &[Part::Col(column), Part::Bounds(column)])
-        }
-        Reduction::RoundBounds { column } => read_all(alloc, problem, &[Part::Bounds(column)]),
-    }
-}
-
-/// What a verdict reads.
-fn read_for_verdict(
-    alloc: Global,
-    problem: &Problem,
-    verdict: Verdict,
-) -> Result<Reading, AllocError>
-    ensures { IfOk result (λ reading. reading ≡ map (read_of problem.now) (looked_at_by verdict)) }
-{
-    match verdict {
-        Verdict::CrossedBounds { column } => read_all(alloc, problem, &[Part::Bounds(column)]),
-        Verdict::CrossedSides { row } => read_all(alloc, problem, &[Part::Sides(row)]),
-    }
-}
-
-/// What an instance reads.
-pub fn reading_for(
-    alloc: Global,
-    problem: &Problem,
-    instance: Instance,
-) -> Result<Reading, AllocError>
-    ensures { IfOk result (λ reading. reading ≡ reading_of problem.now instance) }
-{
-    match instance {
-        Instance::Reduction(reduction) => read_for_reduction(alloc, problem, reduction),
-        Instance::Verdict(verdict) => read_for_verdict(alloc, problem, verdict),
-    }
-}
 
 /// An enabled instance with its reading.
 fn proposal_for(
@@ -119,6 +46,29 @@ fn visit(
     Ok(())
 }
 
+/// Adds the instances of a rule with a first id that are enabled: a line a rule.
+fn visit_from(
+    alloc: Global,
+    problem: &Problem,
+    version: u64,
+    rule: Rule,
+    id: u32,
+    found: &mut Vec<Proposal>,
+) -> Result<(), AllocError>
+    ensures { OnOk result (found.new.items ≡ found.old.items ++ found_at problem.now version rule (id ∷ [])) }
+{
+    let instance = match rule {
+        Rule::CrossedBounds => Instance::Verdict(Verdict::CrossedBounds { column: id }),
+        Rule::CrossedSides => Instance::Verdict(Verdict::CrossedSides { row: id }),
+        Rule::EmptyRow => Instance::Reduction(Reduction::EmptyRow { row: id }),
+        Rule::SingletonRow => Instance::Reduction(Reduction::SingletonRow { row: id }),
+        Rule::FixedColumn => Instance::Reduction(Reduction::FixedColumn { column: id }),
+        Rule::RoundBounds => Instance::Reduction(Reduction::RoundBounds { column: id }),
+        Rule::EmptyColumn => Instance::Reduction(Reduction::EmptyColumn { column: id }),
+    };
+    visit(alloc, problem, version, instance, found)
+}
+
 /// The enabled instances of a rule at these ids, in their order, each with its reading.
 pub fn scan_at(
     alloc: Global,
@@ -130,8 +80,10 @@ pub fn scan_at(
     ensures { IfOk result (λ found. found.items ≡ found_at problem.now version rule ids.now) }
 {
     let mut found = Vec::new(alloc);
-    for id in ids {
-        visit(alloc, problem, version, instance_of(rule, *id), &mut found)?;
+    let mut rest = ids;
+    while let [id, after @ ..] = rest {
+        visit_from(alloc, problem, version, rule, *id, &mut found)?;
+        rest = after;
     }
     Ok(found)
 }
@@ -141,11 +93,10 @@ fn ids_of(problem: &Problem, rule: Rule) -> u64
     ensures count { result ≡ id_count problem.now rule }
     ensures few { result < 2 ^ 32 }
 {
-    match rule {
-        Rule::CrossedSides | Rule::EmptyRow | Rule::SingletonRow => problem.row_count() as u64,
-        Rule::CrossedBounds | Rule::FixedColumn | Rule::RoundBounds | Rule::EmptyColumn => {
-            problem.column_count() as u64
-        }
+    if is_of_rows(rule) {
+        problem.row_count() as u64
+    } else {
+        problem.column_count() as u64
     }
 }
 
@@ -163,8 +114,7 @@ fn visit_at(
     if id >= ids_of(problem, rule) {
         return Ok(());
     }
-    visit(alloc, problem, version, instance_of(rule, id as u32), found)?;
-    Ok(())
+    visit_from(alloc, problem, version, rule, id as u32, found)
 }
 
 /// The enabled instances of a rule at so many ids in a row, in their order, each with its reading.

@@ -4,12 +4,13 @@ ghost use Rattle.std.specs.Prelude.{◌≢◌, ◌↔◌, All, IfOk, IsTrue};
 ghost use Rattle.rational.specs.Number.{zero_ℚ};
 ghost use Rattle.lp_model.specs.Sparse.{Ascends};
 
-use crate::{Chunk, Differs, Reading, Tally, is_enabled, read, reading_for, scan, scan_at};
+use crate::{Chunk, Differs, Reading, Tally, is_enabled, reading_for, scan, scan_at};
 use fractions::ext::Ext;
 use fractions::frac::Frac;
 use fractions::whole::Whole;
-use lp_model::{ColumnDef, Name, Program, RowDef, Sense, Term, Terms, names_differ};
+use lp_model::{ColumnDef, Name, Program, RowDef, Sense, Term, Terms, is_name, names_differ};
 use presolve_model::{Instance, Part, Reduction, Rule, Verdict};
+use problem_commits::read;
 use sparse_problem::Problem;
 use std::alloc::{AllocError, Global};
 use std::process::Abort;
@@ -57,12 +58,18 @@ fn end(rt: &impl Abort, end: Option<Quotient>) -> Ext {
     }
 }
 
+/// A name of these bytes.
+fn name_of(rt: &impl Abort, alloc: Global, bytes: &[u8]) -> Result<Name, AllocError> {
+    assert!(rt; is_name(bytes));
+    Name::from_slice(alloc, bytes)
+}
+
 /// The rows.
 fn rows(rt: &impl Abort, alloc: Global) -> Result<Vec<RowDef>, AllocError> {
     let mut rows = Vec::new(alloc);
     for (name, lower, upper) in ROWS {
         rows.push(RowDef {
-            name: Name::from_slice(alloc, name)?,
+            name: name_of(rt, alloc, name)?,
             lower: end(rt, lower),
             upper: end(rt, upper),
         })?;
@@ -106,7 +113,7 @@ fn columns(rt: &impl Abort, alloc: Global) -> Result<Vec<ColumnDef>, AllocError>
     for (name, lower, upper, first) in COLUMNS {
         let entries = entries(rt, alloc, first)?;
         columns.push(ColumnDef {
-            name: Name::from_slice(alloc, name)?,
+            name: name_of(rt, alloc, name)?,
             cost: Frac::one(),
             lower: end(rt, Some(lower)),
             upper: end(rt, upper),
@@ -120,7 +127,7 @@ fn columns(rt: &impl Abort, alloc: Global) -> Result<Vec<ColumnDef>, AllocError>
 fn small(rt: &impl Abort, alloc: Global) -> Result<Problem, AllocError> {
     let rows = rows(rt, alloc)?;
     let columns = columns(rt, alloc)?;
-    let objective = Name::from_slice(alloc, b"COST")?;
+    let objective = name_of(rt, alloc, b"COST")?;
     assert!(rt; names_differ(&objective, rows.as_slice(), columns.as_slice()));
     assert!(rt; rows.len() == 3 && columns.len() == 4);
     let program = Program::new(Sense::Min, objective, Frac::zero(), rows, columns);

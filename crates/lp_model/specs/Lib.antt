@@ -6,6 +6,7 @@ pub mod Reductions
 pub mod Verdicts
 pub mod Sparse
 pub mod ProgramData
+pub mod Name
 pub mod Names
 pub mod Meaning
 pub mod Violations

@@ -11,7 +11,7 @@ mod program;
 mod terms;
 
 pub use labels::Labels;
-pub use name::Name;
+pub use name::{Name, is_name};
 pub use plain::{
     Violation, cost, first_violation, is_feasible, names_differ, no_worse, number_at, row_value,
 };

@@ -1,6 +1,6 @@
 //! A plain and slow program that judges a point of a small model: each value is the sum over all columns.
 
-ghost use Rattle.std.specs.Prelude.{◌≡◌, ◌↔◌, ◌⊎◌, ◌∷◌, ℕ, ◌<◌, length, IsTrue, IfOk, IsOk, Option, Some, None, MatchOption, ◌≢◌, slice_index_or};
+ghost use Rattle.std.specs.Prelude.{◌≡◌, ◌↔◌, ◌⊎◌, ◌∷◌, ℕ, ◌<◌, length, All, IsTrue, IfOk, IsOk, Option, Some, None, MatchOption, ◌≢◌, slice_index_or};
 ghost use Rattle.rational.specs.Number.{◌+ℚ◌, ◌*ℚ◌};
 ghost use Rattle.rational.specs.Lowest.{Fits};
 ghost use Rattle.fractions.specs.FracWords.{SumFits};
@@ -10,7 +10,8 @@ ghost use Rattle.rational.specs.Ends.{AtLeast, AtMost, Between};
 ghost use Rattle.rational.specs.Floor.{IsWhole};
 ghost use Rattle.lp_model.specs.LinearProgram.{value_at, cost_at, Feasible};
 ghost use Rattle.lp_model.specs.Meaning.{no_row, no_column, meaning};
-ghost use Rattle.lp_model.specs.Names.{Differ, names_of_rows, names_of_columns, NamesDiffer};
+ghost use Rattle.lp_model.specs.Name.{IsName};
+ghost use Rattle.lp_model.specs.Names.{Differ, names_of_rows, names_of_columns, WellNamed};
 ghost use Rattle.lp_model.specs.Vectors.{vector_of};
 ghost use Rattle.lp_model.specs.Senses.{NoWorse};
 ghost use Rattle.lp_model.specs.Sparse.{dense};
@@ -225,9 +226,30 @@ pub fn is_feasible(program: &Program, point: &Point) -> Result<bool, Past>
 
 /// Whether the names of the objective and the rows differ, and the names of the columns. It compares each two of them.
 pub fn names_differ(objective: &Name, rows: &[RowDef], columns: &[ColumnDef]) -> bool
-    ensures { IsTrue result ↔ NamesDiffer objective.now rows.now columns.now }
+    ensures { IsTrue result ↔ WellNamed objective.now rows.now columns.now }
 {
+    let _name = objective.as_bytes();
+    rows_are_named(rows);
+    columns_are_named(columns);
     row_names_differ(objective, rows) && columns_differ(columns)
+}
+
+/// Each row has a name, by its type. Says so, and changes nothing.
+fn rows_are_named(rows: &[RowDef])
+    ensures { All IsName (names_of_rows rows.now) }
+{
+    for row in rows {
+        let _name = row.name.as_bytes();
+    }
+}
+
+/// Each column has a name, by its type. Says so, and changes nothing.
+fn columns_are_named(columns: &[ColumnDef])
+    ensures { All IsName (names_of_columns columns.now) }
+{
+    for column in columns {
+        let _name = column.name.as_bytes();
+    }
 }
 
 /// Whether the names of the objective and the rows differ.

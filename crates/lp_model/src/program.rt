@@ -2,7 +2,7 @@
 
 ghost use Rattle.std.specs.Prelude.{◌≡◌, ◌<◌, length};
 ghost use Rattle.lp_model.specs.ProgramData.{ProgramData};
-ghost use Rattle.lp_model.specs.Names.{NamesDiffer};
+ghost use Rattle.lp_model.specs.Names.{WellNamed};
 
 use crate::name::Name;
 use crate::terms::Terms;
@@ -121,7 +121,7 @@ impl Columns {
 }
 
 /// A program: the least or greatest of `constant + sum of cost times value` over the points within all rows and bounds.
-/// The names of its rows and of its objective differ, and so do the names of its columns.
+/// All names are some bytes without a space, a tab or a line feed. Those of its rows and of its objective differ, and so do those of its columns.
 #[derive(Drop)]
 pub struct Program {
     sense: Sense,
@@ -135,7 +135,7 @@ impl Model for Program {
     ghost use Rattle.std.specs.Coded.{codes};
     ghost use Rattle.rational.specs.Lowest.{number_code};
     ghost use Rattle.lp_model.specs.ProgramData.{ProgramData};
-    ghost use Rattle.lp_model.specs.Names.{NamesDiffer};
+    ghost use Rattle.lp_model.specs.Names.{WellNamed};
 
     ghost Value = { ProgramData };
 
@@ -143,11 +143,11 @@ impl Model for Program {
 
     ghost view = { λ p. record { sense = p.sense; objective = p.objective; constant = p.constant; rows = p.rows; columns = p.columns } };
 
-    ghost invariant = { λ p. NamesDiffer p.objective p.rows p.columns };
+    ghost invariant = { λ p. WellNamed p.objective p.rows p.columns };
 }
 
 impl Program {
-    /// The program of these parts. Their names differ, as [`names_differ`](crate::names_differ) tells.
+    /// The program of these parts. Their names are names by their type, and differ, as [`names_differ`](crate::names_differ) tells.
     pub fn new(
         sense: Sense,
         objective: Name,
@@ -155,7 +155,7 @@ impl Program {
         rows: Vec<RowDef>,
         columns: Vec<ColumnDef>,
     ) -> Program
-        requires { NamesDiffer objective rows.items columns.items }
+        requires { WellNamed objective rows.items columns.items }
         ensures { result ≡ record { sense = sense; objective = objective; constant = constant; rows = rows.items; columns = columns.items } }
     {
         Program {
@@ -177,7 +177,7 @@ impl Program {
     /// The objective's name. No row has it, no two rows have one name, and no two columns.
     pub fn objective(&self) -> &Name
         ensures name { result.now ≡ self.now.objective }
-        ensures differ { NamesDiffer self.now.objective self.now.rows self.now.columns }
+        ensures named { WellNamed self.now.objective self.now.rows self.now.columns }
     {
         &self.objective
     }
@@ -208,7 +208,7 @@ impl Program {
         ensures objective { result.0 ≡ self.objective }
         ensures rows { result.1 ≡ self.rows }
         ensures columns { result.2 ≡ self.columns }
-        ensures differ { NamesDiffer self.objective self.rows self.columns }
+        ensures named { WellNamed self.objective self.rows self.columns }
     {
         (self.objective, self.rows, self.columns)
     }

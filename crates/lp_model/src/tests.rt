@@ -16,9 +16,15 @@ fn at(value: i32) -> Ext {
     Ext::at(number(value))
 }
 
+fn name(rt: &impl Abort, alloc: Global, bytes: &[u8]) -> Result<Name, AllocError> {
+    assert!(rt; is_name(bytes));
+    Name::from_slice(alloc, bytes)
+}
+
 fn column(
+    rt: &impl Abort,
     alloc: Global,
-    name: &[u8],
+    named: &[u8],
     cost: i32,
     lower: i32,
     rows: &[u32],
@@ -31,7 +37,7 @@ fn column(
         })?;
     }
     Ok(ColumnDef {
-        name: Name::from_slice(alloc, name)?,
+        name: name(rt, alloc, named)?,
         cost: number(cost),
         lower: at(lower),
         upper: Ext::none(),
@@ -40,9 +46,15 @@ fn column(
     })
 }
 
-fn row(alloc: Global, name: &[u8], lower: i32, upper: Ext) -> Result<RowDef, AllocError> {
+fn row(
+    rt: &impl Abort,
+    alloc: Global,
+    named: &[u8],
+    lower: i32,
+    upper: Ext,
+) -> Result<RowDef, AllocError> {
     Ok(RowDef {
-        name: Name::from_slice(alloc, name)?,
+        name: name(rt, alloc, named)?,
         lower: at(lower),
         upper,
     })
@@ -51,12 +63,12 @@ fn row(alloc: Global, name: &[u8], lower: i32, upper: Ext) -> Result<RowDef, All
 /// min x + 2 y; C1: x = 3; C2: x + y >= 5.
 fn whole_program(rt: &impl Abort, alloc: Global) -> Result<Program, AllocError> {
     let mut rows = Vec::new(alloc);
-    rows.push(row(alloc, b"C1", 3, at(3))?)?;
-    rows.push(row(alloc, b"C2", 5, Ext::none())?)?;
+    rows.push(row(rt, alloc, b"C1", 3, at(3))?)?;
+    rows.push(row(rt, alloc, b"C2", 5, Ext::none())?)?;
     let mut columns = Vec::new(alloc);
-    columns.push(column(alloc, b"x", 1, 0, &[0, 1])?)?;
-    columns.push(column(alloc, b"y", 2, 0, &[1])?)?;
-    let cost = Name::from_slice(alloc, b"COST")?;
+    columns.push(column(rt, alloc, b"x", 1, 0, &[0, 1])?)?;
+    columns.push(column(rt, alloc, b"y", 2, 0, &[1])?)?;
+    let cost = name(rt, alloc, b"COST")?;
     assert!(rt; names_differ(&cost, rows.as_slice(), columns.as_slice()));
     Ok(Program::new(Sense::Min, cost, number(0), rows, columns))
 }
@@ -64,8 +76,8 @@ fn whole_program(rt: &impl Abort, alloc: Global) -> Result<Program, AllocError> 
 /// What is left of it: min 2 y + 3; y >= 2.
 fn reduced_program(rt: &impl Abort, alloc: Global) -> Result<Program, AllocError> {
     let mut columns = Vec::new(alloc);
-    columns.push(column(alloc, b"y", 2, 2, &[])?)?;
-    let cost = Name::from_slice(alloc, b"COST")?;
+    columns.push(column(rt, alloc, b"y", 2, 2, &[])?)?;
+    let cost = name(rt, alloc, b"COST")?;
     assert!(rt; names_differ(&cost, &[], columns.as_slice()));
     Ok(Program::new(Sense::Min, cost, number(3), Vec::new(alloc), columns))
 }
@@ -152,17 +164,35 @@ const NAMES: [(&[&[u8]], &[&[u8]], bool); 6] = [
 #[test]
 fn tells_whether_names_differ(rt: HostRuntime) -> Result<(), Fail> {
     let alloc = rt.alloc();
-    let cost = Name::from_slice(alloc, b"COST")?;
+    let cost = name(&rt, alloc, b"COST")?;
     for (row_names, column_names, differ) in NAMES {
         let mut rows = Vec::new(alloc);
         for name in row_names {
-            rows.push(row(alloc, name, 0, Ext::none())?)?;
+            rows.push(row(&rt, alloc, name, 0, Ext::none())?)?;
         }
         let mut columns = Vec::new(alloc);
         for name in column_names {
-            columns.push(column(alloc, name, 0, 0, &[])?)?;
+            columns.push(column(&rt, alloc, name, 0, 0, &[])?)?;
         }
         assert!(rt; names_differ(&cost, rows.as_slice(), columns.as_slice()) == differ);
     }
     Ok(())
+}
+
+/// Bytes, and whether they can be a name.
+const BYTES: [(&[u8], bool); 7] = [
+    (b"x", true),
+    (b"'MARKER'", true),
+    (b"a\r", true),
+    (b"", false),
+    (b"a b", false),
+    (b"a\t", false),
+    (b"\na", false),
+];
+
+#[test]
+fn tells_names(rt: HostRuntime) {
+    for (bytes, named) in BYTES {
+        assert!(rt; is_name(bytes) == named);
+    }
 }

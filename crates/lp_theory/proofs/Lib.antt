@@ -10,3 +10,10 @@ pub mod Turns
 pub mod Ids
 pub mod Renumbered
 pub mod Moves
+pub mod CrossedEnds
+pub mod MetEndLaws
+pub mod Reaching
+pub mod RowBounds
+pub mod Nearest
+pub mod Sitting
+pub mod Elsewhere

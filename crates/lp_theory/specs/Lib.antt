@@ -4,3 +4,9 @@ pub mod Joining
 pub mod Turning
 pub mod Renumbering
 pub mod Changes
+pub mod Crossed
+pub mod MetEnds
+pub mod Reached
+pub mod Nearest
+pub mod Dropped
+pub mod Elsewhere

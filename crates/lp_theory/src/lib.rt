@@ -3,8 +3,8 @@
 //! when they run: each states laws of those definitions, and its check proves them.
 #![tactic(auto)]
 
-ghost use Rattle.std.specs.Prelude.{◌≡◌, ℕ, ◌<◌, List};
-ghost use Rattle.rational.specs.Number.{Number, zero_ℚ, ◌*ℚ◌};
+ghost use Rattle.std.specs.Prelude.{◌≡◌, ◌≢◌, ℕ, ◌<◌, List, Some};
+ghost use Rattle.rational.specs.Number.{Number, zero_ℚ, ◌+ℚ◌, ◌*ℚ◌};
 ghost use Rattle.rational.specs.Total.{total};
 ghost use Rattle.rational.specs.Ends.{AtLeast, AtMost};
 ghost use Rattle.lp_model.specs.declared.terms.Term.{Term};
@@ -17,9 +17,10 @@ ghost use Rattle.lp_model.specs.Optimality.{Meets};
 ghost use Rattle.lp_model.specs.Reductions.{Reduces, ReducesPairs, Priced};
 ghost use Rattle.lp_model.specs.Sparse.{dense, Ascends, sparse_total};
 ghost use Rattle.lp_model.specs.Verdicts.{NoPoint, Endless, NoPointOrEndless};
-ghost use Rattle.lp_theory.specs.Activities.{least, greatest, InBounds};
+ghost use Rattle.lp_theory.specs.Activities.{least, greatest, least_rest, greatest_rest, InBounds};
 ghost use Rattle.lp_theory.specs.Changes.{ValueMoves, CostMoves, CoefficientMoves};
 ghost use Rattle.lp_theory.specs.Joining.{Step, end_of, lift, lift_pair, offset_of, EachReduces, EachReducesPairs};
+ghost use Rattle.lp_theory.specs.Reached.{rest_at, InBoundsOff, IsAtLeastEnd, IsAtGreatestEnd};
 ghost use Rattle.lp_theory.specs.Renumbering.{IsRest, written, gathered, spread, gathered_pair, spread_pair};
 ghost use Rattle.lp_theory.specs.Turning.{minimizing, signed, in_sense};
 
@@ -39,6 +40,22 @@ pub fn sparse_sums_are_sums()
 pub fn activities_bound_values()
     ensures low { (M : LinearProgram) (i : ℕ) (x : Vector) → InBounds M x → AtLeast (least M i) (value_at M i x) }
     ensures high { (M : LinearProgram) (i : ℕ) (x : Vector) → InBounds M x → AtMost (greatest M i) (value_at M i x) }
+{}
+
+/// A row's value is what one column gives and the rest, and the other columns' bounds bound the rest.
+pub fn rests_bound_the_rest_of_a_value()
+    ensures parts { (M : LinearProgram) (i j : ℕ) (x : Vector) → j < M.columns → value_at M i x ≡ M.coefficient i j *ℚ x j +ℚ rest_at M i j x }
+    ensures low { (M : LinearProgram) (i j : ℕ) (x : Vector) → InBoundsOff M j x → AtLeast (least_rest M i j) (rest_at M i j x) }
+    ensures high { (M : LinearProgram) (i j : ℕ) (x : Vector) → InBoundsOff M j x → AtMost (greatest_rest M i j) (rest_at M i j x) }
+{}
+
+/// Where a row's value, or what the columns but one give of it, reaches its least or its greatest, each of these columns is at
+/// the end that gives it.
+pub fn activities_are_reached_at_ends()
+    ensures least { (M : LinearProgram) (i : ℕ) (x : Vector) → InBounds M x → least M i ≡ Some (value_at M i x) → (k : ℕ) → k < M.columns → IsAtLeastEnd M i x k }
+    ensures greatest { (M : LinearProgram) (i : ℕ) (x : Vector) → InBounds M x → greatest M i ≡ Some (value_at M i x) → (k : ℕ) → k < M.columns → IsAtGreatestEnd M i x k }
+    ensures least_rest { (M : LinearProgram) (i j : ℕ) (x : Vector) → InBoundsOff M j x → least_rest M i j ≡ Some (rest_at M i j x) → (k : ℕ) → k ≢ j → k < M.columns → IsAtLeastEnd M i x k }
+    ensures greatest_rest { (M : LinearProgram) (i j : ℕ) (x : Vector) → InBoundsOff M j x → greatest_rest M i j ≡ Some (rest_at M i j x) → (k : ℕ) → k ≢ j → k < M.columns → IsAtGreatestEnd M i x k }
 {}
 
 /// Reductions in a row are one reduction, undone last first, whose offset is the sum of theirs.
@@ -73,4 +90,11 @@ pub fn written_programs_keep_points()
     ensures pairs { (d : Sense) (M : LinearProgram) (rows columns : List ℕ) → IsRest M rows columns → ReducesPairs d M (written M rows columns) (spread_pair rows columns) }
     ensures points_back { (d : Sense) (M : LinearProgram) (rows columns : List ℕ) → IsRest M rows columns → Reduces d (written M rows columns) M (gathered columns) zero_ℚ }
     ensures pairs_back { (d : Sense) (M : LinearProgram) (rows columns : List ℕ) → IsRest M rows columns → ReducesPairs d (written M rows columns) M (gathered_pair rows columns) }
+{}
+
+/// What is known of the program that reductions in a row leave, in the place of a best point, is known of the first program.
+pub fn verdicts_go_back_over_steps()
+    ensures none { (d : Sense) (M : LinearProgram) (steps : List Step) → EachReduces d M steps → NoPoint (end_of M steps) → NoPoint M }
+    ensures endless { (d : Sense) (M : LinearProgram) (steps : List Step) → EachReduces d M steps → Endless d (end_of M steps) → Endless d M }
+    ensures either { (d : Sense) (M : LinearProgram) (steps : List Step) → EachReduces d M steps → NoPointOrEndless d (end_of M steps) → NoPointOrEndless d M }
 {}

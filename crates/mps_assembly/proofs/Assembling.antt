@@ -1,9 +1,11 @@
 -- The parts that cards say give the program that they say.
 use Rattle.std.proofs.Common.{◌≡◌, ◌∙◌, ◌<◌, ℕ, zero, suc, List, [], ◌∷◌, ◌++◌, Bool, length, refl, sym, subst, ap, arith}
+use Rattle.std.proofs.lemmas.List.Elements.{All-head}
 use Rattle.std.specs.Prelude.{position, Option, None, unwrap_or, slice_index_or}
 use Rattle.rational.specs.Number.{Number, zero_ℚ}
 use Rattle.lp_model.specs.ProgramData.{ProgramData}
-use Rattle.lp_model.specs.Names.{NamesDiffer, Differ, names_of_rows, names_of_columns}
+use Rattle.lp_model.specs.Name.{IsName}
+use Rattle.lp_model.specs.Names.{WellNamed, names_of_rows}
 use Rattle.lp_model.specs.declared.program.Sense.{Sense}
 use Rattle.lp_model.specs.declared.program.ColumnDef.{ColumnDef}
 use Rattle.lp_model.specs.declared.program.RowDef.{RowDef}
@@ -13,23 +15,23 @@ use Rattle.mps_profile.specs.Cards.{Card}
 use Rattle.mps_profile.specs.Sides.{sides_of, default_lower}
 use Rattle.mps_profile.specs.Rows.{row_names, is_free, right_side, range_of}
 use Rattle.mps_profile.specs.Columns.{column_names, coefficient, lower_bound, lower_of, upper_bound}
-use Rattle.mps_profile.specs.Program.{kind_at, id_of, terms_in, terms_below, terms_of, rows_below, row_defs, row_defs_at, columns_below, column_def, column_defs, objective_place}
+use Rattle.mps_profile.specs.Program.{kind_at, id_of, terms_in, terms_below, terms_of, rows_below, row_defs, row_defs_at, columns_below, column_def, column_defs, objective_place, program_in}
 use Rattle.mps_profile.specs.declared.dialect.Dialect.{Dialect}
 use Rattle.mps_profile.specs.declared.row_kinds.Interval.{Interval}
 use Rattle.mps_profile.specs.declared.row_kinds.RowKind.{RowKind}
+use Rattle.mps_profile.specs.declared.progress.Told.{Told}
 use Rattle.mps_stores.specs.Stores.{number_in}
 use Rattle.mps_assembly.specs.Assembled.{AreOf}
 use Rattle.mps_assembly.specs.Columnwise.{terms_at, cost_at}
 use Rattle.mps_assembly.specs.Definitions.{definition}
 use Rattle.mps_assembly.specs.declared.assembly.Parts.{Parts}
 
--- names that differ still do so in equal rows and columns
-pub differ_along : (name objective : Text) (rows row_list : List RowDef) (columns column_list : List ColumnDef) → name ≡ objective → rows ≡ row_list → columns ≡ column_list
-    → NamesDiffer objective row_list column_list → NamesDiffer name rows columns
-differ_along name objective rows row_list columns column_list a b c differ = record {
-  rows = subst (λ (names : List Text). Differ names) (sym (ap (λ (n : Text). n ∷ names_of_rows rows) a ∙ ap (λ (rs : List RowDef). objective ∷ names_of_rows rs) b)) differ.rows;
-  columns = subst (λ (columns : List ColumnDef). Differ (names_of_columns columns)) (sym c) differ.columns;
-}
+-- equal rows and columns are named as well
+pub named_along : (name objective : Text) (rows row_list : List RowDef) (columns column_list : List ColumnDef) → name ≡ objective → rows ≡ row_list → columns ≡ column_list
+    → WellNamed objective row_list column_list → WellNamed name rows columns
+named_along name objective rows row_list columns column_list a b c named =
+    subst (λ (n : Text). WellNamed n rows columns) (sym a)
+    (subst (λ (rs : List RowDef). WellNamed objective rs columns) (sym b) (subst (λ (cs : List ColumnDef). WellNamed objective row_list cs) (sym c) named))
 
 -- equal numbers give equal rows, terms and columns
 rows_same : (names : List Text) (kinds : List RowKind) (s t : ℕ → Number) (r q : ℕ → Option Interval) (n : ℕ) → ((i : ℕ) → s i ≡ t i) → ((i : ℕ) → r i ≡ q i)
@@ -54,6 +56,15 @@ columns_same f g (suc j) h =
 
 pub place_is : (dialect : Dialect) (cards : List Card) (parts : Parts) → AreOf dialect cards parts → unwrap_or (position is_free parts.rows.kinds.now) 0 ≡ objective_place cards
 place_is dialect cards parts are = ap (λ (kinds : List RowKind). unwrap_or (position is_free kinds) 0) are.kinds
+
+-- the objective's row has the name of the program's objective
+pub objective_named : (dialect : Dialect) (sense : Told) (cards : List Card) (parts : Parts) → AreOf dialect cards parts
+    → WellNamed (program_in dialect sense cards).objective (program_in dialect sense cards).rows (program_in dialect sense cards).columns
+    → IsName (field parts.rows.names.now (unwrap_or (position is_free parts.rows.kinds.now) 0))
+objective_named dialect sense cards parts are named =
+    let same : field parts.rows.names.now (unwrap_or (position is_free parts.rows.kinds.now) 0) ≡ field (row_names cards) (objective_place cards) =
+    ap (λ (names : List Text). field names (unwrap_or (position is_free parts.rows.kinds.now) 0)) are.rows ∙ ap (λ (i : ℕ). field (row_names cards) i) (place_is dialect cards parts are) in
+    subst IsName (sym same) (All-head IsName (program_in dialect sense cards).objective (names_of_rows (program_in dialect sense cards).rows) named.row_names)
 
 pub side_is : (dialect : Dialect) (cards : List Card) (parts : Parts) (i : ℕ) → AreOf dialect cards parts → unwrap_or (slice_index_or parts.rows.right_sides.now i None) zero_ℚ ≡ right_side dialect cards i
 side_is dialect cards parts i are = ap (λ (x : Option Number). unwrap_or x zero_ℚ) (are.sides i)

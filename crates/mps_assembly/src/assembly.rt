@@ -1,7 +1,9 @@
 //! The program that the parts give.
 
-ghost use Rattle.std.specs.Prelude.{◌≡◌, ◌<◌, ◌^◌, List, length, position, unwrap_or, IfOk};
-ghost use Rattle.lp_model.specs.Names.{NamesDiffer};
+ghost use Rattle.std.specs.Prelude.{◌≡◌, ◌<◌, ◌^◌, List, All, length, position, unwrap_or, IfOk};
+ghost use Rattle.lp_model.specs.Name.{IsName};
+ghost use Rattle.lp_model.specs.Names.{WellNamed};
+ghost use Rattle.mps_profile.specs.Texts.{field};
 ghost use Rattle.mps_profile.specs.Cards.{Card};
 ghost use Rattle.mps_profile.specs.Rows.{is_free};
 ghost use Rattle.mps_profile.specs.Program.{sense_in, program_in};
@@ -72,13 +74,16 @@ fn objective_place(kinds: &[RowKind]) -> usize
 }
 
 /// The objective, the rows and the columns that the parts give. The first N row is the objective, the
-/// other N rows are left out.
+/// other N rows are left out. All of these have names.
 ///
 /// # Errors
 ///
 /// Where there is no memory.
 pub fn define(alloc: Global, parts: &Parts<'_>) -> Result<Definitions, AllocError>
-    requires { length parts.now.rows.names.now < 2 ^ 32 }
+    requires few { length parts.now.rows.names.now < 2 ^ 32 }
+    requires rows { All IsName parts.now.rows.names.now }
+    requires columns { All IsName parts.now.columns.names.now }
+    requires objective { IsName (field parts.now.rows.names.now (unwrap_or (position is_free parts.now.rows.kinds.now) 0)) }
     ensures { (dialect : Dialect) (cards : List Card) → AreOf dialect cards parts.now → IfOk result (λ found. AreDefined dialect cards found) }
 {
     let objective = objective_place(parts.rows.kinds);
@@ -94,14 +99,16 @@ pub fn define(alloc: Global, parts: &Parts<'_>) -> Result<Definitions, AllocErro
     })
 }
 
-/// The program of the parts. Cards say these parts, and the names in their program differ.
+/// The program of the parts. Cards say these parts, all rows and columns have names, and the names in the program of the cards differ.
 ///
 /// # Errors
 ///
 /// Where there is no memory.
 pub fn assemble(alloc: Global, told: Told, parts: &Parts<'_>) -> Result<Program, AllocError>
     requires few { length parts.now.rows.names.now < 2 ^ 32 }
-    requires differ { (dialect : Dialect) × (cards : List Card) × AreOf dialect cards parts.now × NamesDiffer (program_in dialect told cards).objective (program_in dialect told cards).rows (program_in dialect told cards).columns }
+    requires rows { All IsName parts.now.rows.names.now }
+    requires columns { All IsName parts.now.columns.names.now }
+    requires named { (dialect : Dialect) × (cards : List Card) × AreOf dialect cards parts.now × WellNamed (program_in dialect told cards).objective (program_in dialect told cards).rows (program_in dialect told cards).columns }
     ensures { (dialect : Dialect) (cards : List Card) → AreOf dialect cards parts.now → IfOk result (λ program. program ≡ program_in dialect told cards) }
 {
     let found = define(alloc, parts)?;

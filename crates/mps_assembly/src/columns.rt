@@ -1,6 +1,8 @@
 //! The columns of a program.
 
-ghost use Rattle.std.specs.Prelude.{◌≡◌, ◌<◌, ℕ, length, None, false, IfOk, unwrap_or, slice_index_or};
+ghost use Rattle.std.specs.Prelude.{◌≡◌, ◌<◌, ℕ, length, All, None, false, IfOk, unwrap_or, slice_index_or};
+ghost use Rattle.lp_model.specs.Name.{IsName};
+ghost use Rattle.mps_profile.specs.Texts.{field};
 ghost use Rattle.mps_profile.specs.Sides.{default_lower};
 ghost use Rattle.mps_profile.specs.Program.{columns_below};
 ghost use Rattle.mps_assembly.specs.Columnwise.{terms_at, cost_at};
@@ -79,7 +81,7 @@ fn take_terms(terms: &mut Vec<Terms>, alloc: Global, place: usize) -> Terms
     }
 }
 
-/// The column at a place, with a cost and with terms.
+/// The column at a place, with a cost and with terms. It has a name.
 fn column_definition(
     alloc: Global,
     columns: &ColumnTables<'_>,
@@ -87,6 +89,7 @@ fn column_definition(
     cost: Frac,
     entries: Terms,
 ) -> Result<ColumnDef, AllocError>
+    requires { IsName (field columns.now.names.now place) }
     ensures { IfOk result (λ column. column ≡ definition columns.now place cost entries) }
 {
     let upper = upper_bound(columns.uppers, place);
@@ -100,7 +103,7 @@ fn column_definition(
     })
 }
 
-/// The columns, in order, with their costs and terms.
+/// The columns, in order, with their costs and terms. All have names.
 ///
 /// # Errors
 ///
@@ -111,6 +114,7 @@ pub fn column_definitions(
     costs: &[Frac],
     mut terms: Vec<Terms>,
 ) -> Result<Vec<ColumnDef>, AllocError>
+    requires { All IsName columns.now.names.now }
     ensures { IfOk result (λ found. found.items ≡ columns_below (λ j. definition columns.now j (cost_at costs.now j) (terms_at terms.items j)) (length columns.now.names.now)) }
 {
     let mut found = Vec::with_capacity(alloc, columns.names.len())?;

@@ -1,7 +1,8 @@
 //! The rows of a program.
 
-ghost use Rattle.std.specs.Prelude.{◌≡◌, ◌++◌, length, None, IfOk, OnOk, unwrap_or, slice_index_or};
+ghost use Rattle.std.specs.Prelude.{◌≡◌, ◌++◌, length, All, None, IfOk, OnOk, unwrap_or, slice_index_or};
 ghost use Rattle.rational.specs.Number.{zero_ℚ};
+ghost use Rattle.lp_model.specs.Name.{IsName};
 ghost use Rattle.mps_profile.specs.Sides.{sides_of};
 ghost use Rattle.mps_profile.specs.Program.{row_defs_at, rows_below};
 
@@ -47,6 +48,7 @@ fn add_row(
     name: &[u8],
     sides: Option<(Ext, Ext)>,
 ) -> Result<(), AllocError>
+    requires { IsName name.now }
     ensures { OnOk result (found.new.items ≡ found.old.items ++ row_defs_at name.now sides) }
 {
     if let Some((lower, upper)) = sides {
@@ -69,12 +71,13 @@ pub fn right_side(sides: &[Option<Frac>], place: usize) -> Frac
     }
 }
 
-/// The rows that are no N rows, in order.
+/// The rows that are no N rows, in order. All rows have names.
 ///
 /// # Errors
 ///
 /// Where there is no memory.
 pub fn row_definitions(alloc: Global, rows: &RowTables<'_>) -> Result<Vec<RowDef>, AllocError>
+    requires { All IsName rows.now.names.now }
     ensures { IfOk result (λ found. found.items ≡ rows_below rows.now.names.now rows.now.kinds.now (λ i. unwrap_or (slice_index_or rows.now.right_sides.now i None) zero_ℚ) (λ i. slice_index_or rows.now.ranges.now i None) (length rows.now.names.now)) }
 {
     let mut found = Vec::new(alloc);

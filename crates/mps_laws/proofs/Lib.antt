@@ -4,6 +4,8 @@ pub mod Faultless
 pub mod Headings
 pub mod Objective
 pub mod Places
+pub mod Bytes
+pub mod NamedCards
 pub mod Names
 pub mod Entries
 pub mod Counts

@@ -8,7 +8,8 @@ use Rattle.std.proofs.lemmas.List.Elements.{All-nil, All-append, All-cons, All-w
 use Rattle.std.proofs.lemmas.List.Kept.{AllPairs-cons}
 use Rattle.rational.specs.Number.{Number}
 use Rattle.names.specs.Names.{place}
-use Rattle.lp_model.specs.Names.{Differ, NamesDiffer, names_of_rows, names_of_columns}
+use Rattle.lp_model.specs.Name.{IsName}
+use Rattle.lp_model.specs.Names.{Differ, WellNamed, names_of_rows, names_of_columns}
 use Rattle.lp_model.specs.declared.program.RowDef.{RowDef}
 use Rattle.lp_model.specs.declared.program.ColumnDef.{ColumnDef}
 use Rattle.mps_profile.specs.Texts.{Text, field}
@@ -30,6 +31,8 @@ use Rattle.mps_laws.specs.Names.{IsNumbered, kept_names}
 use Rattle.mps_laws.proofs.Places.{numbered_none, numbered_push, numbered_joined, one_place, differ, found}
 use Rattle.mps_laws.proofs.Faultless.{faultless}
 use Rattle.mps_laws.proofs.Objective.{has_objective}
+use Rattle.mps_laws.proofs.Bytes.{read_unfed}
+use Rattle.mps_laws.proofs.NamedCards.{cards_named, rows_are_named, columns_are_named}
 
 -- what a card of ROWS without a fault says
 is_new : (o : Option ℕ) (f : MpsFaultKind) (rest : Option MpsFaultKind) → cond (is_some o) (Some f) rest ≡ None → o ≡ None
@@ -171,7 +174,34 @@ program_columns_differ dialect text =
     let cards : List Card = cards_of dialect.format (lines_read dialect text) in
     subst Differ (sym (all_columns_named dialect cards)) (differ (column_names cards) (columns_numbered cards))
 
--- the program of a text without a fault has names that differ
-pub program_names_differ : (dialect : Dialect) (text : List ℕ) → first_fault dialect text ≡ None
-    → NamesDiffer (program_of dialect text).objective (program_of dialect text).rows (program_of dialect text).columns
-program_names_differ dialect text sound = record { rows = program_rows_differ dialect text sound; columns = program_columns_differ dialect text }
+-- the names of the objective, the rows and the columns are names
+program_rows_named : (dialect : Dialect) (text : List ℕ) → first_fault dialect text ≡ None → All IsName ((program_of dialect text).objective ∷ names_of_rows (program_of dialect text).rows)
+program_rows_named dialect text sound =
+    let cards : List Card = cards_of dialect.format (lines_read dialect text) in
+    let named : All IsName (row_names cards) = rows_are_named cards (cards_named dialect.format (lines_read dialect text) (read_unfed dialect text)) in
+    let kept : All IsName (kept_names cards (length (row_names cards))) =
+    All-weaker (IsKept cards (length (row_names cards))) IsName (λ name at. subst IsName (sym at.3) (named at.0 [] at.1)) (kept_names cards (length (row_names cards))) (all_kept cards (length (row_names cards))) in
+    All-cons IsName (program_of dialect text).objective (names_of_rows (program_of dialect text).rows)
+    (named (objective_place cards) [] (objective_found cards (has_objective dialect text sound)).0)
+    (subst (All IsName) (sym (names_kept dialect cards (length (row_names cards)))) kept)
+
+program_columns_named : (dialect : Dialect) (text : List ℕ) → All IsName (names_of_columns (program_of dialect text).columns)
+program_columns_named dialect text =
+    let cards : List Card = cards_of dialect.format (lines_read dialect text) in
+    subst (All IsName) (sym (all_columns_named dialect cards)) (columns_are_named cards (cards_named dialect.format (lines_read dialect text) (read_unfed dialect text)))
+
+-- the program of a text without a fault has names, and they differ
+pub program_well_named : (dialect : Dialect) (text : List ℕ) → first_fault dialect text ≡ None
+    → WellNamed (program_of dialect text).objective (program_of dialect text).rows (program_of dialect text).columns
+program_well_named dialect text sound = record {
+  row_names = program_rows_named dialect text sound;
+  column_names = program_columns_named dialect text;
+  rows = program_rows_differ dialect text sound;
+  columns = program_columns_differ dialect text;
+}
+
+-- and so are those of all its rows, N rows among them, and columns
+pub cards_give_names : (dialect : Dialect) (text : List ℕ) → All IsName (row_names (cards_of dialect.format (lines_read dialect text))) × All IsName (column_names (cards_of dialect.format (lines_read dialect text)))
+cards_give_names dialect text =
+    let named = cards_named dialect.format (lines_read dialect text) (read_unfed dialect text) in
+    (rows_are_named _ named, columns_are_named _ named)

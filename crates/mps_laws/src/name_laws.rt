@@ -1,12 +1,14 @@
-//! The names of rows and columns differ.
-ghost use Rattle.std.specs.Prelude.{◌≡◌, ◌<◌, ℕ, List, length, true, false, None};
+//! The names of rows and columns are names, and differ.
+ghost use Rattle.std.specs.Prelude.{◌≡◌, ◌<◌, ℕ, List, length, true, false, None, All};
 ghost use Rattle.std.specs.List.{list_any};
-ghost use Rattle.lp_model.specs.Names.{Differ, NamesDiffer, names_of_rows, names_of_columns};
+ghost use Rattle.lp_model.specs.Name.{IsName};
+ghost use Rattle.lp_model.specs.Names.{Differ, WellNamed, names_of_rows, names_of_columns};
 ghost use Rattle.mps_profile.specs.Texts.{Text};
 ghost use Rattle.mps_profile.specs.Cards.{Card};
 ghost use Rattle.mps_profile.specs.Rows.{row_names, row_kinds, row_kind, is_free};
 ghost use Rattle.mps_profile.specs.Columns.{column_names};
-ghost use Rattle.mps_profile.specs.Reading.{first_fault};
+ghost use Rattle.mps_profile.specs.Items.{cards_of};
+ghost use Rattle.mps_profile.specs.Reading.{first_fault, lines_read};
 ghost use Rattle.mps_profile.specs.Program.{objective_place, row_defs, column_defs, program_of};
 ghost use Rattle.mps_profile.specs.declared.dialect.Dialect.{Dialect};
 ghost use Rattle.mps_laws.specs.Faultless.{IsFaultless};
@@ -31,7 +33,14 @@ pub fn names_are_those_of_cards()
     ensures columns { (dialect : Dialect) (cards : List Card) → names_of_columns (column_defs dialect cards (length (column_names cards))) ≡ column_names cards }
 {}
 
-/// In the program of a text without a fault the names of the objective and the rows differ, and so do the columns'.
-pub fn names_of_programs_differ()
-    ensures { (dialect : Dialect) (text : List ℕ) → first_fault dialect text ≡ None → NamesDiffer (program_of dialect text).objective (program_of dialect text).rows (program_of dialect text).columns }
+/// The cards of a text give names: some bytes without a space, a tab or a line feed.
+pub fn cards_give_names()
+    ensures rows { (dialect : Dialect) (text : List ℕ) → All IsName (row_names (cards_of dialect.format (lines_read dialect text))) }
+    ensures columns { (dialect : Dialect) (text : List ℕ) → All IsName (column_names (cards_of dialect.format (lines_read dialect text))) }
+{}
+
+/// In the program of a text without a fault the objective, the rows and the columns have names; those of the objective and the rows
+/// differ, and so do the columns'.
+pub fn programs_are_well_named()
+    ensures { (dialect : Dialect) (text : List ℕ) → first_fault dialect text ≡ None → WellNamed (program_of dialect text).objective (program_of dialect text).rows (program_of dialect text).columns }
 {}

@@ -1,7 +1,8 @@
 -- What a card without a fault is free of.
-use Rattle.std.proofs.Common.{◌≡◌, Bool, true, false, cond, List, Option, Some, None, refl}
-use Rattle.mps_profile.specs.Cards.{Card}
-use Rattle.mps_profile.specs.CardFaults.{card_fault, has_bad_number, has_past_number, names_unknown_row, names_unknown_column, names_row_again, names_entry_again, splits_column, has_unknown_type, is_bad_marker, has_bad_row_type, ranges_free_row}
+use Rattle.std.proofs.Common.{◌≡◌, Bool, true, false, cond, not, ◌&&◌, List, Option, Some, None, refl, sym, ap, ◌∙◌}
+use Rattle.std.proofs.lemmas.Bool.{or_from, or_parts}
+use Rattle.mps_profile.specs.Cards.{Pairs, One, Two, either, Card}
+use Rattle.mps_profile.specs.CardFaults.{card_fault, has_bad_number, has_past_number, names_unknown_row, names_unknown_column, names_row_again, names_entry_again, is_doubled, makes_past, past_pair, past_range, past_ranges, splits_column, has_unknown_type, is_bad_marker, has_bad_row_type, ranges_free_row}
 use Rattle.mps_profile.specs.declared.dialect.Dialect.{Dialect}
 use Rattle.mps_profile.specs.declared.faults.MpsFaultKind.{MpsFaultKind}
 
@@ -48,3 +49,12 @@ sound dialect before card none =
       bad_type = j.0;
       ranged_free = k.0;
     }
+
+-- where the pairs name different rows, no number and no side of either is past
+pub ranges-fit : (dialect : Dialect) (before : List Card) (pairs : Pairs) → past_ranges dialect before pairs ≡ false → is_doubled pairs ≡ false → either (past_range dialect before) pairs ≡ false
+ranges-fit dialect before (One pair) past once = past
+ranges-fit dialect before (Two pair other) past once =
+    let outer = or_parts _ _ past in
+    let inner = or_parts _ _ outer.0 in
+    let side : makes_past dialect before other ≡ false = sym (ap (λ (b : Bool). not b && makes_past dialect before other) once) ∙ outer.1 in
+    or_from (past_range dialect before pair) (past_range dialect before other) inner.0 (or_from (past_pair dialect other) (makes_past dialect before other) inner.1 side)

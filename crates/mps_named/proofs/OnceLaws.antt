@@ -11,7 +11,7 @@ use Rattle.names.specs.Names.{place}
 use Rattle.mps_profile.specs.Texts.{Text}
 use Rattle.mps_profile.specs.Numerals.{number_on}
 use Rattle.mps_profile.specs.Cards.{Pair, Pairs, One, Two, either, Card, RowCard, MarkerCard, ColumnCard, SideCard, RangeCard, ValuedCard, BareCard, UnknownCard}
-use Rattle.mps_profile.specs.CardFaults.{is_bad, is_past, bad_pair, past_pair, past_range, at_place, is_doubled, has_number, has_side, has_range, is_free_row, is_new_row}
+use Rattle.mps_profile.specs.CardFaults.{is_bad, is_past, bad_pair, past_pair, past_range, past_ranges, at_place, is_doubled, has_number, has_side, has_range, is_free_row, is_new_row}
 use Rattle.mps_profile.specs.Sets.{counts, side_set, range_set}
 use Rattle.mps_profile.specs.Rows.{row_names, row_kind, is_free, value_in, interval_in, side_of, range_of}
 use Rattle.mps_profile.specs.Columns.{column_names, number_at}
@@ -22,7 +22,7 @@ use Rattle.mps_profile.specs.declared.row_kinds.RowKind.TheVariants.{Free, AtMos
 use Rattle.mps_laws.specs.Faultless.{IsFaultless}
 use Rattle.mps_named.specs.Named.{row_kind_named, pairs_named, side_named, interval_named, pairs_range_named, range_named, number_named}
 use Rattle.mps_named.specs.Once.{pair_naming, pairs_naming, entries_naming, sides_naming, ranges_naming, first_number}
-use Rattle.mps_named.proofs.CardSense.{sound}
+use Rattle.mps_named.proofs.CardSense.{ranges-fit, sound}
 use Rattle.mps_named.proofs.Agreement.{place_is, Agree}
 use Rattle.mps_named.proofs.RowAgreement.{kinds-agree, sides-agree, ranges-agree}
 use Rattle.mps_named.proofs.ColumnAgreement.{number_beside, numbers-of_rows, numbers-of_columns}
@@ -251,13 +251,13 @@ ranges-once dialect (RangeCard set pairs ∷ before) row h =
     some pair f e = range_some (row_kind_named before row) _ (number_on dialect pair.number)
         (ap (λ m. is_free (row_kind_named before m)) (sym (same_text pair.row row e)) ∙ not_free dialect before pair h.1 f.1.0 f.1.1) f.0.0 (or_parts _ _ f.0.1).0
 
-    by : (b : Bool) → (b && either (bad_pair dialect) pairs) ≡ false → (b && either (past_range dialect before) pairs) ≡ false → (b && either (is_new_row before) pairs) ≡ false → (b && either (is_free_row before) pairs) ≡ false
+    by : (b : Bool) → (b && either (bad_pair dialect) pairs) ≡ false → (b && past_ranges dialect before pairs) ≡ false → (b && either (is_new_row before) pairs) ≡ false → (b && either (is_free_row before) pairs) ≡ false
         → (b && (either (has_range dialect before) pairs || is_doubled pairs)) ≡ false
         → Once (range_named dialect before row) (ranges_naming before row)
         → Once (cond b (pairs_range_named dialect before row pairs (range_named dialect before row)) (range_named dialect before row)) (cond b (pairs_naming row pairs) [] ++ ranges_naming before row)
     by true bad past known free again once =
         let both = or_parts _ _ again in
-        let numbers = each_both (λ pair. bad_pair dialect pair ≡ false) (λ pair. past_range dialect before pair ≡ false) pairs (none_passes (bad_pair dialect) pairs bad) (none_passes (past_range dialect before) pairs past) in
+        let numbers = each_both (λ pair. bad_pair dialect pair ≡ false) (λ pair. past_range dialect before pair ≡ false) pairs (none_passes (bad_pair dialect) pairs bad) (none_passes (past_range dialect before) pairs (ranges-fit dialect before pairs past both.1)) in
         let rows = each_both (λ pair. is_new_row before pair ≡ false) (λ pair. is_free_row before pair ≡ false) pairs (none_passes (is_new_row before) pairs known) (none_passes (is_free_row before) pairs free) in
         let facts : Each (RangeFacts dialect before) pairs = each_both (λ pair. (bad_pair dialect pair ≡ false) × (past_range dialect before pair ≡ false)) (λ pair. (is_new_row before pair ≡ false) × (is_free_row before pair ≡ false)) pairs numbers rows in
         subst (λ (o : Option Interval). Once o (pairs_naming row pairs ++ ranges_naming before row)) (ranges-chain dialect before row pairs (range_named dialect before row))

@@ -17,7 +17,7 @@ use Rattle.mps_profile.specs.Numerals.{number_on}
 use Rattle.mps_profile.specs.Sides.{magnitude, upward, downward, ranged, sides_of, sum_fits, is_past_sum, is_past_range}
 use Rattle.mps_profile.specs.Sets.{counts, side_set, range_set}
 use Rattle.mps_profile.specs.Rows.{row_names, row_kind, is_at, names_row, pair_value, pairs_value, side_of, right_side, value_in, interval_in, pair_range, pairs_range, range_of}
-use Rattle.mps_profile.specs.CardFaults.{at_place, past_side, past_range, has_range, is_doubled}
+use Rattle.mps_profile.specs.CardFaults.{at_place, past_side, past_range, past_ranges, has_range, is_doubled}
 use Rattle.mps_profile.specs.declared.dialect.Dialect.{Dialect}
 use Rattle.mps_profile.specs.declared.row_kinds.Interval.{Interval}
 use Rattle.mps_profile.specs.declared.row_kinds.RowKind.{RowKind}
@@ -26,7 +26,7 @@ use Rattle.mps_laws.specs.Faultless.{IsFaultless}
 use Rattle.lp_model.specs.Writable.{WritableNumber, WritablePair, WritableSides}
 use Rattle.mps_named.proofs.SumsBack.{sum-turned, sum-back, sum-Fits}
 use Rattle.mps_named.proofs.NumberRoom.{from_test, has_room, negative, none, on-number, value-number}
-use Rattle.mps_named.proofs.CardSense.{sound}
+use Rattle.mps_named.proofs.CardSense.{ranges-fit, sound}
 
 -- ---- a sum that is not past
 below : (a b : ℕ) → nat_lt a b ≡ true → a < b
@@ -188,9 +188,11 @@ range-room dialect (RangeCard set pairs ∷ before) i h =
     let s = sound dialect before (RangeCard set pairs) h.0 in
     by (counts (range_set before) set) s.past_number s.entry_again (range-room dialect before i h.1)
   where
-    by : (b : Bool) → (b && either (past_range dialect before) pairs) ≡ false → (b && (either (has_range dialect before) pairs || is_doubled pairs)) ≡ false → IfSome (range_of dialect before i) (IsRoomy dialect.numbers)
+    by : (b : Bool) → (b && past_ranges dialect before pairs) ≡ false → (b && (either (has_range dialect before) pairs || is_doubled pairs)) ≡ false → IfSome (range_of dialect before i) (IsRoomy dialect.numbers)
         → IfSome (cond b (pairs_range dialect before i pairs (range_of dialect before i)) (range_of dialect before i)) (IsRoomy dialect.numbers)
-    by true past again rest = pairs-room dialect before i pairs (range_of dialect before i) past (or_parts _ _ again).0 rest
+    by true past again rest =
+        let both = or_parts _ _ again in
+        pairs-room dialect before i pairs (range_of dialect before i) (ranges-fit dialect before pairs past both.1) both.0 rest
     by false past again rest = rest
 range-room dialect (ValuedCard set kind column number ∷ before) i h = range-room dialect before i h.1
 range-room dialect (BareCard set kind column ∷ before) i h = range-room dialect before i h.1

@@ -56,13 +56,23 @@ past_side dialect before (Some i) (Ok q) =
     is_none (range_of dialect before i) && is_past_range dialect.numbers (row_kind before i) (right_side dialect before i) q
 past_side dialect before place number = false
 
+-- the number on a pair of RANGES makes a side that is past
+abbrev pub makes_past : Dialect → List Card → Pair → Bool
+makes_past dialect before pair = past_side dialect before (place pair.row (row_names before)) (number_on dialect pair.number)
+
 abbrev pub past_range : Dialect → List Card → Pair → Bool
-past_range dialect before pair = past_pair dialect pair || past_side dialect before (place pair.row (row_names before)) (number_on dialect pair.number)
+past_range dialect before pair = past_pair dialect pair || makes_past dialect before pair
+
+-- a number is past, or a side; where both pairs name one row, the second one makes no side
+abbrev pub past_ranges : Dialect → List Card → Pairs → Bool
+past_ranges dialect before (One pair) = past_range dialect before pair
+past_ranges dialect before (Two pair other) =
+    past_range dialect before pair || past_pair dialect other || (not (bytes_eq pair.row other.row) && makes_past dialect before other)
 
 abbrev pub has_past_number : Dialect → List Card → Card → Bool
 has_past_number dialect before (ColumnCard name pairs) = either (past_pair dialect) pairs
 has_past_number dialect before (SideCard set pairs) = counts (side_set before) set && either (past_pair dialect) pairs
-has_past_number dialect before (RangeCard set pairs) = counts (range_set before) set && either (past_range dialect before) pairs
+has_past_number dialect before (RangeCard set pairs) = counts (range_set before) set && past_ranges dialect before pairs
 has_past_number dialect before (ValuedCard set kind column number) = counts (bound_set before) set && is_past (limit_on dialect number)
 has_past_number dialect before card = false
 

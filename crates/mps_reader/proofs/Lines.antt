@@ -1,7 +1,6 @@
 -- A line that is taken.
-use Rattle.std.proofs.Common.{◌≡◌, ℕ, List, ◌∷◌, Bool, true, Some, None, Result, Ok, Err, refl, sym, subst, ap, ◌∙◌}
+use Rattle.std.proofs.Common.{◌≡◌, List, ◌∷◌, true, None, Result, Ok, sym, subst, ap, ◌∙◌}
 use Rattle.mps_profile.specs.Texts.{Text}
-use Rattle.mps_profile.specs.Lines.{lines_of}
 use Rattle.mps_profile.specs.Items.{Item, item_of, has_card, progress_of, cards_of, progress_after, cards_after}
 use Rattle.mps_profile.specs.Reading.{item_fault, line_fault}
 use Rattle.mps_profile.specs.declared.dialect.Dialect.{Dialect}
@@ -9,7 +8,6 @@ use Rattle.mps_profile.specs.declared.progress.Progress.{Progress}
 use Rattle.mps_profile.specs.declared.faults.MpsFaultKind.{MpsFaultKind}
 use Rattle.mps_laws.proofs.Items.{said}
 use Rattle.mps_tables.specs.Tables.{Holds}
-use Rattle.mps_tables.specs.declared.tables.Tables.{Tables}
 use Rattle.mps_reader.specs.declared.reader.Reader.{Reader}
 use Rattle.mps_reader.specs.Reading.{Has}
 

@@ -1,10 +1,9 @@
 -- The program of a reader that has read a text.
-use Rattle.std.proofs.Common.{◌≡◌, ◌∙◌, ℕ, ◌<◌, ◌≤◌, ◌^◌, List, length, None, sym, subst, ap, arith}
+use Rattle.std.proofs.Common.{◌≡◌, ◌∙◌, ℕ, ◌<◌, ◌^◌, List, length, sym, subst, ap, arith}
 use Rattle.lp_model.specs.ProgramData.{ProgramData}
-use Rattle.mps_profile.specs.Texts.{Text}
 use Rattle.mps_profile.specs.Cards.{Card}
-use Rattle.mps_profile.specs.Items.{cards_of, progress_of}
-use Rattle.mps_profile.specs.Reading.{lines_read, first_fault}
+use Rattle.mps_profile.specs.Items.{cards_of}
+use Rattle.mps_profile.specs.Reading.{lines_read}
 use Rattle.mps_profile.specs.Rows.{row_names}
 use Rattle.mps_profile.specs.Program.{program_in, program_of}
 use Rattle.mps_profile.specs.declared.dialect.Dialect.{Dialect}

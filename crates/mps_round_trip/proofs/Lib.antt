@@ -1,5 +1,6 @@
 mod BoundCards
 mod CardWords
+pub mod Naming
 mod Program
 mod RangeCards
 mod Ready

@@ -4,7 +4,7 @@ use Rattle.std.specs.Prelude.{IfSome}
 use Rattle.std.specs.List.{AllByRecursion}
 use Rattle.std.proofs.lemmas.Bool.{both_ways}
 use Rattle.std.proofs.lemmas.List.{length-map}
-use Rattle.std.proofs.lemmas.List.Elements.{recursion_from_All}
+use Rattle.std.proofs.lemmas.List.Elements.{All-head, All-tail, recursion_from_All}
 use Rattle.rational.specs.Number.{Number, zero_ℚ}
 use Rattle.rational.specs.Compare.{eq_ℚ}
 use Rattle.rational.proofs.Comparisons.{eq_ℚ-is}
@@ -13,13 +13,16 @@ use Rattle.lp_model.specs.declared.program.RowDef.{RowDef}
 use Rattle.lp_model.specs.declared.program.ColumnDef.{ColumnDef}
 use Rattle.lp_model.specs.declared.terms.Term.{Term}
 use Rattle.lp_model.specs.ProgramData.{ProgramData}
-use Rattle.lp_model.specs.Names.{names_of_rows, names_of_columns}
+use Rattle.lp_model.specs.Name.{IsName}
+use Rattle.lp_model.specs.Names.{names_of_rows, names_of_columns, WellNamed}
 use Rattle.lp_model.specs.Sparse.{Ascends}
 use Rattle.mps_writer.specs.Sections.{right_side_by}
 use Rattle.mps_laws.specs.Names.{IsNumbered}
 use Rattle.mps_written_lines.specs.Words.{IsWord}
 use Rattle.mps_written_lines.specs.Words.{IsRowName}
+use Rattle.lp_model.proofs.Differing.{all_names}
 use Rattle.mps_round_trip.specs.Plain.{Plain}
+use Rattle.mps_round_trip.proofs.Naming.{row_name_of, row_names_of, words_of}
 use Rattle.lp_model.specs.Writable.{WritableNumber, WritableBound, WritableSides, WritableRow, WritableColumn, Writable, EntriesAscend}
 use Rattle.mps_written_lines.specs.Written.{all_rows, moved, all_terms}
 use Rattle.mps_written_cards.proofs.Places.{numbered}
@@ -91,16 +94,21 @@ pub record Ready (numbers : Numbers) (p : ProgramData) : Type 0 where
   pub bounds_read : AllByRecursion (λ (c : ColumnDef). IsReadIn numbers c.lower × IsReadIn numbers c.upper) p.columns
   pub finite : AllByRecursion (WritableRow numbers) p.rows
 
-pub ready : (numbers : Numbers) (p : ProgramData) → Plain p → Writable numbers p → EntriesAscend p → Ready numbers p
-ready numbers p plain w ascend =
+pub ready : (numbers : Numbers) (p : ProgramData) → WellNamed p.objective p.rows p.columns → Plain p → Writable numbers p → EntriesAscend p → Ready numbers p
+ready numbers p named plain w ascend =
     let rows : AllByRecursion (WritableRow numbers) p.rows = recursion_from_All (WritableRow numbers) p.rows w.rows in
     let columns : AllByRecursion (WritableColumn numbers) p.columns = recursion_from_All (WritableColumn numbers) p.columns w.columns in
     let ascends : AllByRecursion (λ (c : ColumnDef). Ascends 0 (length p.rows) c.entries) p.columns = recursion_from_All (λ (c : ColumnDef). Ascends 0 (length p.rows) c.entries) p.columns ascend in
     record {
-      rows_numbered = numbered (names_of_rows (all_rows p)) plain.differ.rows;
-      columns_numbered = numbered (names_of_columns p.columns) plain.differ.columns;
-      rows_named = (plain.objective, recursion_from_All (λ (row : RowDef). IsRowName row.name) p.rows plain.rows);
-      columns_named = recursion_from_All (λ (c : ColumnDef). IsWord c.name) p.columns plain.columns;
+      rows_numbered = numbered (names_of_rows (all_rows p)) named.rows;
+      columns_numbered = numbered (names_of_columns p.columns) named.columns;
+      rows_named = (
+        row_name_of p.objective (All-head IsName p.objective (names_of_rows p.rows) named.row_names) plain.objective,
+        recursion_from_All (λ (row : RowDef). IsRowName row.name) p.rows (all_names IsRowName (λ (row : RowDef). row.name) p.rows
+            (row_names_of (names_of_rows p.rows) (All-tail IsName p.objective (names_of_rows p.rows) named.row_names) plain.rows)),
+      );
+      columns_named = recursion_from_All (λ (c : ColumnDef). IsWord c.name) p.columns (all_names IsWord (λ (c : ColumnDef). c.name) p.columns
+          (words_of (names_of_columns p.columns) named.column_names plain.columns));
       told = subst (λ (n : ℕ). AllByRecursion (λ (c : ColumnDef). Told numbers 0 n (all_terms c)) p.columns) (sym (length-map (all_rows p) (λ (r : RowDef). r.name)))
           (both (λ (c : ColumnDef) a v. column_ready numbers (length p.rows) c a v) p.columns ascends columns);
       ascend = ascends;

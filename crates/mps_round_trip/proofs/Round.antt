@@ -8,7 +8,7 @@ use Rattle.lp_model.specs.declared.program.Sense.TheVariants.{Min, Max}
 use Rattle.lp_model.specs.declared.program.RowDef.{RowDef}
 use Rattle.lp_model.specs.declared.program.ColumnDef.{ColumnDef}
 use Rattle.lp_model.specs.ProgramData.{ProgramData}
-use Rattle.lp_model.specs.Names.{names_of_rows}
+use Rattle.lp_model.specs.Names.{names_of_rows, WellNamed}
 use Rattle.mps_profile.specs.Texts.{Text}
 use Rattle.mps_profile.specs.Lines.{lines_of}
 use Rattle.mps_profile.specs.Cards.{Card}
@@ -110,12 +110,12 @@ lines_are p are =
       ),
     )
 
-module _ (numbers : Numbers) (p : ProgramData) (plain : Plain p) (w : Writable numbers p) (ascend : EntriesAscend p) where
+module _ (numbers : Numbers) (p : ProgramData) (named : WellNamed p.objective p.rows p.columns) (plain : Plain p) (w : Writable numbers p) (ascend : EntriesAscend p) where
   abbrev d : Dialect
   d = free_format numbers
 
   is_ready : Ready numbers p
-  is_ready = ready numbers p plain w ascend
+  is_ready = ready numbers p named plain w ascend
 
   cut_again : lines_of (mps_text p) ≡ written_lines p
   cut_again = ap lines_of (text_lines p ascend) ∙ lines_again (written_lines p) (lines_are p (are_cards numbers p is_ready))
@@ -141,6 +141,7 @@ module _ (numbers : Numbers) (p : ProgramData) (plain : Plain p) (w : Writable n
       ∙ program_back numbers p is_ready (said numbers p is_ready)
 
 -- programs with the same text are the same
-pub same_programs : (numbers : Numbers) (p q : ProgramData) → Plain p → Writable numbers p → EntriesAscend p → Plain q → Writable numbers q → EntriesAscend q → mps_text p ≡ mps_text q → p ≡ q
-same_programs numbers p q plain_p w_p ascend_p plain_q w_q ascend_q same =
-    sym (again numbers p plain_p w_p ascend_p) ∙ ap (program_of (free_format numbers)) same ∙ again numbers q plain_q w_q ascend_q
+pub same_programs : (numbers : Numbers) (p q : ProgramData) → WellNamed p.objective p.rows p.columns → Plain p → Writable numbers p → EntriesAscend p
+    → WellNamed q.objective q.rows q.columns → Plain q → Writable numbers q → EntriesAscend q → mps_text p ≡ mps_text q → p ≡ q
+same_programs numbers p q named_p plain_p w_p ascend_p named_q plain_q w_q ascend_q same =
+    sym (again numbers p named_p plain_p w_p ascend_p) ∙ ap (program_of (free_format numbers)) same ∙ again numbers q named_q plain_q w_q ascend_q

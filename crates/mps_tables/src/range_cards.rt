@@ -18,7 +18,7 @@ impl Tables {
     ghost use Rattle.mps_profile.specs.Sets.{counts};
     ghost use Rattle.mps_profile.specs.declared.row_kinds.RowKind.TheVariants.{Free};
     ghost use Rattle.mps_tables.specs.Tables.{Holds, Took};
-    ghost use Rattle.mps_tables.specs.Ranges.{range_at, new_range};
+    ghost use Rattle.mps_tables.specs.Ranges.{range_at, new_range, other_range};
 
     /// The type of a row.
     fn kind(&self, row: usize) -> RowKind
@@ -51,6 +51,21 @@ impl Tables {
                 self.range_at(row, range)
             }
         }
+    }
+
+    /// The sides that the second range on a card gives; none where both are of the same row.
+    fn other_range(
+        &self,
+        is_same: bool,
+        row: Option<usize>,
+        range: &Frac,
+    ) -> Result<Option<Interval>, Past>
+        ensures { result ≡ other_range self.now is_same row range.now }
+    {
+        if is_same {
+            return Ok(None);
+        }
+        self.new_range(row, range)
     }
 
     /// A range of a set that counts.
@@ -90,7 +105,8 @@ impl Tables {
         let Ok(interval) = self.new_range(place, &values.0) else {
             return Err(Stop::Fault(MpsFaultKind::NumberPast));
         };
-        let Ok(other_interval) = self.new_range(other_place, &values.1) else {
+        let is_same = pair.row == other.row;
+        let Ok(other_interval) = self.other_range(is_same, other_place, &values.1) else {
             return Err(Stop::Fault(MpsFaultKind::NumberPast));
         };
         let Some(first) = place else {
@@ -99,7 +115,7 @@ impl Tables {
         let Some(second) = other_place else {
             return Err(Stop::Fault(MpsFaultKind::UnknownRow));
         };
-        if pair.row == other.row {
+        if is_same {
             return Err(Stop::Fault(MpsFaultKind::DuplicateEntry));
         }
         if self.ranges.get(first).is_some() {

@@ -1,6 +1,6 @@
 //! Numbers to text.
 
-ghost use Rattle.std.specs.Prelude.{◌≡◌, ◌^◌, ◌<◌, ◌≤◌, ◌++◌, ◌∷◌, OnOk, IfOk};
+ghost use Rattle.std.specs.Prelude.{◌≡◌, ◌^◌, ◌<◌, ◌≤◌, ◌++◌, ◌∷◌, length, take, OnErr, OnOk, IfOk};
 ghost use Rattle.std.specs.Fmt.{decimal};
 ghost use Rattle.number_texts.specs.Written.{place_of, last_digits, with_point, sign_of, size_text, written};
 
@@ -23,7 +23,8 @@ fn digits_of(buffer: &mut Buffer, number: u128) -> &str
 
 /// Appends a natural number.
 fn push_natural(out: &mut Vec<u8>, number: u128) -> Result<(), AllocError>
-    ensures { OnOk result (out.new.items ≡ out.old.items ++ decimal number) }
+    ensures text { OnOk result (out.new.items ≡ out.old.items ++ decimal number) }
+    ensures unchanged { OnErr result (out.new.items ≡ out.old.items) }
 {
     let mut buffer = Buffer::new();
     out.extend_from_slice(digits_of(&mut buffer, number).as_bytes())
@@ -52,16 +53,19 @@ pub(crate) fn decimals(buffer: &mut Buffer, number: u128, places: u32) -> &str
 fn push_digits(out: &mut Vec<u8>, number: u128, places: u32) -> Result<(), AllocError>
     requires few { places ≤ 38 }
     requires small { number < 10 ^ places }
-    ensures { OnOk result (out.new.items ≡ out.old.items ++ last_digits places number) }
+    ensures text { OnOk result (out.new.items ≡ out.old.items ++ last_digits places number) }
+    ensures unchanged { OnErr result (out.new.items ≡ out.old.items) }
 {
     let mut buffer = Buffer::new();
     out.extend_from_slice(decimals(&mut buffer, number, places).as_bytes())
 }
 
-/// Appends `number / 10 ^ places` with exactly `places` decimals.
+/// Appends `number / 10 ^ places` with exactly `places` decimals. The bytes that were there stay.
+#[tactic(auto, using(crate::proofs::WritingLaws::kept, crate::proofs::WritingLaws::kept_through))]
 fn push_point(out: &mut Vec<u8>, number: u128, places: u32) -> Result<(), AllocError>
     requires { places ≤ 38 }
-    ensures { OnOk result (out.new.items ≡ out.old.items ++ with_point number places) }
+    ensures text { OnOk result (out.new.items ≡ out.old.items ++ with_point number places) }
+    ensures kept { OnErr result (take (length out.old.items) out.new.items ≡ out.old.items) }
 {
     if places == 0 {
         return push_natural(out, number);
@@ -74,7 +78,8 @@ fn push_point(out: &mut Vec<u8>, number: u128, places: u32) -> Result<(), AllocE
 
 /// Appends the sign, if it is a minus.
 fn push_sign(out: &mut Vec<u8>, number: Whole) -> Result<(), AllocError>
-    ensures { OnOk result (out.new.items ≡ out.old.items ++ sign_of number) }
+    ensures text { OnOk result (out.new.items ≡ out.old.items ++ sign_of number) }
+    ensures unchanged { OnErr result (out.new.items ≡ out.old.items) }
 {
     if number.is_negative() {
         out.push(b'-')?;
@@ -83,12 +88,13 @@ fn push_sign(out: &mut Vec<u8>, number: Whole) -> Result<(), AllocError>
 }
 
 /// Appends `over / under`, with the least number of decimals that shows it exactly, or else as it
-/// stands.
-#[tactic(auto, using(crate::proofs::WritingLaws::whole_text))]
+/// stands. The bytes that were there stay.
+#[tactic(auto, using(crate::proofs::WritingLaws::kept, crate::proofs::WritingLaws::kept_through, crate::proofs::WritingLaws::whole_text))]
 fn push_size(out: &mut Vec<u8>, over: u128, under: u128) -> Result<(), AllocError>
     requires positive { 0 < under }
     requires small { over < 2 ^ 127 }
-    ensures { OnOk result (out.new.items ≡ out.old.items ++ size_text over under (place_of over under)) }
+    ensures text { OnOk result (out.new.items ≡ out.old.items ++ size_text over under (place_of over under)) }
+    ensures kept { OnErr result (take (length out.old.items) out.new.items ≡ out.old.items) }
 {
     if under == 1 {
         return push_natural(out, over);
@@ -103,19 +109,35 @@ fn push_size(out: &mut Vec<u8>, over: u128, under: u128) -> Result<(), AllocErro
     }
 }
 
+/// Appends the one text of a number. The bytes that were there stay.
+#[tactic(auto, using(crate::proofs::WritingLaws::kept, crate::proofs::WritingLaws::kept_through), unfolding(crate::specs::Written::written, crate::specs::Written::written_by))]
+fn push_parts(out: &mut Vec<u8>, number: &Frac) -> Result<(), AllocError>
+    ensures text { OnOk result (out.new.items ≡ out.old.items ++ written number.now) }
+    ensures kept { OnErr result (take (length out.old.items) out.new.items ≡ out.old.items) }
+{
+    let parts = number.parts();
+    push_sign(out, parts.num)?;
+    push_size(out, parts.num.size(), parts.den)
+}
+
 /// Appends the one text of a number: a `-` if it is below 0, the whole digits, and with the least
 /// number of decimals that shows it exactly, from 0 to 38, a point and exactly that many digits. A
 /// number that no such number of decimals shows is written `n/d` in lowest terms.
 ///
 /// # Errors
-/// Where memory is short; what then stands behind the bytes that were there is not told.
-#[tactic(auto, unfolding(crate::specs::Written::written, crate::specs::Written::written_by))]
+/// Where memory is short; then the bytes are those that were there.
 pub fn push(out: &mut Vec<u8>, number: &Frac) -> Result<(), AllocError>
-    ensures { OnOk result (out.new.items ≡ out.old.items ++ written number.now) }
+    ensures text { OnOk result (out.new.items ≡ out.old.items ++ written number.now) }
+    ensures unchanged { OnErr result (out.new.items ≡ out.old.items) }
 {
-    let parts = number.parts();
-    push_sign(out, parts.num)?;
-    push_size(out, parts.num.size(), parts.den)
+    let before = out.len();
+    match push_parts(out, number) {
+        Ok(()) => Ok(()),
+        Err(error) => {
+            out.truncate(before);
+            Err(error)
+        }
+    }
 }
 
 /// The one text of a number, as [`push`] appends it.

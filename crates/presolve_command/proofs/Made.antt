@@ -8,9 +8,10 @@ use Rattle.mps_profile.specs.declared.dialect.Dialect.{Dialect}
 use Rattle.endings.specs.Moments.{Reads}
 use Rattle.endings.specs.ProgramTexts.{IsProgramOf}
 use Rattle.endings.proofs.Earlier.{given_reads}
-use Rattle.presolve_rounds.specs.Conclusions.{Concluded, Concludes}
-use Rattle.presolve_rounds.specs.declared.outcome.End.{End}
-use Rattle.presolve_rounds.specs.declared.outcome.Options.{Options}
+use Rattle.presolve_model.specs.Conclusions.{Concluded}
+use Rattle.presolve_rounds.specs.Conclusions.{Concludes}
+use Rattle.presolve_model.specs.declared.conclusion.End.{End}
+use Rattle.presolve_model.specs.declared.conclusion.Options.{Options}
 use Rattle.presolve_rounds.specs.declared.outcome.Presolved.{Presolved}
 use Rattle.presolve_rounds.specs.declared.outcome.Presolved.TheVariants.{Reduced}
 use Rattle.presolve_rounds.specs.declared.outcome.ReducedProgram.{ReducedProgram}

@@ -8,8 +8,8 @@ use Rattle.endings.specs.ProgramTexts.{IsProgramOf, SaysFaultOf}
 use Rattle.endings.specs.declared.reads.TheConstants.{INPUT_LIMIT}
 use Rattle.endings.specs.declared.ending.Ending.{Ending}
 use Rattle.endings.specs.declared.ending.Ending.TheVariants.{Done, Usage, Refused, ReadFault, WriteFault, NoMemory, NoRoom, RecordsRefused, SolutionRefused, Violated, Infeasible}
-use Rattle.presolve_rounds.specs.Conclusions.{Concluded}
-use Rattle.presolve_rounds.specs.declared.outcome.Options.{Options}
+use Rattle.presolve_model.specs.Conclusions.{Concluded}
+use Rattle.presolve_model.specs.declared.conclusion.Options.{Options}
 use Rattle.presolve_command.specs.Texts.{Outcome, AreTexts, HasNoPoint, ReadsBack, options_for}
 
 -- what presolve is told by the words

@@ -4,8 +4,8 @@ use Rattle.std.specs.Fmt.{decimal}
 use Rattle.rational.specs.Number.{Number}
 use Rattle.number_texts.specs.Written.{written}
 use Rattle.presolve_command.specs.declared.report.Change.{Change}
-use Rattle.presolve_rounds.specs.declared.outcome.End.{End}
-use Rattle.presolve_rounds.specs.declared.outcome.End.TheVariants.{Fixpoint, LimitReached}
+use Rattle.presolve_model.specs.declared.conclusion.End.{End}
+use Rattle.presolve_model.specs.declared.conclusion.End.TheVariants.{Fixpoint, LimitReached}
 use Rattle.presolve_command.specs.declared.report.Report.{Report}
 
 -- how many there were, and how many are left

@@ -10,8 +10,8 @@ use Rattle.mps_profile.specs.Program.{program_of}
 use Rattle.mps_written_lines.specs.Formats.{free_format}
 use Rattle.mps_round_trip.specs.Plain.{Plain}
 use Rattle.mps_profile.specs.declared.dialect.Dialect.{Dialect}
-use Rattle.presolve_rounds.specs.Conclusions.{Concluded}
-use Rattle.presolve_rounds.specs.declared.outcome.Options.{Options}
+use Rattle.presolve_model.specs.Conclusions.{Concluded}
+use Rattle.presolve_model.specs.declared.conclusion.Options.{Options}
 use Rattle.mps_writer.specs.MpsText.{mps_text}
 use Rattle.record_file.specs.RecordText.{record_text}
 use Rattle.undo_records.specs.Postsolve.{Postsolve}

@@ -11,7 +11,8 @@ use crate::report::{Change, Report, report_of};
 use lp_model::{ColumnDef, Program};
 use mps_reader::{Dialect, MpsError, MpsFault, read_mps};
 use mps_writer::{WriteError, write_mps};
-use presolve_rounds::{Options, Presolved, ReducedProgram, presolve};
+use presolve_model::Options;
+use presolve_rounds::{Presolved, ReducedProgram, presolve};
 use record_file::write_records;
 use std::alloc::{AllocError, Global};
 
@@ -146,7 +147,7 @@ fn reduce_program(alloc: Global, program: Program, options: &Options) -> Result<
             let texts = texts_of(alloc, &made, &report)?;
             Ok(texts)
         }
-        Ok(Presolved::Infeasible) => Err(NotReduced::Infeasible),
+        Ok(Presolved::Infeasible(_)) => Err(NotReduced::Infeasible),
         Err(AllocError) => Err(NotReduced::NoMemory),
     }
 }

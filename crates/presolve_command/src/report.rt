@@ -4,7 +4,7 @@ ghost use Rattle.std.specs.Prelude.{◌≡◌, ◌++◌, IfOk, OnOk};
 ghost use Rattle.presolve_command.specs.Report.{change_line, count_line, report_text, end_lines, offset_line};
 
 use fractions::frac::Frac;
-use presolve_rounds::End;
+use presolve_model::End;
 use std::alloc::{AllocError, Global};
 
 /// How many there were at first, and how many are left.

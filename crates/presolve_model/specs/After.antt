@@ -7,8 +7,8 @@ use Rattle.presolve_model.specs.declared.instance.Reduction.{Reduction}
 use Rattle.problem_model.specs.declared.refusal.Refusal.{Refusal}
 use Rattle.problem_model.specs.declared.refusal.Refusal.TheVariants.{Past, NotDecimal, NoMemory}
 use Rattle.presolve_model.specs.Changes.{changed}
-use Rattle.presolve_model.specs.Recorded.{record_of}
-use Rattle.presolve_model.specs.Fitting.{ChangeFits, ChangeIsWritten}
+use Rattle.presolve_model.specs.Tables.{record_of}
+use Rattle.presolve_model.specs.Changes.{ChangeFits, ChangeIsWritten}
 
 -- the change and its record; Past where a number of the change is, else NotDecimal where one can't be written. A refusal changes nothing.
 abbrev pub AfterAllows : Numbers → Reduction → Sparse → Result Undo Refusal → Sparse → Type 0

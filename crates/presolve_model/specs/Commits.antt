@@ -4,10 +4,10 @@ use Rattle.problem_model.specs.Sparse.{Sparse}
 use Rattle.presolve_model.specs.declared.instance.Instance.{Instance}
 use Rattle.presolve_model.specs.declared.instance.Instance.TheVariants.{Reduction, Verdict}
 use Rattle.presolve_model.specs.Given.{Proposed}
-use Rattle.presolve_model.specs.Enabled.{Agrees, DiffersAt}
+use Rattle.problem_model.specs.Reading.{Agrees, DiffersAt}
 use Rattle.presolve_model.specs.Changes.{changed}
-use Rattle.presolve_model.specs.Recorded.{record_of}
-use Rattle.presolve_model.specs.Fitting.{ChangeFits, ChangeIsWritten}
+use Rattle.presolve_model.specs.Tables.{record_of}
+use Rattle.presolve_model.specs.Changes.{ChangeFits, ChangeIsWritten}
 use Rattle.presolve_model.specs.Ledger.{Ledger}
 use Rattle.presolve_model.specs.declared.outcome.Outcome.{Outcome}
 use Rattle.presolve_model.specs.declared.outcome.Outcome.TheVariants.{Closed, Full, Stale, Past, NotDecimal, Applied, NoMemory}

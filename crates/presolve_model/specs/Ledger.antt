@@ -1,5 +1,5 @@
 -- A book as data.
-use Rattle.std.specs.Prelude.{◌≡◌, ℕ, ◌≤◌, true, List, length, Option, IfSome}
+use Rattle.std.specs.Prelude.{◌≡◌, ℕ, ◌+◌, ◌≤◌, true, List, length, Option, Some, None, IfSome}
 use Rattle.fractions.specs.declared.Numbers.{Numbers}
 use Rattle.undo_records.specs.declared.undo.Undo.{Undo}
 use Rattle.problem_model.specs.Sparse.{Sparse}
@@ -20,6 +20,14 @@ pub record Ledger : Type 0 where
   pub records : List Undo
   pub numbers : Numbers
   pub limit : ℕ
+
+-- how many instances were applied: the reductions, and the verdict
+abbrev pub closes : Option Verdict → ℕ
+closes None = 0
+closes (Some v) = 1
+
+abbrev pub instance_count : Ledger → ℕ
+instance_count b = length b.history + closes b.verdict
 
 -- what the type keeps: the problem and the records are those of the history, which replays on the start; a verdict is enabled on the problem
 pub record Stands (b : Ledger) : Type 0 where

@@ -1,11 +1,12 @@
-pub mod Conditions
-pub mod Given
+pub mod Tables
+pub mod Order
+pub mod Instances
+pub mod Meanings
 pub mod Enabled
+pub mod Changes
+pub mod Given
 pub mod Scans
 pub mod Tallies
-pub mod Changes
-pub mod Recorded
-pub mod Fitting
 pub mod After
 pub mod Replay
 pub mod Ledger
@@ -14,3 +15,4 @@ pub mod Laws
 pub mod Stuck
 pub mod Accounts
 pub mod Worlds
+pub mod Conclusions

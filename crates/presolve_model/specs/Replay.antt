@@ -2,13 +2,14 @@
 use Rattle.std.specs.Prelude.{◌≡◌, true, ⊤, List, [], ◌∷◌}
 use Rattle.fractions.specs.declared.Numbers.{Numbers}
 use Rattle.undo_records.specs.declared.undo.Undo.{Undo}
+use Rattle.problem_model.specs.declared.edit.Edit.{Edit}
 use Rattle.problem_model.specs.Sparse.{Sparse}
 use Rattle.presolve_model.specs.declared.instance.Reduction.{Reduction}
 use Rattle.presolve_model.specs.declared.instance.Instance.TheVariants as at
 use Rattle.presolve_model.specs.Enabled.{enabled_on}
 use Rattle.presolve_model.specs.Changes.{changed}
-use Rattle.presolve_model.specs.Recorded.{record_of}
-use Rattle.presolve_model.specs.Fitting.{ChangeFits, ChangeIsWritten}
+use Rattle.presolve_model.specs.Tables.{edits, record_of}
+use Rattle.presolve_model.specs.Changes.{ChangeFits, ChangeIsWritten}
 
 -- the problem after the reductions, the first one first
 abbrev pub replay : Sparse → List Reduction → Sparse
@@ -30,3 +31,8 @@ pub record CanApply (numbers : Numbers) (p : Sparse) (r : Reduction) : Type 0 wh
 abbrev pub Replays : Numbers → Sparse → List Reduction → Type 0
 Replays numbers p [] = ⊤
 Replays numbers p (r ∷ rs) = CanApply numbers p r × Replays numbers (changed r p) rs
+
+-- the edits of a history: those of each reduction, a commit each
+abbrev pub edits_along : Sparse → List Reduction → List (List Edit)
+edits_along p [] = []
+edits_along p (r ∷ rs) = edits r p ∷ edits_along (changed r p) rs

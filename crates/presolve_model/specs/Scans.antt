@@ -1,33 +1,36 @@
--- The enabled instances of a rule, in order.
+-- The enabled instances of rules, in order.
 use Rattle.std.specs.Prelude.{ℕ, ◌*◌, List, map}
-use Rattle.std.specs.List.{filter, range_with_len}
+use Rattle.std.specs.List.{filter, flat_map, range_with_len}
 use Rattle.problem_model.specs.Sparse.{Sparse}
 use Rattle.presolve_model.specs.declared.instance.Instance.{Instance}
-use Rattle.presolve_model.specs.declared.instance.Instance.TheVariants as at
-use Rattle.presolve_model.specs.declared.instance.Reduction.TheVariants as reduction
-use Rattle.presolve_model.specs.declared.instance.Verdict.TheVariants as verdict
 use Rattle.presolve_model.specs.declared.instance.Rule.{Rule}
-use Rattle.presolve_model.specs.declared.instance.Rule.TheVariants.{CrossedBounds, CrossedSides, EmptyRow, SingletonRow, FixedColumn, RoundBounds, EmptyColumn}
-use Rattle.presolve_model.specs.Given.{Proposed}
 use Rattle.presolve_model.specs.Enabled.{enabled_on, reading_of}
-
--- a rule at an id of a row or a column
-abbrev pub instance_at : Rule → ℕ → Instance
-instance_at CrossedBounds j = at.Verdict (verdict.CrossedBounds j)
-instance_at CrossedSides i = at.Verdict (verdict.CrossedSides i)
-instance_at EmptyRow i = at.Reduction (reduction.EmptyRow i)
-instance_at SingletonRow i = at.Reduction (reduction.SingletonRow i)
-instance_at FixedColumn j = at.Reduction (reduction.FixedColumn j)
-instance_at RoundBounds j = at.Reduction (reduction.RoundBounds j)
-instance_at EmptyColumn j = at.Reduction (reduction.EmptyColumn j)
+use Rattle.presolve_model.specs.Given.{Proposed}
+use Rattle.presolve_model.specs.Instances.{instances_from, id_count}
 
 -- an instance with its reading of a problem
 abbrev pub proposal_of : Sparse → ℕ → Instance → Proposed
 proposal_of p version e = record { instance = e; reading = reading_of p e; version = version }
 
--- the enabled instances of a rule at these ids, each with its reading
+-- the instances of a rule with these first ids
+abbrev pub instances_at : Sparse → Rule → List ℕ → List Instance
+instances_at p rule ids = flat_map (instances_from p rule) ids
+
+-- the enabled ones among them, each with its reading
 abbrev pub found_at : Sparse → ℕ → Rule → List ℕ → List Proposed
-found_at p version rule ids = map (proposal_of p version) (filter (enabled_on p) (map (instance_at rule) ids))
+found_at p version rule ids = map (proposal_of p version) (filter (enabled_on p) (instances_at p rule ids))
+
+-- of rules in order, with the first ids of each
+abbrev pub listed : Sparse → ℕ → (Rule → List ℕ) → List Rule → List Proposed
+listed p version ids rules = flat_map (λ rule. found_at p version rule (ids rule)) rules
+
+-- all first ids of a rule
+abbrev pub all_ids : Sparse → Rule → List ℕ
+all_ids p rule = range_with_len 0 (id_count p rule)
+
+-- all instances of rules in order
+abbrev pub all_of : Sparse → List Rule → List Instance
+all_of p rules = flat_map (λ rule. instances_at p rule (all_ids p rule)) rules
 
 -- the ids of chunk c: 1,024 in a row
 abbrev pub chunk_ids : ℕ → List ℕ

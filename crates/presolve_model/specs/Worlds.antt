@@ -1,14 +1,14 @@
 -- A book and its workers: what each event makes of them.
-use Rattle.std.specs.Prelude.{◌≡◌, ℕ, ⊤, List, [], ◌∷◌, ◌++◌, length, Option, Some, None}
+use Rattle.std.specs.Prelude.{◌≡◌, ℕ, ⊤, List, [], ◌∷◌, ◌++◌, Option, Some, None}
 use Rattle.rational.specs.Total.{put}
 use Rattle.presolve_model.specs.declared.outcome.Outcome.{Outcome}
 use Rattle.presolve_model.specs.Commits.{Allows, left_by}
 use Rattle.presolve_model.specs.Enabled.{Enabled}
 use Rattle.presolve_model.specs.Given.{Proposed}
-use Rattle.presolve_model.specs.Ledger.{Ledger}
+use Rattle.presolve_model.specs.Ledger.{Ledger, instance_count}
 use Rattle.problem_model.specs.Sparse.{Sparse}
 
--- a frozen version: the problem, and how many reductions had been applied
+-- a frozen version: the problem, and how many instances had been applied, a verdict among them
 pub record Version : Type 0 where
   pub problem : Sparse
   pub applied : ℕ
@@ -28,7 +28,7 @@ pub data Happening : Type 0 where
   Commit : (w : ℕ) → Happening
 
 abbrev pub version_of : Ledger → Version
-version_of b = record { problem = b.problem; applied = length b.history }
+version_of b = record { problem = b.problem; applied = instance_count b }
 
 abbrev pub opened : Ledger → State
 opened b = record { book = b; frozen = λ w. None; pending = λ w. [] }

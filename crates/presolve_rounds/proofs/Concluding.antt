@@ -21,12 +21,12 @@ use Rattle.program_laws.proofs.Writing.{written_column_names, written_row_names}
 use Rattle.history_laws.proofs.Keeping.{sparse_replay}
 use Rattle.program_laws.specs.Shapes.{IsOf}
 use Rattle.history_laws.proofs.Walks.{walked_reduces}
-use Rattle.round_laws.specs.Telling.{are_live, IsToldOf, names_in}
+use Rattle.round_laws.specs.Telling.{are_live, IsToldOf}
 use Rattle.round_laws.proofs.Telling.{problem_is_of, program_ascends, program_written, walked}
-use Rattle.presolve_rounds.specs.declared.outcome.End.{End}
-use Rattle.presolve_rounds.specs.declared.outcome.End.TheVariants.{Fixpoint, LimitReached}
-use Rattle.presolve_rounds.specs.declared.outcome.Options.{Options}
-use Rattle.presolve_rounds.specs.Conclusions.{Concluded, live_names, TellsEnd}
+use Rattle.presolve_model.specs.declared.conclusion.End.{End}
+use Rattle.presolve_model.specs.declared.conclusion.End.TheVariants.{Fixpoint, LimitReached}
+use Rattle.presolve_model.specs.declared.conclusion.Options.{Options}
+use Rattle.presolve_model.specs.Conclusions.{Concluded, HaveNames, live_names, names_in, TellsEnd}
 use Rattle.presolve_rounds.specs.Running.{EndsWith}
 
 -- ---- names
@@ -62,8 +62,9 @@ undecided_at LimitReached b h = h.1
 
 -- ---- all of it
 pub concluded : (program : ProgramData) (b : Ledger) (told : Postsolve) (e : End) → EntriesAscend program → Writable b.numbers program → IsProblemOf program b.start → Stands b → EndsWith (Some e) b → IsToldOf program b told
+    → HaveNames program (written_program program b.problem) told
     → Concluded (record { numbers = b.numbers; limit = b.limit }) program (written_program program b.problem) told e
-concluded program b told e ascends writes o s h t =
+concluded program b told e ascends writes o s h t named =
     let is : IsOf program b.problem = problem_is_of program b o s in
     let sparse : IsSparse b.problem = subst IsSparse (sym s.problem) (sparse_replay b.numbers b.start b.history s.sound s.replays) in
     record {
@@ -78,6 +79,7 @@ concluded program b told e ascends writes o s h t =
         live_rows = written_row_names program b.problem sparse is ∙ ap (λ (ns : List (List ℕ)). names_at ns b.problem.matrix.rows) (sym t.row_names) ∙ sym (live_names_kept told.rows b.problem.matrix.rows t.rows);
         live_columns = written_column_names program b.problem sparse is ∙ ap (λ (ns : List (List ℕ)). names_at ns b.problem.matrix.columns) (sym t.column_names) ∙ sym (live_names_kept told.columns b.problem.matrix.columns t.columns);
       };
+      named = named;
       ascends = program_ascends program b o s;
       writable = program_written program b writes o s (undecided_at e b h);
     }

@@ -2,8 +2,8 @@
 use Rattle.std.specs.Prelude.{◌≡◌, ◌≢◌, ◌<◌, ℕ, length, Option, Some, None}
 use Rattle.presolve_model.specs.Ledger.{Ledger}
 use Rattle.presolve_model.specs.Stuck.{IsUndecided, skipped_on, Stuck}
-use Rattle.presolve_rounds.specs.declared.outcome.End.{End}
-use Rattle.presolve_rounds.specs.declared.outcome.End.TheVariants.{Fixpoint, LimitReached}
+use Rattle.presolve_model.specs.declared.conclusion.End.{End}
+use Rattle.presolve_model.specs.declared.conclusion.End.TheVariants.{Fixpoint, LimitReached}
 use Rattle.presolve_rounds.specs.declared.rounds.Turn.{Turn}
 use Rattle.presolve_rounds.specs.declared.rounds.Turn.TheVariants.{Applied, Decided, Nothing}
 

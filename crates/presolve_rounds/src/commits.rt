@@ -31,7 +31,7 @@ fn commit_one(
 ) -> Result<(), AllocError>
     ensures { OnOk result (Went book.old book.new (proposal.now ∷ [])) }
 {
-    let outcome = book.commit(alloc, proposal);
+    let outcome = book.commit(alloc, 0, proposal);
     note(proposal, outcome, next)?;
     Ok(())
 }

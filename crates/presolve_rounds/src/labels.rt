@@ -4,7 +4,8 @@ ghost use Rattle.std.specs.Prelude.{◌≡◌, length, IfOk};
 ghost use Rattle.lp_model.specs.Names.{names_of_columns, names_of_rows};
 ghost use Rattle.undo_records.specs.Walk.{lives};
 ghost use Rattle.problem_model.specs.Programs.{IsProblemOf};
-ghost use Rattle.round_laws.specs.Telling.{are_live, IsToldOf, names_in};
+ghost use Rattle.presolve_model.specs.Conclusions.{names_in};
+ghost use Rattle.round_laws.specs.Telling.{are_live, IsToldOf};
 
 use lp_model::{ColumnDef, Program, RowDef};
 use presolve_model::Line;
@@ -55,6 +56,7 @@ pub fn records_of(alloc: Global, program: &Program, book: Book) -> Result<Record
     ensures { IfOk result (IsToldOf program.now book) }
 {
     book.stands();
+    let _name = program.objective();
     let rows = row_labels(alloc, program.rows(), book.problem().rows())?;
     let columns = column_labels(alloc, program.columns(), book.problem().columns())?;
     let offset = in_sense(program.sense(), &book.problem().offset());

@@ -9,5 +9,5 @@ mod outcome;
 mod reduce;
 mod rounds;
 
-pub use outcome::{End, Options, Presolved, ReducedProgram};
+pub use outcome::{DecidedProgram, Presolved, ReducedProgram};
 pub use reduce::presolve;

@@ -1,26 +1,8 @@
-//! What presolve is told, and what it makes.
+//! What presolve makes.
 
-use fractions::Numbers;
 use lp_model::Program;
+use presolve_model::{End, Reduction, Verdict};
 use undo_records::Records;
-
-/// What presolve is told.
-#[derive(Clone, Copy, Debug, PartialEq, Eq)]
-pub struct Options {
-    /// The numbers that a reduced program may have.
-    pub numbers: Numbers,
-    /// How many reductions may be applied.
-    pub limit: u64,
-}
-
-/// How a run ended that reduced its program.
-#[derive(Clone, Copy, Debug, PartialEq, Eq)]
-pub enum End {
-    /// No reduction is left that could be applied. So many are enabled, and each has a number that is past the range or can't be written.
-    Fixpoint { skipped: u64 },
-    /// As many reductions were applied as are allowed.
-    LimitReached,
-}
 
 /// A program that was reduced.
 #[derive(Drop)]
@@ -33,11 +15,20 @@ pub struct ReducedProgram {
     pub end: End,
 }
 
+/// A program that was decided.
+#[derive(Drop)]
+pub struct DecidedProgram {
+    /// The reductions that were applied, first one first.
+    pub history: Vec<Reduction>,
+    /// The verdict that is enabled on what they leave.
+    pub verdict: Verdict,
+}
+
 /// What presolve made of a program.
 #[derive(Drop)]
 pub enum Presolved {
     /// It was reduced.
     Reduced(ReducedProgram),
     /// It has no feasible point.
-    Infeasible,
+    Infeasible(DecidedProgram),
 }

@@ -1,15 +1,19 @@
 //! Presolve of a program.
 
-ghost use Rattle.std.specs.Prelude.{◌≡◌, ◌<◌, ◌^◌, length, IfOk, Some};
+ghost use Rattle.std.specs.Prelude.{◌≡◌, ◌≢◌, ◌<◌, ◌^◌, length, IfOk, None, Some};
+ghost use Rattle.lp_model.specs.Meaning.{meaning};
+ghost use Rattle.lp_model.specs.Verdicts.{NoPoint};
 ghost use Rattle.lp_model.specs.Writable.{EntriesAscend, Writable};
 ghost use Rattle.problem_model.specs.Programs.{IsProblemOf};
-ghost use Rattle.presolve_rounds.specs.Conclusions.{Concluded, Concludes};
+ghost use Rattle.presolve_model.specs.Conclusions.{Concluded, Decided};
+ghost use Rattle.presolve_rounds.specs.Conclusions.{Concludes};
 ghost use Rattle.presolve_rounds.specs.Running.{EndsWith};
 
 use crate::labels::records_of;
-use crate::outcome::{End, Options, Presolved, ReducedProgram};
+use crate::outcome::{DecidedProgram, Presolved, ReducedProgram};
 use crate::rounds::run;
 use lp_model::Program;
+use presolve_model::{End, Options};
 use sparse_problem::Problem;
 use std::alloc::{AllocError, Global};
 use txn_book::Book;
@@ -44,11 +48,33 @@ fn reduced(
     book.stands();
     let reduced = book.problem().to_program(alloc, program)?;
     let records = records_of(alloc, program, book)?;
+    let _name = program.objective();
+    let _left = reduced.objective();
+    records.is_named();
     Ok(ReducedProgram {
         program: reduced,
         records,
         end,
     })
+}
+
+/// How a program was decided.
+fn decided(program: &Program, book: Book) -> DecidedProgram
+    requires start { IsProblemOf program.now book.start }
+    requires decided { book.verdict ≢ None }
+    ensures told { Decided (record { numbers = book.numbers; limit = book.limit }) program.now result.history.items result.verdict }
+    ensures no_point { NoPoint (meaning program.now) }
+{
+    let _ = program;
+    book.stands();
+    let ended = book.close();
+    match ended.verdict {
+        Some(verdict) => DecidedProgram {
+            history: ended.history,
+            verdict,
+        },
+        None => unreachable!(),
+    }
 }
 
 /// Reduces a program by the rules for one row or one column, until none is left that could be applied or the limit is reached.
@@ -64,9 +90,8 @@ pub fn presolve(alloc: Global, program: Program, options: &Options) -> Result<Pr
 {
     let mut book = opened(alloc, &program, options)?;
     let end = run(alloc, &mut book)?;
-    book.stands();
     match end {
         Some(end) => Ok(Presolved::Reduced(reduced(alloc, &program, book, end)?)),
-        None => Ok(Presolved::Infeasible),
+        None => Ok(Presolved::Infeasible(decided(&program, book))),
     }
 }

@@ -7,13 +7,16 @@
 
 ghost use Rattle.std.specs.Prelude.{◌≡◌, ◌<◌, ◌≤◌, ◌++◌, length, IfOk, OnOk};
 ghost use Rattle.round_laws.specs.Committing.{IsSameBook, Went};
-ghost use Rattle.round_laws.specs.Listing.{reductions_at, verdicts_at};
+ghost use Rattle.presolve_model.specs.Ledger.{instance_count};
+ghost use Rattle.presolve_model.specs.Order.{reduction_order, verdict_order};
+ghost use Rattle.presolve_model.specs.Scans.{listed};
+ghost use Rattle.presolve_rounds.specs.Looking.{ids_of};
 ghost use Rattle.presolve_rounds.specs.Running.{EndsWith, Turned, TurnsTo};
 
 use crate::commits::commit_all;
 use crate::ids::Ids;
 use crate::looks::{enabled_reductions, enabled_verdicts};
-use crate::outcome::End;
+use presolve_model::End;
 use std::alloc::{AllocError, Global};
 use txn_book::Book;
 
@@ -30,8 +33,8 @@ pub enum Turn {
 
 /// One round at these rows and columns. Tells how many reductions it found.
 fn round(alloc: Global, book: &mut Book, ids: &Ids, next: &mut Ids) -> Result<usize, AllocError>
-    ensures went { OnOk result (Went book.old book.new (verdicts_at book.old.problem (length book.old.history) ids.now.rows.items ids.now.columns.items ++ reductions_at book.old.problem (length book.old.history) ids.now.rows.items ids.now.columns.items)) }
-    ensures count { IfOk result (λ n. n ≡ length (reductions_at book.old.problem (length book.old.history) ids.now.rows.items ids.now.columns.items)) }
+    ensures went { OnOk result (Went book.old book.new (listed book.old.problem (instance_count book.old) (ids_of ids.now.rows.items ids.now.columns.items) verdict_order ++ listed book.old.problem (instance_count book.old) (ids_of ids.now.rows.items ids.now.columns.items) reduction_order)) }
+    ensures count { IfOk result (λ n. n ≡ length (listed book.old.problem (instance_count book.old) (ids_of ids.now.rows.items ids.now.columns.items) reduction_order)) }
 {
     let mut proposals = enabled_verdicts(alloc, book, ids)?;
     let mut reductions = enabled_reductions(alloc, book, ids)?;

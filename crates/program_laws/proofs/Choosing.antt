@@ -62,7 +62,7 @@ chosen-map f (y ∷ ls) (x ∷ xs) = by y.live (chosen-map f ls xs)
     by false ih = ih
 
 -- ---- names
-all_names : (P : List ℕ → Type 0) (lines : List Line) (names : List (List ℕ)) → All P names → All P (at_live lines names)
+pub all_names : (P : List ℕ → Type 0) (lines : List Line) (names : List (List ℕ)) → All P names → All P (at_live lines names)
 all_names P [] names h = All-nil P
 all_names P (y ∷ lines) [] h = All-nil P
 all_names P (y ∷ lines) (n ∷ ns) h = by y.live (all_names P lines ns (All-tail P n ns h))

@@ -1,7 +1,7 @@
 -- What can be written of a program can be written of its problem, and back.
 use Rattle.std.proofs.Common.{◌≡◌, ℕ, ◌<◌, true, List, ◌∷◌, length, get_or, sym, ap, ◌∙◌, subst, arith, Option, Some, None, IfSome}
 use Rattle.std.specs.List.{All}
-use Rattle.std.proofs.lemmas.List.Elements.{All-get_or}
+use Rattle.std.proofs.lemmas.List.Elements.{All-cons, All-get_or, All-head, All-tail}
 use Rattle.rational.specs.Number.{Number}
 use Rattle.rational.proofs.Comparisons.{le_ℚ-is}
 use Rattle.fractions.specs.declared.Numbers.{Numbers}
@@ -9,7 +9,8 @@ use Rattle.lp_model.specs.declared.terms.Term.{Term}
 use Rattle.lp_model.specs.declared.program.RowDef.{RowDef}
 use Rattle.lp_model.specs.declared.program.ColumnDef.{ColumnDef}
 use Rattle.lp_model.specs.Meaning.{no_row, no_column}
-use Rattle.lp_model.specs.Names.{NamesDiffer, names_of_rows, names_of_columns, Differ}
+use Rattle.lp_model.specs.Name.{IsName}
+use Rattle.lp_model.specs.Names.{WellNamed, names_of_rows, names_of_columns, Differ}
 use Rattle.lp_model.specs.ProgramData.{ProgramData}
 use Rattle.lp_model.specs.Writable.{WritableNumber, WritableBound, WritableSides, WritableRow, WritableColumn, Writable}
 use Rattle.problem_model.specs.declared.line.Sides.{Sides}
@@ -22,7 +23,7 @@ use Rattle.problem_model.specs.Writing.{KeptSides, KeptColumn, IsWritable}
 use Rattle.problem_laws.proofs.AtIds.{row_inside, column_inside}
 use Rattle.program_laws.specs.Chosen.{at_live, names_at}
 use Rattle.program_laws.specs.Shapes.{IsOf, NoCrossedSides}
-use Rattle.program_laws.proofs.Choosing.{chosen-all, chosen-map, names_differ, names_differ_from}
+use Rattle.program_laws.proofs.Choosing.{all_names, chosen-all, chosen-map, names_differ, names_differ_from}
 use Rattle.program_laws.proofs.Negating.{writable_signed}
 use Rattle.program_laws.proofs.Renumbering.{numbers_stay}
 use Rattle.program_laws.proofs.Making.{made_rows, made_columns, made_rows-length, made_columns-length, made_row-at, made_column-at, written-rows, written-columns, as_many_sides, as_many_columns, rows_with-names, columns_with-names}
@@ -99,9 +100,13 @@ module _ (program : ProgramData) (p : Sparse) (s : IsSparse p) (o : IsOf program
       ∙ ap (λ (ns : List (List ℕ)). at_live p.matrix.columns ns)
       (columns_with-names program.sense p.matrix.rows program.columns p.matrix.columns p.bounds p.costs (as_many_columns program p s o))
 
-  pub written_names_differ : NamesDiffer program.objective program.rows program.columns
-      → NamesDiffer (written_program program p).objective (written_program program p).rows (written_program program p).columns
-  written_names_differ d = record {
+  pub written_well_named : WellNamed program.objective program.rows program.columns
+      → WellNamed (written_program program p).objective (written_program program p).rows (written_program program p).columns
+  written_well_named d = record {
+    row_names = subst (λ (ns : List (List ℕ)). All IsName (program.objective ∷ ns)) (sym written_row_names)
+        (All-cons IsName program.objective (names_at (names_of_rows program.rows) p.matrix.rows) (All-head IsName program.objective (names_of_rows program.rows) d.row_names)
+        (all_names IsName p.matrix.rows (names_of_rows program.rows) (All-tail IsName program.objective (names_of_rows program.rows) d.row_names)));
+    column_names = subst (All IsName) (sym written_column_names) (all_names IsName p.matrix.columns (names_of_columns program.columns) d.column_names);
     rows = subst (λ (ns : List (List ℕ)). Differ (program.objective ∷ ns)) (sym written_row_names) (names_differ_from program.objective p.matrix.rows (names_of_rows program.rows) d.rows);
     columns = subst (λ (ns : List (List ℕ)). Differ ns) (sym written_column_names) (names_differ p.matrix.columns (names_of_columns program.columns) d.columns);
   }

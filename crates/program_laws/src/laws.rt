@@ -7,7 +7,7 @@ ghost use Rattle.lp_model.specs.declared.program.Sense.{Sense};
 ghost use Rattle.lp_model.specs.declared.program.Sense.TheVariants.{Min};
 ghost use Rattle.lp_model.specs.LinearProgram.{LinearProgram};
 ghost use Rattle.lp_model.specs.Meaning.{meaning};
-ghost use Rattle.lp_model.specs.Names.{NamesDiffer, names_of_columns, names_of_rows};
+ghost use Rattle.lp_model.specs.Names.{WellNamed, names_of_columns, names_of_rows};
 ghost use Rattle.lp_model.specs.ProgramData.{ProgramData};
 ghost use Rattle.lp_model.specs.Reductions.{Reduces};
 ghost use Rattle.lp_model.specs.Vectors.{vector_of};
@@ -51,11 +51,11 @@ pub fn written_programs_can_be_written()
     ensures writable { (numbers : Numbers) (program : ProgramData) (p : Sparse) → IsSparse p → IsOf program p → IsWritable numbers p → NoCrossedSides p → WritableNumber numbers program.constant → Writable numbers (written_program program p) }
 {}
 
-/// The written program has the names of what is live, in order, and they differ where the original's do.
+/// The written program has the names of what is live, in order. They are names, and differ, where the original's are and do.
 pub fn written_programs_keep_names()
     ensures rows { (program : ProgramData) (p : Sparse) → IsSparse p → IsOf program p → names_of_rows (written_program program p).rows ≡ names_at (names_of_rows program.rows) p.matrix.rows }
     ensures columns { (program : ProgramData) (p : Sparse) → IsSparse p → IsOf program p → names_of_columns (written_program program p).columns ≡ names_at (names_of_columns program.columns) p.matrix.columns }
-    ensures differ { (program : ProgramData) (p : Sparse) → IsSparse p → IsOf program p → NamesDiffer program.objective program.rows program.columns → NamesDiffer (written_program program p).objective (written_program program p).rows (written_program program p).columns }
+    ensures named { (program : ProgramData) (p : Sparse) → IsSparse p → IsOf program p → WellNamed program.objective program.rows program.columns → WellNamed (written_program program p).objective (written_program program p).rows (written_program program p).columns }
 {}
 
 /// A point of the written program, placed at the original columns, is the one spread over the ids of the live columns.

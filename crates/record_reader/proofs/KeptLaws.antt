@@ -3,11 +3,13 @@ use Rattle.std.proofs.Common.{◌≡◌, ◌↔◌, ℕ, zero, suc, ◌+◌, Boo
 use Rattle.std.specs.Prelude.{◌&&◌, codes, unwrap_or, if◌then◌else◌}
 use Rattle.std.specs.List.{list_all}
 use Rattle.std.specs.Str.{bytes_eq}
-use Rattle.std.proofs.lemmas.List.{length-set, length-replicate}
+use Rattle.std.proofs.lemmas.List.{length-set, length-replicate, map-append}
 use Rattle.std.proofs.lemmas.List.Elements.{All-nil, All-cons, All-append}
 use Rattle.std.proofs.lemmas.List.Folds.{list_all-append}
 use Rattle.number_texts.proofs.Cutting.{both_true}
 use Rattle.lp_model.specs.declared.program.Sense.{Sense}
+use Rattle.lp_model.specs.Name.{is_name, IsName}
+use Rattle.undo_records.specs.Named.{AreNamed}
 use Rattle.undo_records.specs.Postsolve.{Postsolve}
 use Rattle.undo_records.specs.Sound.{IsSound}
 use Rattle.undo_records.specs.Walk.{Flags, Walks, NamesLive, AreSound, all_live, after, cleared, lives, flags_of, rows_deleted, columns_deleted}
@@ -20,7 +22,7 @@ use Rattle.record_words.specs.Rules.{rule_of}
 use Rattle.record_words.specs.declared.faults.LineFault.{LineFault}
 use Rattle.record_words.proofs.Soundness.{sound_by}
 use Rattle.record_reader.specs.Lines.{lines_of}
-use Rattle.record_reader.specs.Labels.{is_name, label_named, label_of, with_label, AreNamed}
+use Rattle.record_reader.specs.Labels.{label_named, label_of, with_label}
 use Rattle.record_reader.specs.Headings.{is_end, count_of, offset_of}
 use Rattle.record_reader.specs.Progress.{Progress, start, columns_left, rows_left, undos_left, with_undo, with_records, moved_at, moved}
 use Rattle.record_reader.specs.Faults.{kind_in, unless, same_flag, same_flags, ends_at, end_fault, fault_at, line_fault}
@@ -200,38 +202,42 @@ pub sound_given : (text : List ℕ) (p : Postsolve) → first_fault text ≡ Non
 sound_given text p h e = subst AreSound (sym e) (sound_text text h)
 
 -- ---- names
-named_is : (live : Bool) (name : List ℕ) (l : Label) → label_named live name ≡ Some l → is_name l.name ≡ true
+named_is : (live : Bool) (name : List ℕ) (l : Label) → label_named live name ≡ Some l → IsName l.name
 named_is live name l h = by (is_name name) refl h
   where
-    by : (b : Bool) → is_name name ≡ b → (if b then Some (record { name = name; live = live }) else None) ≡ Some l → is_name l.name ≡ true
+    by : (b : Bool) → is_name name ≡ b → (if b then Some (record { name = name; live = live }) else None) ≡ Some l → IsName l.name
     by true e h = let s = some_is (record { name = name; live = live }) l h in ap (λ k. is_name k.name) (sym s) ∙ e
     by false e h = cc
 
-label_is : (line : List ℕ) (l : Label) → label_of line ≡ Some l → is_name l.name ≡ true
+label_is : (line : List ℕ) (l : Label) → label_of line ≡ Some l → IsName l.name
 label_is line l h = by (bytes_eq (take 5 line) (codes "live ")) (bytes_eq (take 5 line) (codes "gone ")) h
   where
-    by : (a b : Bool) → (if a then label_named true (drop 5 line) else if b then label_named false (drop 5 line) else None) ≡ Some l → is_name l.name ≡ true
+    by : (a b : Bool) → (if a then label_named true (drop 5 line) else if b then label_named false (drop 5 line) else None) ≡ Some l → IsName l.name
     by true b h = named_is true (drop 5 line) l h
     by false true h = named_is false (drop 5 line) l h
     by false false h = cc
 
-more_named : (ls : List Label) (o : Option Label) → ((l : Label) → o ≡ Some l → is_name l.name ≡ true) → list_all (λ l. is_name l.name) ls ≡ true → list_all (λ l. is_name l.name) (with_label ls o) ≡ true
+abbrev names : List Label → List (List ℕ)
+names ls = map (λ (l : Label). l.name) ls
+
+more_named : (ls : List Label) (o : Option Label) → ((l : Label) → o ≡ Some l → IsName l.name) → All IsName (names ls) → All IsName (names (with_label ls o))
 more_named ls None n h = h
-more_named ls (Some l) n h = list_all-append (λ (k : Label). is_name k.name) ls (l ∷ []) ∙ and-is _ _ h (and-is _ _ (n l refl) refl)
+more_named ls (Some l) n h =
+    subst (All IsName) (sym (map-append (λ (k : Label). k.name) ls (l ∷ []))) (All-append IsName (names ls) (l.name ∷ []) h (All-cons IsName l.name [] (n l refl) (All-nil IsName)))
 
 named_at : (s : Stage) (p : Progress) (line : List ℕ) → AreNamed p.given → AreNamed (moved_at s p line).given
-named_at Header p line k = k
-named_at SenseLine p line k = k
-named_at DualsLine p line k = k
-named_at ColumnCount p line k = k
-named_at (Columns n) p line k = (more_named p.given.columns (label_of line) (label_is line) k.0, k.1)
-named_at RowCount p line k = k
-named_at (Rows n) p line k = (k.0, more_named p.given.rows (label_of line) (label_is line) k.1)
-named_at Offset p line k = k
-named_at RecordCount p line k = k
-named_at (Undos n) p line k = k
-named_at End p line k = k
-named_at Over p line k = k
+named_at Header p line k = record { rows = k.rows; columns = k.columns }
+named_at SenseLine p line k = record { rows = k.rows; columns = k.columns }
+named_at DualsLine p line k = record { rows = k.rows; columns = k.columns }
+named_at ColumnCount p line k = record { rows = k.rows; columns = k.columns }
+named_at (Columns n) p line k = record { rows = k.rows; columns = more_named p.given.columns (label_of line) (label_is line) k.columns }
+named_at RowCount p line k = record { rows = k.rows; columns = k.columns }
+named_at (Rows n) p line k = record { rows = more_named p.given.rows (label_of line) (label_is line) k.rows; columns = k.columns }
+named_at Offset p line k = record { rows = k.rows; columns = k.columns }
+named_at RecordCount p line k = record { rows = k.rows; columns = k.columns }
+named_at (Undos n) p line k = record { rows = k.rows; columns = k.columns }
+named_at End p line k = record { rows = k.rows; columns = k.columns }
+named_at Over p line k = record { rows = k.rows; columns = k.columns }
 
 named_lines : (p : Progress) (lines : List (List ℕ)) → AreNamed p.given → AreNamed (progress_from p lines).given
 unfolding moved
@@ -240,4 +246,7 @@ named_lines p (line ∷ lines) k = named_lines (moved p line) lines (named_at p.
 
 pub named_text : (text : List ℕ) → AreNamed (records_of text)
 unfolding records_of
-named_text text = named_lines start (lines_of text) (refl, refl)
+named_text text = named_lines start (lines_of text) (record { rows = All-nil IsName; columns = All-nil IsName })
+
+pub named_given : (text : List ℕ) (p : Postsolve) → p ≡ records_of text → AreNamed p
+named_given text p e = subst AreNamed (sym e) (named_text text)

@@ -41,9 +41,10 @@ abbrev pub point_form : List ℕ × Option (List ℕ) → Bool
 point_form (n, None) = is_plain n
 point_form (n, Some ds) = is_plain n && are_decimals ds
 
+-- n/d with n of 1 or more and d of 2 or more; lowest terms are asked of numbers in range alone
 abbrev pub slash_form : List ℕ × Option (List ℕ) → Bool
 slash_form (n, None) = point_form (cut is_point n)
-slash_form (n, Some d) = is_plain n && is_least 2 d
+slash_form (n, Some d) = is_least 1 n && is_least 2 d
 
 -- a number past the range has the form in which numbers are written
 abbrev pub has_written_form : List ℕ → Bool

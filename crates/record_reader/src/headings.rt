@@ -1,6 +1,6 @@
 //! The lines that are neither labels nor records.
 
-ghost use Rattle.std.specs.Prelude.{◌≡◌, ◌^◌, ◌<◌, ◌-◌, ◌==◌, not, length, IfOk, Ok, Err, Some, None, take, drop, slice_index_or};
+ghost use Rattle.std.specs.Prelude.{◌≡◌, ◌^◌, ◌<◌, ◌≤◌, ◌-◌, ◌==◌, not, length, IfOk, Ok, Err, Some, None, take, drop, slice_index_or};
 ghost use Rattle.std.specs.Option.{option_map};
 ghost use Rattle.fractions.specs.declared.Numbers.TheVariants.{Fractions};
 ghost use Rattle.number_texts.specs.Form.{cut, is_slash, is_point};
@@ -82,14 +82,16 @@ fn point_form(text: &[u8]) -> bool
     }
 }
 
-/// Whether digits are a number of at least 2.
-fn is_denominator(digits: &[u8]) -> bool
-    ensures { result ≡ is_least 2 digits.now }
+/// Whether digits are a number of at least some size, without leading zeros.
+fn is_least(digits: &[u8], size: u128) -> bool
+    requires positive { 0 < size }
+    requires small { size ≤ 2 ^ 127 }
+    ensures { result ≡ is_least size digits.now }
 {
     if !is_plain(digits) {
         return false;
     }
-    match number(digits, 2) {
+    match number(digits, size) {
         Some(_) => false,
         None => true,
     }
@@ -101,7 +103,7 @@ fn slash_form(text: &[u8]) -> bool
 {
     match cut_slash(text) {
         (number, None) => point_form(number),
-        (over, Some(under)) => is_plain(over) && is_denominator(under),
+        (over, Some(under)) => is_least(over, 1) && is_least(under, 2),
     }
 }
 

@@ -1,34 +1,12 @@
 //! The lines of labels.
 
-ghost use Rattle.std.specs.Prelude.{◌≡◌, IfOk, not};
-ghost use Rattle.std.specs.List.{list_all};
-ghost use Rattle.record_reader.specs.Labels.{is_break, is_name, label_named, label_of};
+ghost use Rattle.std.specs.Prelude.{◌≡◌, IfOk};
+ghost use Rattle.record_reader.specs.Labels.{label_named, label_of};
 
 use crate::text_lines::{behind, front};
-use lp_model::Name;
+use lp_model::{Name, is_name};
 use std::alloc::{AllocError, Global};
 use undo_records::Label;
-
-/// Whether a byte is a space, a tab or a line feed.
-fn is_break(byte: u8) -> bool
-    ensures { result ≡ is_break byte }
-{
-    byte == b' ' || byte == b'\t' || byte == b'\n'
-}
-
-/// Whether bytes have no break.
-fn is_unbroken(bytes: &[u8]) -> bool
-    ensures { result ≡ list_all (λ b. not (is_break b)) bytes.now }
-{
-    bytes.iter().all(|b| !is_break(*b))
-}
-
-/// Whether bytes are a name: some, and none of them a break.
-fn is_name(bytes: &[u8]) -> bool
-    ensures { result ≡ is_name bytes.now }
-{
-    !bytes.is_empty() && is_unbroken(bytes)
-}
 
 /// A label with a name, if it is one.
 fn label_named(alloc: Global, live: bool, name: &[u8]) -> Result<Option<Label>, AllocError>

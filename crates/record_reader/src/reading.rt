@@ -1,8 +1,8 @@
 //! The reading of a record text.
 
 ghost use Rattle.std.specs.Prelude.{◌≡◌, ◌<◌, ◌^◌, ℕ, List, None, length, All};
+ghost use Rattle.undo_records.specs.Named.{AreNamed};
 ghost use Rattle.undo_records.specs.Walk.{AreSound};
-ghost use Rattle.record_reader.specs.Labels.{AreNamed};
 ghost use Rattle.record_reader.specs.Reading.{first_fault, records_of, IsRead};
 ghost use Rattle.record_reader.specs.Results.{seen, TakesAll, IsDraft};
 
@@ -66,7 +66,8 @@ fn read_draft(alloc: Global, text: &[u8]) -> Result<Draft, RecordError>
 
 /// The records of a draft.
 fn records_in(draft: Draft) -> Records
-    requires { AreSound (seen draft).given }
+    requires sound { AreSound (seen draft).given }
+    requires named { AreNamed (seen draft).given }
     ensures { result ≡ (seen draft).given }
 {
     Records::new(

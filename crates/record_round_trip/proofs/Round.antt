@@ -3,18 +3,19 @@ use Rattle.std.proofs.Common.{◌≡◌, ℕ, ◌^◌, ◌<◌, List, [], ◌∷
 use Rattle.std.specs.Prelude.{All, codes}
 use Rattle.std.specs.Fmt.{decimal}
 use Rattle.std.specs.List.{AllByRecursion, list_all}
-use Rattle.std.proofs.lemmas.Bool.{and_parts}
+use Rattle.std.proofs.lemmas.Bool.{and_from, and_parts}
 use Rattle.std.proofs.lemmas.List.{map-append}
 use Rattle.std.proofs.lemmas.List.Elements.{All-head, All-tail}
 use Rattle.lp_model.specs.declared.program.Sense.{Sense}
 use Rattle.lp_model.specs.declared.program.Sense.TheVariants.{Min, Max}
+use Rattle.lp_model.specs.Name.{is_name, IsName}
+use Rattle.undo_records.specs.Named.{AreNamed}
 use Rattle.undo_records.specs.Postsolve.{Postsolve}
 use Rattle.undo_records.specs.Sound.{IsSound}
 use Rattle.undo_records.specs.Walk.{AreSound, all_live, flags_of}
 use Rattle.undo_records.specs.declared.label.Label.{Label}
 use Rattle.undo_records.specs.declared.undo.Undo.{Undo}
 use Rattle.record_file.specs.RecordText.{Line, line, header_lines, label_line, label_lines, offset_line, undo_line, undo_lines, end_line, record_lines, record_text}
-use Rattle.record_reader.specs.Labels.{AreNamed, is_name}
 use Rattle.record_reader.specs.Lines.{lines_of}
 use Rattle.record_reader.specs.Progress.{Progress, start, nothing, columns_left, rows_left, undos_left}
 use Rattle.record_reader.specs.Reading.{first_fault, fault_from, records_of, progress_from}
@@ -35,6 +36,12 @@ header_whole : (s : Sense) → AllByRecursion IsWhole (header_lines s)
 header_whole Min = ((refl, (refl, tt)), ((refl, (refl, tt)), ((refl, (refl, tt)), tt)))
 header_whole Max = ((refl, (refl, tt)), ((refl, (refl, tt)), ((refl, (refl, tt)), tt)))
 
+all_named : (ls : List Label) → All IsName (map (λ (l : Label). l.name) ls) → Named ls
+all_named [] h = refl
+all_named (l ∷ ls) h =
+    and_from (is_name l.name) (list_all (λ (l : Label). is_name l.name) ls) (All-head IsName l.name (map (λ (l : Label). l.name) ls) h)
+    (all_named ls (All-tail IsName l.name (map (λ (l : Label). l.name) ls) h))
+
 labels_whole : (ls : List Label) → Named ls → AllByRecursion IsWhole (map label_line ls)
 labels_whole [] h = tt
 labels_whole (l ∷ ls) h =
@@ -53,8 +60,8 @@ lines_whole : (p : Postsolve) → AreSound p → AreNamed p → HasRange p → A
 lines_whole p s n r =
     let offset : IsWhole (offset_line p.offset) = (refl, (written_whole p.offset r.offset, tt)) in
     let end : AllByRecursion IsWhole (end_line ∷ []) = ((refl, tt), tt) in
-    let columns : AllByRecursion IsWhole (label_lines (codes "columns") p.columns) = (count_whole (codes "columns") (length p.columns) refl r.columns, labels_whole p.columns n.0) in
-    let rows : AllByRecursion IsWhole (label_lines (codes "rows") p.rows) = (count_whole (codes "rows") (length p.rows) refl r.rows, labels_whole p.rows n.1) in
+    let columns : AllByRecursion IsWhole (label_lines (codes "columns") p.columns) = (count_whole (codes "columns") (length p.columns) refl r.columns, labels_whole p.columns (all_named p.columns n.columns)) in
+    let rows : AllByRecursion IsWhole (label_lines (codes "rows") p.rows) = (count_whole (codes "rows") (length p.rows) refl r.rows, labels_whole p.rows (all_named p.rows n.rows)) in
     let undos : AllByRecursion IsWhole (undo_lines p.undos) = (count_whole (codes "records") (length p.undos) refl r.records, undos_whole (length p.rows) (length p.columns) p.undos s.records r.undos) in
     let behind : AllByRecursion IsWhole (offset_line p.offset ∷ (undo_lines p.undos ++ end_line ∷ [])) = (offset, all_on (undo_lines p.undos) (end_line ∷ []) undos end) in
     all_on (header_lines p.sense) (label_lines (codes "columns") p.columns ++ (label_lines (codes "rows") p.rows ++ offset_line p.offset ∷ (undo_lines p.undos ++ end_line ∷ []))) (header_whole p.sense)
@@ -84,10 +91,10 @@ all_pass p s n r =
     let behind_columns : List Line = label_lines (codes "rows") p.rows ++ behind_rows in
     let columns : Passes (state ColumnCount g1 f) (map bytes_of (label_lines (codes "columns") p.columns)) (state RowCount g2 f) =
     passes_on (state ColumnCount g1 f) (state (columns_left (length p.columns)) g1 f) (state RowCount g2 f) (bytes_of (line (codes "columns") (decimal (length p.columns) ∷ [])) ∷ []) (map bytes_of (map label_line p.columns))
-    (columns_counted (length p.columns) g1 f r.columns) (columns_pass g1 f p.columns n.0) in
+    (columns_counted (length p.columns) g1 f r.columns) (columns_pass g1 f p.columns (all_named p.columns n.columns)) in
     let rows : Passes (state RowCount g2 f) (map bytes_of (label_lines (codes "rows") p.rows)) (state Offset g3 f) =
     passes_on (state RowCount g2 f) (state (rows_left (length p.rows)) g2 f) (state Offset g3 f) (bytes_of (line (codes "rows") (decimal (length p.rows) ∷ [])) ∷ []) (map bytes_of (map label_line p.rows))
-    (rows_counted (length p.rows) g2 f r.rows) (rows_pass g2 f p.rows n.1) in
+    (rows_counted (length p.rows) g2 f r.rows) (rows_pass g2 f p.rows (all_named p.rows n.rows)) in
     let undos : Passes (state RecordCount g4 f) (map bytes_of (undo_lines p.undos)) (state End p (flags_of p)) =
     passes_on (state RecordCount g4 f) (state (undos_left (length p.undos)) g4 f1) (state End p (flags_of p)) (bytes_of (line (codes "records") (decimal (length p.undos) ∷ [])) ∷ []) (map bytes_of (map undo_line p.undos))
     (records_counted (length p.undos) g4 f r.records) (undos_pass (length p.rows) (length p.columns) g4 f1 (flags_of p) p.undos s.records r.undos s.walk) in

@@ -29,7 +29,8 @@ use Rattle.record_words.specs.declared.faults.LineFault.{LineFault}
 use Rattle.record_words.specs.declared.faults.LineFault.TheVariants as line_faults
 use Rattle.record_reader.specs.Faults.{line_fault, unless, offset_fault, kind_in, same_flag, same_flags}
 use Rattle.record_reader.specs.Headings.{counted, count_of, offset_by, offset_of}
-use Rattle.record_reader.specs.Labels.{is_break, is_name, label_named, label_of, with_label}
+use Rattle.lp_model.specs.Name.{is_break, is_name}
+use Rattle.record_reader.specs.Labels.{label_named, label_of, with_label}
 use Rattle.record_reader.specs.Progress.{start, nothing, moved, columns_left, rows_left, undos_left, number_or_zero}
 use Rattle.record_reader.specs.declared.faults.RecordFaultKind.TheVariants.{BadLine, BadId}
 use Rattle.record_reader.specs.declared.stages.Stage.TheVariants.{ColumnCount, Columns, RowCount, Rows, Offset, RecordCount, Undos, End, Over}

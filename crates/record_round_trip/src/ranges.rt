@@ -1,8 +1,10 @@
-//! The range of records: what each value of their type keeps. The functions here go over a value, and change nothing.
+//! The range of records: what each value of their type keeps, and so what is asked for their text to be read again. The functions here go over a value, and change nothing.
 
-ghost use Rattle.std.specs.Prelude.{◌<◌, ◌^◌, All};
+ghost use Rattle.std.specs.Prelude.{◌≡◌, ◌<◌, ◌^◌, All, None};
 ghost use Rattle.rational.specs.Lowest.{Fits};
 ghost use Rattle.record_file.specs.Fields.{IsOfBound, IsOfPair, IsOfRow, IsOfSingleton};
+ghost use Rattle.record_file.specs.RecordText.{record_text};
+ghost use Rattle.record_reader.specs.Reading.{first_fault, records_of};
 ghost use Rattle.record_round_trip.specs.Ranges.{EndFits, EndsFit, HasRange, IsId, ListFits, UndoFits};
 
 use fractions::ext::Ext;
@@ -276,4 +278,14 @@ pub fn records_have_range(records: &Records)
     let _undos = records.undos().len();
     number_fits(&records.offset());
     undos_fit(records.undos());
+}
+
+/// What is written of a value of the type has no fault, and gives the same records back: the type keeps all that is asked for.
+pub fn records_come_back(records: &Records)
+    ensures sound { first_fault (record_text records.now) ≡ None }
+    ensures same { records_of (record_text records.now) ≡ records.now }
+{
+    records.is_sound();
+    records.is_named();
+    records_have_range(records);
 }

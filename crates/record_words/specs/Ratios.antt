@@ -24,7 +24,7 @@ abbrev pub whole_by : Bool → Result ℕ ReadNumber → Result Number ReadNumbe
 whole_by negative (Ok n) = Ok (ratio (signed negative n) 1)
 whole_by negative (Err why) = Err why
 
--- lowest terms are asked of numbers in range
+-- lowest terms are asked where both numbers are in range; else one past it makes the quotient past, if the other has its form
 abbrev pub quotient_by : Bool → Result ℕ ReadNumber → Result ℕ ReadNumber → Result Number ReadNumber
 quotient_by negative (Ok n) (Ok d) = if gcd n d == 1 then Ok (ratio (signed negative n) d) else Err NotNumber
 quotient_by negative (Ok n) (Err why) = Err why

@@ -11,14 +11,15 @@ use Rattle.presolve_model.specs.declared.outcome.Outcome.{Outcome}
 use Rattle.presolve_model.specs.declared.outcome.Outcome.TheVariants.{Closed, Full, Stale, Past, NotDecimal, Applied, NoMemory}
 use Rattle.problem_model.specs.Sparse.{Sparse}
 use Rattle.presolve_model.specs.Given.{Proposed}
-use Rattle.presolve_model.specs.Enabled.{Agrees, read_of, reading_of, reads}
+use Rattle.presolve_model.specs.Enabled.{reading_of, reads}
+use Rattle.problem_model.specs.Reading.{Agrees, read_of}
 use Rattle.presolve_model.specs.Ledger.{Ledger}
 use Rattle.presolve_model.specs.Commits.{Allows, left_by, with_instance, IsOpen, HasRoom, IsFull}
 use Rattle.round_laws.specs.Committing.{Refused, IsSameBook, Went}
 
 -- a reading of a problem agrees with it
 pub reading_agrees : (p : Sparse) (e : Instance) → Agrees p (reading_of p e)
-reading_agrees p e = map-map (λ r. read_of p r.part) (read_of p) (reads e)
+reading_agrees p e = map-map (λ r. read_of p r.part) (read_of p) (reads p e)
 
 differs : (p : Sparse) (rs : List Read) (k : ℕ) → k < length rs → ((r : Read) → slice_get rs k ≡ Some r → read_of p r.part ≢ r) → Agrees p rs → ⊥
 differs p [] k l h a = absurd (omega (arith, l))

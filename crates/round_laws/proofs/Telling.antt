@@ -4,12 +4,11 @@ use Rattle.std.specs.Prelude.{not, if◌then◌else◌}
 use Rattle.rational.specs.Number.{Number}
 use Rattle.rational.specs.Compare.{le_ℚ}
 use Rattle.fractions.specs.declared.Numbers.{Numbers}
+use Rattle.lp_model.specs.declared.program.Sense.TheVariants.{Min}
 use Rattle.lp_model.specs.ProgramData.{ProgramData}
 use Rattle.lp_model.specs.Meaning.{meaning}
-use Rattle.lp_model.specs.Verdicts.{NoPoint}
 use Rattle.lp_model.specs.Writable.{EntriesAscend, Writable}
 use Rattle.lp_theory.specs.Turning.{signed}
-use Rattle.lp_theory.proofs.Turns.{no_point_in}
 use Rattle.undo_records.specs.Postsolve.{Postsolve}
 use Rattle.undo_records.specs.Walk.{AreSound}
 use Rattle.problem_model.specs.declared.part.Contents.TheVariants as holds
@@ -17,8 +16,11 @@ use Rattle.presolve_model.specs.declared.instance.Instance.TheVariants as at
 use Rattle.presolve_model.specs.declared.instance.Verdict.{Verdict}
 use Rattle.presolve_model.specs.declared.instance.Verdict.TheVariants as verdict
 use Rattle.presolve_model.specs.Accounts.{Walked}
-use Rattle.presolve_model.specs.Conditions.{are_crossed}
+use Rattle.singleton_laws.specs.CrossedSides.{are_crossed}
+use Rattle.presolve_model.specs.Conclusions.{Decided}
 use Rattle.presolve_model.specs.Enabled.{enabled_on}
+use Rattle.presolve_model.specs.Meanings.{Meant}
+use Rattle.presolve_model.proofs.ByCases.{meant_in}
 use Rattle.problem_model.specs.EndTests.{is_in_order}
 use Rattle.presolve_model.specs.Ledger.{Ledger, Stands}
 use Rattle.problem_model.specs.Problems.{IsSparse, row_at, sides_at}
@@ -86,11 +88,19 @@ pub program_ascends : (program : ProgramData) (b : Ledger) → IsProblemOf progr
 program_ascends program b o s = written_ascends program b.problem (problem_sparse b s) (problem_is_of program b o s)
 
 -- ---- a verdict
-verdict_says : (program : ProgramData) (b : Ledger) (o : Option Verdict) → IsProblemOf program b.start → Stands b → IfSome o (λ v. enabled_on b.problem (at.Verdict v) ≡ true) → o ≢ None → NoPoint (meaning program)
-verdict_says program b None o s e h = absurd (h refl)
-verdict_says program b (Some v) o s e h =
-    no_point_in program.sense (meaning program) (subst NoPoint (problem_shows_program program b.start o)
+verdict_says : (program : ProgramData) (b : Ledger) (v : Verdict) → IsProblemOf program b.start → Stands b → enabled_on b.problem (at.Verdict v) ≡ true → Meant v program.sense (meaning program)
+verdict_says program b v o s e =
+    meant_in v program.sense (meaning program) (subst (Meant v Min) (problem_shows_program program b.start o)
     (verdict_means b.numbers b.start b.history v s.sound s.replays (subst (λ (q : Sparse). enabled_on q (at.Verdict v) ≡ true) s.problem e)))
 
-pub decided_infeasible : (program : ProgramData) (b : Ledger) → IsProblemOf program b.start → Stands b → b.verdict ≢ None → NoPoint (meaning program)
-decided_infeasible program b o s = verdict_says program b b.verdict o s s.verdict
+pub decided : (program : ProgramData) (b : Ledger) (v : Verdict) → IsProblemOf program b.start → Stands b → b.verdict ≡ Some v → Decided (record { numbers = b.numbers; limit = b.limit }) program b.history v
+decided program b v o s h =
+    let e : enabled_on b.problem (at.Verdict v) ≡ true = subst (λ (x : Option Verdict). IfSome x (λ w. enabled_on b.problem (at.Verdict w) ≡ true)) h s.verdict in
+    record {
+      start = b.start;
+      opened = o;
+      replays = s.replays;
+      within = s.within;
+      enabled = subst (λ (q : Sparse). enabled_on q (at.Verdict v) ≡ true) s.problem e;
+      means = verdict_says program b v o s e;
+    }

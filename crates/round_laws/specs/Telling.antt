@@ -1,17 +1,13 @@
 -- What is told of a book.
-use Rattle.std.specs.Prelude.{◌≡◌, ℕ, Bool, List, map}
+use Rattle.std.specs.Prelude.{◌≡◌, Bool, List, map}
 use Rattle.lp_model.specs.ProgramData.{ProgramData}
 use Rattle.lp_model.specs.Names.{names_of_rows, names_of_columns}
 use Rattle.lp_theory.specs.Turning.{signed}
-use Rattle.undo_records.specs.declared.label.Label.{Label}
 use Rattle.undo_records.specs.Postsolve.{Postsolve}
 use Rattle.undo_records.specs.Walk.{lives}
 use Rattle.problem_model.specs.declared.line.Line.{Line}
+use Rattle.presolve_model.specs.Conclusions.{names_in}
 use Rattle.presolve_model.specs.Ledger.{Ledger}
-
--- the names that labels tell
-abbrev pub names_in : List Label → List (List ℕ)
-names_in labels = map (λ label. label.name) labels
 
 -- whether each line is there
 abbrev pub are_live : List Line → List Bool

@@ -1,8 +1,7 @@
-pub mod EndTestsSay
-pub mod ConditionsSay
-pub mod Coefficients
-pub mod VerdictsMean
-pub mod ColumnsFixed
-pub mod RecordsSay
-pub mod ProblemsKept
-pub mod ProgramsReduced
+pub mod EmptyRow
+pub mod SingletonRow
+pub mod FixedColumn
+pub mod RoundBounds
+pub mod EmptyColumn
+pub mod CrossedBounds
+pub mod CrossedSides

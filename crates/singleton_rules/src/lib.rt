@@ -1,10 +1,11 @@
-//! The rules of a row or a column by itself: an empty row (K1), a row with one entry (K2), a fixed column (K3), bounds to be rounded
-//! (K4), an empty column (K17).
+//! The rules of one row or one column: whether each is enabled at an id, and its change, as edits and a record. An empty row (K1), a row
+//! with one entry (K2), a fixed column (K3), bounds to be rounded (K4), an empty column (K17), and crossed bounds and sides (V1).
 #![tactic(auto)]
 
-mod applying;
-mod bounds;
-mod fixed_column;
-mod singleton_row;
-
-pub use applying::after;
+pub mod crossed_bounds;
+pub mod crossed_sides;
+pub mod empty_column;
+pub mod empty_row;
+pub mod fixed_column;
+pub mod round_bounds;
+pub mod singleton_row;

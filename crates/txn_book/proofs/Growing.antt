@@ -6,9 +6,9 @@ use Rattle.presolve_model.specs.declared.instance.Reduction.{Reduction}
 use Rattle.presolve_model.specs.Changes.{changed}
 use Rattle.presolve_model.specs.Commits.{with_instance}
 use Rattle.presolve_model.specs.Enabled.{enabled_on}
-use Rattle.presolve_model.specs.Fitting.{ChangeFits, ChangeIsWritten}
+use Rattle.presolve_model.specs.Changes.{ChangeFits, ChangeIsWritten}
 use Rattle.presolve_model.specs.Ledger.{Ledger, Stands}
-use Rattle.presolve_model.specs.Recorded.{record_of}
+use Rattle.presolve_model.specs.Tables.{record_of}
 use Rattle.problem_model.specs.Sparse.{Sparse}
 use Rattle.history_laws.proofs.Books.{stands_reduction}
 

@@ -6,7 +6,7 @@ use Rattle.presolve_model.specs.declared.outcome.Outcome.{Outcome}
 use Rattle.presolve_model.specs.declared.outcome.Outcome.TheVariants as outcome
 use Rattle.problem_model.specs.declared.refusal.Refusal.{Refusal}
 use Rattle.problem_model.specs.declared.refusal.Refusal.TheVariants.{Past, NotDecimal, NoMemory}
-use Rattle.presolve_model.specs.Fitting.{ChangeFits, ChangeIsWritten}
+use Rattle.presolve_model.specs.Changes.{ChangeFits, ChangeIsWritten}
 use Rattle.presolve_model.specs.Ledger.{Ledger}
 use Rattle.presolve_model.specs.Commits.{next_place, with_instance}
 

@@ -5,12 +5,12 @@ ghost use Rattle.std.specs.Bool.{MatchBool};
 ghost use Rattle.rational.specs.Number.{◌-ℚ◌};
 ghost use Rattle.lp_model.specs.declared.program.Sense.TheVariants.{Min};
 ghost use Rattle.lp_model.specs.Reductions.{Reduces};
-ghost use Rattle.lp_model.specs.Verdicts.{NoPoint};
 ghost use Rattle.undo_records.specs.Lift.{lift};
 ghost use Rattle.presolve_model.specs.declared.instance.Instance.TheVariants as at;
 ghost use Rattle.presolve_model.specs.Commits.{Allows, HasRoom, IsFull, left_by, next_place, with_instance};
 ghost use Rattle.presolve_model.specs.Enabled.{enabled_on};
-ghost use Rattle.presolve_model.specs.Ledger.{Stands};
+ghost use Rattle.presolve_model.specs.Ledger.{instance_count, Stands};
+ghost use Rattle.presolve_model.specs.Meanings.{Meant};
 ghost use Rattle.problem_model.specs.Showing.{shown};
 ghost use Rattle.presolve_model.specs.Worlds.{version_of};
 ghost use Rattle.problem_model.specs.Writing.{IsWritable};
@@ -18,9 +18,8 @@ ghost use Rattle.txn_book.specs.Applying.{Applies, outcome_of};
 
 use crate::version::Version;
 use fractions::Numbers;
-use instances::Proposal;
+use instances::{Proposal, after};
 use presolve_model::{Instance, Outcome, Reduction, Refusal, Verdict};
-use singleton_rules::after;
 use sparse_problem::Problem;
 use std::alloc::{AllocError, Global};
 use std::marker::Model;
@@ -128,21 +127,31 @@ impl Book {
     }
 
     /// What a book keeps, and what it means: the linear program that was shown at first is reduced to the one that is shown now, undone by
-    /// the records; and a verdict says that no point was feasible at first. Says so, and does nothing.
+    /// the records; and a verdict means at first what it says. Says so, and does nothing.
     pub fn stands(&self)
         ensures stands { Stands self.now }
         ensures reduces { Reduces Min (shown self.now.start) (shown self.now.problem) (lift self.now.records) (self.now.problem.offset -ℚ self.now.start.offset) }
-        ensures verdict { IfSome self.now.verdict (λ _. NoPoint (shown self.now.start)) }
+        ensures verdict { IfSome self.now.verdict (λ v. Meant v Min (shown self.now.start)) }
     {
         let _ = &self.limit;
     }
 
-    /// A copy of the present problem, with how many reductions were applied.
+    /// How many instances were applied: the reductions, and the verdict that closed the book.
+    pub fn instance_count(&self) -> u64
+        ensures { result ≡ instance_count self.now }
+    {
+        match self.verdict {
+            None => self.applied(),
+            Some(_) => self.applied() + 1,
+        }
+    }
+
+    /// A copy of the present problem, with how many instances were applied.
     pub fn freeze(&self, alloc: Global) -> Result<Version, AllocError>
         ensures { IfOk result (λ v. v ≡ version_of self.now) }
     {
         let problem = self.problem.copy(alloc)?;
-        Ok(Version::new(problem, self.applied()))
+        Ok(Version::new(problem, self.instance_count()))
     }
 
     /// Whether so many reductions were applied as are allowed. A verdict always has room.
@@ -184,11 +193,12 @@ impl Book {
     }
 
     /// Commits a proposal: applies its instance if no verdict stands, there is room, and each part stands as it was read. Anything else
-    /// leaves the book as it is.
-    pub fn commit(&mut self, alloc: Global, proposal: &Proposal) -> Outcome
+    /// leaves the book as it is. Whoever commits is named, and makes no difference.
+    pub fn commit(&mut self, alloc: Global, by: u32, proposal: &Proposal) -> Outcome
         ensures outcome { Allows self.old proposal.now result }
         ensures left { self.new ≡ left_by self.old proposal.now result }
     {
+        let _ = by;
         if let Some(verdict) = self.verdict {
             return Outcome::Closed { verdict };
         }

@@ -5,7 +5,7 @@ ghost use Rattle.std.specs.Prelude.{◌≡◌};
 use sparse_problem::Problem;
 use std::marker::Model;
 
-/// A problem as it stood when so many reductions had been applied.
+/// A problem as it stood when so many instances had been applied, a verdict among them.
 #[derive(Drop)]
 pub struct Version {
     problem: Problem,
@@ -25,7 +25,7 @@ impl Model for Version {
 }
 
 impl Version {
-    /// A problem, and how many reductions had been applied.
+    /// A problem, and how many instances had been applied.
     pub fn new(problem: Problem, applied: u64) -> Version
         ensures { result ≡ record { problem = problem; applied = applied } }
     {
@@ -39,7 +39,7 @@ impl Version {
         &self.problem
     }
 
-    /// How many reductions had been applied.
+    /// How many instances had been applied.
     pub fn applied(&self) -> u64
         ensures { result ≡ self.now.applied }
     {

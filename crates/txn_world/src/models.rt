@@ -12,7 +12,7 @@ use fractions::Numbers;
 use fractions::ext::Ext;
 use fractions::frac::Frac;
 use fractions::whole::Whole;
-use lp_model::{ColumnDef, Name, Program, RowDef, Sense, Term, Terms, names_differ};
+use lp_model::{ColumnDef, Name, Program, RowDef, Sense, Term, Terms, is_name, names_differ};
 use number_texts::is_decimal;
 use program_laws::laws::written_programs_can_be_written;
 use sparse_problem::Problem;
@@ -94,6 +94,12 @@ fn bound(rt: &impl Abort, numbers: Numbers, quotient: Quotient) -> Ext
     Ext::at(value)
 }
 
+/// A name of these bytes.
+fn name_of(rt: &impl Abort, alloc: Global, bytes: &[u8]) -> Result<Name, AllocError> {
+    assert!(rt; is_name(bytes));
+    Name::from_slice(alloc, bytes)
+}
+
 /// The row.
 fn row(
     rt: &impl Abort,
@@ -106,7 +112,7 @@ fn row(
     let side = number(rt, model.side);
     writable(rt, numbers, &side);
     Ok(RowDef {
-        name: Name::from_slice(alloc, b"C1")?,
+        name: name_of(rt, alloc, b"C1")?,
         lower: Ext::none(),
         upper: Ext::at(side),
     })
@@ -147,7 +153,7 @@ fn column(
     let lower = bound(rt, numbers, model.lower);
     let upper = bound(rt, numbers, model.upper);
     Ok(ColumnDef {
-        name: Name::from_slice(alloc, name)?,
+        name: name_of(rt, alloc, name)?,
         cost,
         lower,
         upper,
@@ -194,7 +200,7 @@ fn program(
     let row = row(rt, alloc, numbers, model)?;
     let rows = Vec::from_array(alloc, [row])?;
     let columns = columns(rt, alloc, numbers, model)?;
-    let objective = Name::from_slice(alloc, b"COST")?;
+    let objective = name_of(rt, alloc, b"COST")?;
     assert!(rt; names_differ(&objective, rows.as_slice(), columns.as_slice()));
     Ok(Program::new(Sense::Min, objective, constant, rows, columns))
 }

@@ -44,7 +44,7 @@ fn commit_first(book: &mut Book, alloc: Global, worker: &Worker) -> Option<Outco
 {
     match worker.first() {
         None => None,
-        Some(proposal) => Some(book.commit(alloc, proposal)),
+        Some(proposal) => Some(book.commit(alloc, worker.number(), proposal)),
     }
 }
 

@@ -16,7 +16,7 @@ mod whole_run;
 
 pub use apart::{EndApart, NumberApart, TermsApart};
 pub use kept::{KeptEnd, KeptNumber};
-pub use label::Label;
+pub use label::{Label, labels_are_named};
 pub use records::Records;
 pub use side::{RowFate, Side};
 pub use sound::is_sound;

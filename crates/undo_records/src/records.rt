@@ -2,9 +2,10 @@
 
 ghost use Rattle.std.specs.Prelude.{◌≡◌, ◌↔◌, All, IfOk, IfSome, IsSome, length, map};
 ghost use Rattle.undo_records.specs.Sound.{CanUndo};
+ghost use Rattle.undo_records.specs.Named.{AreNamed, AreRecords};
 ghost use Rattle.undo_records.specs.Walk.{AreSound};
 
-use crate::label::Label;
+use crate::label::{Label, labels_are_named};
 use crate::undo::Undo;
 use crate::whole_run::are_sound;
 use fractions::frac::Frac;
@@ -13,7 +14,8 @@ use std::alloc::{AllocError, Global};
 use std::marker::Model;
 
 /// All that presolve wrote down: the original program's names, the offset, and the record of each reduction, first applied first.
-/// Each record is sound, names only what is live as it is applied, and all of them leave live what the labels say.
+/// Each record is sound, names only what is live as it is applied, and all of them leave live what the labels say. All names are some bytes
+/// without a space, a tab or a line feed.
 #[derive(Drop)]
 pub struct Records {
     sense: Sense,
@@ -32,11 +34,11 @@ impl Model for Records {
 
     ghost coded = { Prim.hlevel (codes, number_code) };
 
-    ghost use Rattle.undo_records.specs.Walk.{AreSound};
+    ghost use Rattle.undo_records.specs.Named.{AreRecords};
 
     ghost view = { λ r. record { sense = r.sense; columns = r.columns.items; rows = r.rows.items; offset = r.offset; undos = r.undos.items } };
 
-    ghost invariant = { λ r. AreSound (record { sense = r.sense; columns = r.columns.items; rows = r.rows.items; offset = r.offset; undos = r.undos.items }) };
+    ghost invariant = { λ r. AreRecords (record { sense = r.sense; columns = r.columns.items; rows = r.rows.items; offset = r.offset; undos = r.undos.items }) };
 }
 
 impl Records {
@@ -48,7 +50,8 @@ impl Records {
         offset: Frac,
         undos: Vec<Undo>,
     ) -> Records
-        requires { AreSound (record { sense = sense; columns = columns.items; rows = rows.items; offset = offset; undos = undos.items }) }
+        requires sound { AreSound (record { sense = sense; columns = columns.items; rows = rows.items; offset = offset; undos = undos.items }) }
+        requires named { AreNamed (record { sense = sense; columns = columns.items; rows = rows.items; offset = offset; undos = undos.items }) }
         ensures { result ≡ record { sense = sense; columns = columns.items; rows = rows.items; offset = offset; undos = undos.items } }
     {
         Records {
@@ -75,6 +78,8 @@ impl Records {
         if !are_sound(alloc, columns.as_slice(), rows.as_slice(), undos.as_slice())? {
             return Ok(None);
         }
+        labels_are_named(columns.as_slice());
+        labels_are_named(rows.as_slice());
         Ok(Some(Records::new(sense, columns, rows, offset, undos)))
     }
 
@@ -116,6 +121,13 @@ impl Records {
     /// Each record is sound by itself, and they lead from all live to what the labels say is live. Says so, and does nothing.
     pub fn is_sound(&self)
         ensures { AreSound self.now }
+    {
+        let _undos = self.undos.as_slice();
+    }
+
+    /// The original rows and columns have names. Says so, and does nothing.
+    pub fn is_named(&self)
+        ensures { AreNamed self.now }
     {
         let _undos = self.undos.as_slice();
     }

@@ -2,25 +2,26 @@
 
 use crate::{KeptNumber, Label, Records, TermsApart, Undo};
 use fractions::frac::Frac;
-use lp_model::{Labels, Name, Sense, Term, Terms};
+use lp_model::{Labels, Name, Sense, Term, Terms, is_name};
+use std::alloc::{AllocError, Global};
 use std::mem::size_of;
+use std::process::Abort;
 use std::test::Fail;
+
+/// A column or row of this name.
+fn label(rt: &impl Abort, alloc: Global, name: &[u8], live: bool) -> Result<Label, AllocError> {
+    assert!(rt; is_name(name));
+    Ok(Label {
+        name: Name::from_slice(alloc, name)?,
+        live,
+    })
+}
 
 #[test]
 fn keeps_names_and_records(rt: HostRuntime) -> Result<(), Fail> {
     let alloc = rt.alloc();
-    let columns = vec![in alloc;
-        Label {
-            name: Name::from_slice(alloc, b"x")?,
-            live: false
-        },
-    ]?;
-    let rows = vec![in alloc;
-        Label {
-            name: Name::from_slice(alloc, b"C1")?,
-            live: true
-        },
-    ]?;
+    let columns = vec![in alloc; label(&rt, alloc, b"x", false)?]?;
+    let rows = vec![in alloc; label(&rt, alloc, b"C1", true)?]?;
     let one = Term {
         id: 0,
         value: Frac::one(),

@@ -11,7 +11,7 @@ use Rattle.lp_theory.proofs.Steps.{no_worse_more, no_worse_trans}
 use Rattle.undo_records.specs.Lift.{lift}
 use Rattle.undo_records.specs.Postsolve.{Postsolve}
 use Rattle.presolve_model.specs.Accounts.{postsolved}
-use Rattle.presolve_rounds.specs.Conclusions.{CarriesNames}
+use Rattle.presolve_model.specs.Conclusions.{CarriesNames}
 use Rattle.way_back.specs.ComingBack.{IsUndone, StandsFor}
 use Rattle.way_back.specs.Laws.{BestComesBack, NoneIsLost, PointsComeBack}
 use Rattle.way_back.proofs.Placing.{placed_spread}

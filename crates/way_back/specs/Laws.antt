@@ -10,9 +10,9 @@ use Rattle.undo_records.specs.declared.label.Label.{Label}
 use Rattle.undo_records.specs.Lift.{placed}
 use Rattle.undo_records.specs.Postsolve.{Postsolve}
 use Rattle.presolve_model.specs.Accounts.{live_labels_from}
-use Rattle.presolve_rounds.specs.Conclusions.{Concluded}
-use Rattle.presolve_rounds.specs.declared.outcome.End.{End}
-use Rattle.presolve_rounds.specs.declared.outcome.Options.{Options}
+use Rattle.presolve_model.specs.Conclusions.{Concluded}
+use Rattle.presolve_model.specs.declared.conclusion.End.{End}
+use Rattle.presolve_model.specs.declared.conclusion.Options.{Options}
 use Rattle.way_back.specs.ComingBack.{ComesBack, IsBest, IsUndone, StandsFor}
 
 -- numbers placed at the labels are the numbers at the ids of the live labels, in their order, and 0 at the others

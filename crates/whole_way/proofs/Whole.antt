@@ -2,26 +2,25 @@
 use Rattle.std.proofs.Common.{◌≡◌, ℕ, List, length, None, sym, ap, ◌∙◌, subst}
 use Rattle.std.specs.List.{All}
 use Rattle.std.proofs.lemmas.List.{length-map}
-use Rattle.std.proofs.lemmas.List.Elements.{All-map}
 use Rattle.rational.specs.Number.{Number}
 use Rattle.rational.specs.Lowest.{Fits}
 use Rattle.lp_model.specs.declared.program.Sense.{Sense}
 use Rattle.lp_model.specs.declared.program.ColumnDef.{ColumnDef}
 use Rattle.lp_model.specs.Meaning.{meaning}
-use Rattle.lp_model.specs.Names.{Differ, names_of_columns}
+use Rattle.lp_model.specs.Names.{Differ, names_of_columns, WellNamed}
 use Rattle.lp_model.specs.ProgramData.{ProgramData}
 use Rattle.lp_model.specs.Vectors.{vector_of}
 use Rattle.undo_records.specs.Postsolve.{Postsolve}
 use Rattle.mps_writer.specs.MpsText.{mps_text}
-use Rattle.mps_written_lines.specs.Words.{IsWord}
 use Rattle.mps_round_trip.specs.Plain.{Plain}
+use Rattle.mps_round_trip.proofs.Naming.{words_of}
 use Rattle.point_text.specs.PlainNames as solutions
 use Rattle.point_text.specs.Reading as solutions_read
 use Rattle.point_text.specs.SolutionText.{solution_text}
-use Rattle.round_laws.specs.Telling.{names_in}
-use Rattle.presolve_rounds.specs.Conclusions.{Concluded}
-use Rattle.presolve_rounds.specs.declared.outcome.End.{End}
-use Rattle.presolve_rounds.specs.declared.outcome.Options.{Options}
+use Rattle.presolve_model.specs.Conclusions.{names_in}
+use Rattle.presolve_model.specs.Conclusions.{Concluded}
+use Rattle.presolve_model.specs.declared.conclusion.End.{End}
+use Rattle.presolve_model.specs.declared.conclusion.Options.{Options}
 use Rattle.way_back.specs.ComingBack.{IsBest}
 use Rattle.way_back.proofs.Back.{best_back, point_back}
 use Rattle.whole_way.specs.Texts.{IsProgramText, IsRecordText, IsSolutionText, IsUnmarked, PostsolveWrites, PresolveWrites, TextsFit}
@@ -50,16 +49,16 @@ concluded_with options program read told out undoing w p r =
 
 -- what is written by the names of a program's columns is read again
 read_again : NoFaultAgain → PointAgain → (program : ProgramData) (names : List (List ℕ)) (lifted : List Number) (result : List ℕ)
-    → Plain program → All IsUnmarked (names_of_columns program.columns) → names ≡ names_of_columns program.columns
+    → WellNamed program.objective program.rows program.columns → Plain program → All IsUnmarked (names_of_columns program.columns) → names ≡ names_of_columns program.columns
     → length lifted ≡ length program.columns → All Fits lifted → result ≡ solution_text names lifted → IsSolutionText program result lifted
-read_again no_fault_again point_again program names lifted result plain unmarked same size fits text =
+read_again no_fault_again point_again program names lifted result named plain unmarked same size fits text =
     let own : List (List ℕ) = names_of_columns program.columns in
-    let are : All solutions.Plain own = plain_names own (All-map IsWord (λ (c : ColumnDef). c.name) program.columns plain.columns) unmarked in
+    let are : All solutions.Plain own = plain_names own (words_of own named.column_names plain.columns) unmarked in
     let as_many : length lifted ≡ length own = size ∙ sym (length-map program.columns (λ (c : ColumnDef). c.name)) in
     let written : result ≡ solution_text own lifted = text ∙ ap (λ (ns : List (List ℕ)). solution_text ns lifted) same in
     record {
-      sound = ap (solutions_read.first_fault own) written ∙ no_fault_again own lifted are plain.differ.columns as_many fits;
-      same = ap (solutions_read.point_of own) written ∙ point_again own lifted are plain.differ.columns as_many fits;
+      sound = ap (solutions_read.first_fault own) written ∙ no_fault_again own lifted are named.columns as_many fits;
+      same = ap (solutions_read.point_of own) written ∙ point_again own lifted are named.columns as_many fits;
     }
 
 same_sense : (options : Options) (program read : ProgramData) (told : Postsolve) (ended : End) → Concluded options program read told ended → read.sense ≡ program.sense
@@ -71,7 +70,7 @@ module _ (sound_law : NoFaultAgain) (same_law : PointAgain) (options : Options) 
   c = concluded_with options program read told out undoing w p r
 
   result_read : length u.lifted ≡ length program.columns → IsSolutionText program result u.lifted
-  result_read size = read_again sound_law same_law program (names_in told.columns) u.lifted result w.plain w.unmarked c.names.columns size u.fits u.text
+  result_read size = read_again sound_law same_law program (names_in told.columns) u.lifted result c.named.given w.plain w.unmarked c.names.columns size u.fits u.text
 
 pub whole : NoFaultAgain → PointAgain → ComesBackWhole
 whole sound_law same_law options program read told point out undoing solution result w p r s f u =

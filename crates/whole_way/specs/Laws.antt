@@ -10,9 +10,9 @@ use Rattle.mps_writer.specs.MpsText.{mps_text}
 use Rattle.mps_round_trip.specs.Plain.{Plain}
 use Rattle.record_file.specs.RecordText.{record_text}
 use Rattle.record_round_trip.specs.Ranges.{HasRange}
-use Rattle.presolve_rounds.specs.Conclusions.{Concluded}
-use Rattle.presolve_rounds.specs.declared.outcome.End.{End}
-use Rattle.presolve_rounds.specs.declared.outcome.Options.{Options}
+use Rattle.presolve_model.specs.Conclusions.{Concluded}
+use Rattle.presolve_model.specs.declared.conclusion.End.{End}
+use Rattle.presolve_model.specs.declared.conclusion.Options.{Options}
 use Rattle.way_back.specs.ComingBack.{ComesBack, IsBest}
 use Rattle.whole_way.specs.Texts.{IsProgramText, IsRecordText, IsSolutionText, PostsolveWrites, PresolveWrites, TextsFit}
 

@@ -17,10 +17,10 @@ use Rattle.record_file.specs.RecordText as files
 use Rattle.record_reader.specs.Matching.{Matches}
 use Rattle.record_reader.specs.Reading as records
 use Rattle.record_round_trip.specs.Ranges.{HasRange}
-use Rattle.round_laws.specs.Telling.{names_in}
-use Rattle.presolve_rounds.specs.Conclusions.{Concluded}
-use Rattle.presolve_rounds.specs.declared.outcome.End.{End}
-use Rattle.presolve_rounds.specs.declared.outcome.Options.{Options}
+use Rattle.presolve_model.specs.Conclusions.{names_in}
+use Rattle.presolve_model.specs.Conclusions.{Concluded}
+use Rattle.presolve_model.specs.declared.conclusion.End.{End}
+use Rattle.presolve_model.specs.declared.conclusion.Options.{Options}
 use Rattle.way_back.specs.ComingBack.{IsUndone}
 
 -- ---- what texts give

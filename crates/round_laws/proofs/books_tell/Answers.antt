@@ -1,4 +1,4 @@
-use Rattle.round_laws.proofs.Telling.{walked, told_sound, program_ascends, program_written, decided_infeasible}
+use Rattle.round_laws.proofs.Telling.{walked, told_sound, program_ascends, program_written, decided}
 use Rattle.round_laws.proofs.books_tell.Goals as goal
 
 pub returns-clause-walked : goal.returns-clause-walked
@@ -14,4 +14,4 @@ pub returns-clause-writable : goal.returns-clause-writable
 returns-clause-writable c = program_written
 
 pub returns-clause-decided : goal.returns-clause-decided
-returns-clause-decided c = decided_infeasible
+returns-clause-decided c = decided

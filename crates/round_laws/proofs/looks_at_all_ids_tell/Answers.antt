@@ -1,4 +1,4 @@
-use Rattle.round_laws.proofs.Looks.{undecided, stuck, listed_all}
+use Rattle.round_laws.proofs.Looks.{undecided, stuck}
 use Rattle.round_laws.proofs.looks_at_all_ids_tell.Goals as goal
 
 pub returns-clause-undecided : goal.returns-clause-undecided
@@ -6,6 +6,3 @@ returns-clause-undecided c = undecided
 
 pub returns-clause-stuck : goal.returns-clause-stuck
 returns-clause-stuck c = stuck
-
-pub returns-clause-skipped : goal.returns-clause-skipped
-returns-clause-skipped c = listed_all

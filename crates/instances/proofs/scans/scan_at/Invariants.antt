@@ -1,7 +1,10 @@
-use Rattle.std.proofs.Common.{◌≡◌, take}
+use Rattle.std.proofs.Common.{◌≡◌, ◌++◌, length}
 use Rattle.presolve_model.specs.Scans.{found_at}
 use Rattle.instances.proofs.scans.scan_at.Given as goal
 
--- the enabled ones so far
-abbrev pub invariant-loop-id : goal.invariant-loop-id
-invariant-loop-id l = l.found.items ≡ found_at l.problem l.version l.rule (take l.id-index l.ids)
+-- those so far, and those at the ids that are left
+abbrev pub invariant-loop-rest : goal.invariant-loop-rest
+invariant-loop-rest l = l.found.items ++ found_at l.problem l.version l.rule l.rest ≡ found_at l.problem l.version l.rule l.ids
+
+abbrev pub decreases-loop-rest : goal.decreases-loop-rest
+decreases-loop-rest l = length l.rest

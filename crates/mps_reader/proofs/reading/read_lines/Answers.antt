@@ -1,7 +1,6 @@
-use Rattle.std.proofs.Common.{◌∷◌, arith}
+use Rattle.std.proofs.Common.{arith}
 use Rattle.std.proofs.lemmas.Bool.Decides.{nat_tests}
-use Rattle.mps_reader.proofs.Texts.{at_end, without_end, taken_as, one_more, told_as, at_fault}
-use Rattle.mps_profile.specs.Lines.{lines_of}
+use Rattle.mps_reader.proofs.Texts.{at_end, without_end}
 use Rattle.mps_reader.proofs.reading.read_lines.Goals as goal
 
 pub returns-then-is_ended : goal.returns-then-is_ended

@@ -1,5 +1,7 @@
-use Rattle.std.proofs.Common.{rules}
-use Rattle.mps_laws.proofs.Names.{program_names_differ}
+use Rattle.std.proofs.Common.{sym, subst}
+use Rattle.std.specs.List.{All}
+use Rattle.lp_model.specs.Name.{IsName}
+use Rattle.mps_laws.proofs.Names.{cards_give_names, program_well_named}
 use Rattle.mps_reader.proofs.Programs.{cards_in, parts_are, few_rows, program_as, writable_as, few_as, ascends_as}
 use Rattle.mps_reader.proofs.reading.read_mps.Goals as goal
 
@@ -8,12 +10,22 @@ assemble-requires-clause-few c =
     let are = parts_are c.args.dialect c.args.bytes.now c.in_ok-reader.reader c.parts_of-parts.result c.in_ok-reader.ensures c.parts_of-parts.ensures in
     few_rows c.args.dialect c.args.bytes.now c.in_ok-reader.reader c.parts_of-parts.result c.in_ok-reader.ensures are c.requires
 
-pub assemble-requires-clause-differ : goal.assemble-requires-clause-differ
-assemble-requires-clause-differ c = (
+pub assemble-requires-clause-rows : goal.assemble-requires-clause-rows
+assemble-requires-clause-rows c =
+    let are = parts_are c.args.dialect c.args.bytes.now c.in_ok-reader.reader c.parts_of-parts.result c.in_ok-reader.ensures c.parts_of-parts.ensures in
+    subst (All IsName) (sym are.rows) (cards_give_names c.args.dialect c.args.bytes.now).0
+
+pub assemble-requires-clause-columns : goal.assemble-requires-clause-columns
+assemble-requires-clause-columns c =
+    let are = parts_are c.args.dialect c.args.bytes.now c.in_ok-reader.reader c.parts_of-parts.result c.in_ok-reader.ensures c.parts_of-parts.ensures in
+    subst (All IsName) (sym are.columns) (cards_give_names c.args.dialect c.args.bytes.now).1
+
+pub assemble-requires-clause-named : goal.assemble-requires-clause-named
+assemble-requires-clause-named c = (
   c.args.dialect,
   cards_in c.args.dialect c.args.bytes.now,
   parts_are c.args.dialect c.args.bytes.now c.in_ok-reader.reader c.parts_of-parts.result c.in_ok-reader.ensures c.parts_of-parts.ensures,
-  program_names_differ c.args.dialect c.args.bytes.now c.in_ok-reader.ensures.sound,
+  program_well_named c.args.dialect c.args.bytes.now c.in_ok-reader.ensures.sound,
 )
 
 pub returns-clause-read : goal.returns-clause-read

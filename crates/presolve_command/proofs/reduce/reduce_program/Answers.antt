@@ -5,8 +5,8 @@ use Rattle.presolve_command.proofs.PlainKept.{reads_back}
 use Rattle.presolve_command.specs.Texts.{Outcome}
 use Rattle.presolve_command.proofs.reduce.reduce_program.Goals as goal
 
-pub returns-in_ok-texts-in-Ok-Reduced : goal.returns-in_ok-texts-in-Ok-Reduced
-returns-in_ok-texts-in-Ok-Reduced c =
+pub returns-in-Ok-Reduced : goal.returns-in-Ok-Reduced
+returns-in-Ok-Reduced c =
     let made = c.in-Ok-Reduced.made in
     let concluded = concluded_of c.args.options.now c.args.program c.in-Ok-Reduced.field-0 made c.in-Ok-Reduced.field-0-is c.in-Ok-Reduced.ensures in
     let outcome : Outcome = record { source = c.args.program; program = made.program; records = made.records; report = c.report_for-report.result } in
@@ -17,7 +17,7 @@ returns-in_ok-texts-in-Ok-Reduced c =
       record {
         concluded = concluded_with c.args.options.now c.args.program made c.report_for-report.result.end c.report_for-report.ensures.end concluded;
         texts = texts;
-        reads_back = reads_back c.args.options.now.numbers outcome _ concluded.names concluded.writable concluded.ascends texts.program_text;
+        reads_back = reads_back c.args.options.now.numbers outcome _ concluded.names concluded.named concluded.writable concluded.ascends texts.program_text;
       },
     )
 

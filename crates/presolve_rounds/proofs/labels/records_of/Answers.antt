@@ -1,4 +1,7 @@
-use Rattle.std.proofs.Common.{length, sym, ap, ap₂, ◌∙◌}
+use Rattle.std.proofs.Common.{subst, length, sym, ap, ap₂, ◌∙◌}
+use Rattle.std.specs.List.{All}
+use Rattle.std.proofs.lemmas.List.Elements.{All-tail}
+use Rattle.lp_model.specs.Name.{IsName}
 use Rattle.lp_model.specs.Names.{names_of_columns, names_of_rows}
 use Rattle.lp_theory.specs.Turning.{signed}
 use Rattle.undo_records.specs.Postsolve.{Postsolve}
@@ -17,8 +20,8 @@ column_labels-requires c =
     ap length (c.columns-2.ensures ∙ ap (λ (p : Sparse). p.matrix.columns) c.problem-2.ensures)
     ∙ (problem_is_of c.args.program.now c.args.book c.requires c.stands.ensures.stands).columns ∙ sym (ap length c.columns.ensures)
 
-pub new-requires : goal.new-requires
-new-requires c =
+pub new-requires-clause-sound : goal.new-requires-clause-sound
+new-requires-clause-sound c =
     let told : Postsolve = record { sense = c.sense-2.result; columns = c.in_ok-columns.columns.items; rows = c.in_ok-rows.rows.items; offset = c.in_sense-offset.result; undos = c.close-ended.result.records.items } in
     let is : IsToldOf c.args.program.now c.args.book told = record {
       sense = c.sense-2.ensures;
@@ -30,3 +33,10 @@ new-requires c =
       columns = c.in_ok-columns.ensures.live ∙ ap are_live (c.columns-2.ensures ∙ ap (λ (p : Sparse). p.matrix.columns) c.problem-2.ensures);
     } in
     told_sound c.args.program.now c.args.book told c.requires c.stands.ensures.stands is
+
+pub new-requires-clause-named : goal.new-requires-clause-named
+new-requires-clause-named c = record {
+  rows = subst (All IsName) (sym (c.in_ok-rows.ensures.names ∙ ap names_of_rows c.rows.ensures))
+      (All-tail IsName c.args.program.now.objective (names_of_rows c.args.program.now.rows) c.objective-name.ensures.named.row_names);
+  columns = subst (All IsName) (sym (c.in_ok-columns.ensures.names ∙ ap names_of_columns c.columns.ensures)) c.objective-name.ensures.named.column_names;
+}

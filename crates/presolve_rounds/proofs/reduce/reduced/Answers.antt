@@ -1,9 +1,10 @@
-use Rattle.std.proofs.Common.{length, sym, ap, ◌∙◌, subst}
+use Rattle.std.proofs.Common.{◌≡◌, length, sym, ap, ◌∙◌, subst}
+use Rattle.lp_model.specs.Names.{WellNamed}
 use Rattle.lp_model.specs.ProgramData.{ProgramData}
 use Rattle.problem_model.specs.Programs.{written_program}
 use Rattle.problem_model.specs.Sparse.{Sparse}
 use Rattle.round_laws.proofs.Telling.{problem_is_of}
-use Rattle.presolve_rounds.specs.Conclusions.{Concluded}
+use Rattle.presolve_model.specs.Conclusions.{Concluded, HaveNames}
 use Rattle.presolve_rounds.proofs.Concluding.{concluded, options_with}
 use Rattle.presolve_rounds.proofs.reduce.reduced.Goals as goal
 
@@ -17,6 +18,12 @@ to_program-requires-clause-columns c =
 
 pub returns : goal.returns
 returns c =
+    let written : c.in_ok-reduced.reduced ≡ written_program c.args.program.now c.args.book.problem = c.in_ok-reduced.ensures ∙ ap (written_program c.args.program.now) c.problem.ensures in
+    let named : HaveNames c.args.program.now (written_program c.args.program.now c.args.book.problem) c.in_ok-records.records = record {
+      given = c.objective-name.ensures.named;
+      left = subst (λ (p : ProgramData). WellNamed p.objective p.rows p.columns) written c.objective-left.ensures.named;
+      records = c.is_named.ensures;
+    } in
     subst (λ (p : ProgramData). Concluded (options_with c.args.book.numbers c.args.book.limit) c.args.program.now p c.in_ok-records.records c.args.end)
-    (sym (c.in_ok-reduced.ensures ∙ ap (written_program c.args.program.now) c.problem.ensures))
-    (concluded c.args.program.now c.args.book c.in_ok-records.records c.args.end c.requires.ascends c.requires.writable c.requires.start c.stands.ensures.stands c.requires.end c.in_ok-records.ensures)
+    (sym written)
+    (concluded c.args.program.now c.args.book c.in_ok-records.records c.args.end c.requires.ascends c.requires.writable c.requires.start c.stands.ensures.stands c.requires.end c.in_ok-records.ensures named)

@@ -1,5 +1,5 @@
 use Rattle.std.proofs.Common.{sym, ap, ◌∙◌}
-use Rattle.round_laws.specs.Listing.{all_columns, all_rows}
+use Rattle.presolve_rounds.specs.Looking.{all_columns, all_rows}
 use Rattle.presolve_rounds.proofs.Ending.{at_limit}
 use Rattle.presolve_rounds.proofs.rounds.end_at_limit.Goals as goal
 

@@ -1,5 +1,5 @@
 use Rattle.std.proofs.Common.{ap, ◌∙◌}
-use Rattle.round_laws.specs.Listing.{all_columns, all_rows}
+use Rattle.presolve_rounds.specs.Looking.{all_columns, all_rows}
 use Rattle.presolve_rounds.proofs.Ending.{at_fixpoint}
 use Rattle.presolve_rounds.proofs.rounds.look_everywhere.Goals as goal
 

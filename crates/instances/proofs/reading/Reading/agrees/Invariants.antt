@@ -1,5 +1,5 @@
 use Rattle.std.proofs.Common.{take}
-use Rattle.presolve_model.specs.Enabled.{Agrees}
+use Rattle.problem_model.specs.Reading.{Agrees}
 use Rattle.instances.proofs.reading.Reading.agrees.Given as goal
 
 -- the parts before this place stand

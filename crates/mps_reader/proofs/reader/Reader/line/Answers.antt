@@ -1,4 +1,4 @@
-use Rattle.std.proofs.Common.{rules, ◌≡◌, ◌∙◌, sym, ap, List, ℕ, Ok}
+use Rattle.std.proofs.Common.{◌∙◌, sym, ap}
 use Rattle.mps_profile.specs.Texts.{Text}
 use Rattle.mps_profile.specs.Items.{item_of, has_card, progress_of, cards_of}
 use Rattle.mps_profile.specs.Lines.{lines_of}

@@ -2,9 +2,10 @@ use Rattle.std.proofs.Common.{◌≡◌, true, List, refl, subst, sym}
 use Rattle.presolve_model.specs.declared.instance.Instance.{Instance}
 use Rattle.presolve_model.specs.declared.instance.Instance.TheVariants as at
 use Rattle.problem_model.specs.declared.part.Read.{Read}
-use Rattle.presolve_model.specs.Enabled.{Agrees, enabled_on}
+use Rattle.presolve_model.specs.Enabled.{enabled_on}
+use Rattle.problem_model.specs.Reading.{Agrees}
 use Rattle.presolve_model.specs.Ledger.{Ledger}
-use Rattle.singleton_laws.proofs.ConditionsSay.{enabled_by}
+use Rattle.presolve_model.proofs.Tabled.{enabled_by}
 use Rattle.txn_book.proofs.book.Book.commit.Goals as goal
 
 pub apply-requires-clause-enabled : goal.apply-requires-clause-enabled

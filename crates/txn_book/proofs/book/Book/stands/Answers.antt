@@ -2,9 +2,9 @@ use Rattle.std.proofs.Common.{IfSome, subst}
 use Rattle.rational.specs.Number.{◌-ℚ◌}
 use Rattle.lp_model.specs.declared.program.Sense.TheVariants.{Min}
 use Rattle.lp_model.specs.Reductions.{Reduces}
-use Rattle.lp_model.specs.Verdicts.{NoPoint}
 use Rattle.undo_records.specs.Lift.{lift}
 use Rattle.presolve_model.specs.Ledger.{Ledger}
+use Rattle.presolve_model.specs.Meanings.{Meant}
 use Rattle.problem_model.specs.Showing.{shown}
 use Rattle.history_laws.proofs.Books.{book_means}
 use Rattle.txn_book.proofs.book.Book.stands.Goals as goal
@@ -15,4 +15,4 @@ returns-clause-reduces c =
     (book_means _ c.self.invariant).reduces
 
 pub returns-clause-verdict : goal.returns-clause-verdict
-returns-clause-verdict c = subst (λ (b : Ledger). IfSome b.verdict (λ _. NoPoint (shown b.start))) c.self.view_is (book_means _ c.self.invariant).verdict
+returns-clause-verdict c = subst (λ (b : Ledger). IfSome b.verdict (λ v. Meant v Min (shown b.start))) c.self.view_is (book_means _ c.self.invariant).verdict

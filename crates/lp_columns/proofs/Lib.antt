@@ -1,0 +1,12 @@
+pub mod Held
+pub mod Shifts
+pub mod BestPlace
+pub mod FixedColumn
+pub mod RoundBounds
+pub mod EmptyColumn
+pub mod FixedByCost
+pub mod DominatedColumn
+pub mod ParallelColumns
+pub mod ParallelPairs
+pub mod CrossedBounds
+pub mod Ray

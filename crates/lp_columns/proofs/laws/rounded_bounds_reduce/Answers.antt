@@ -1,0 +1,5 @@
+use Rattle.lp_columns.proofs.RoundBounds.{bounds_rounded_reduce}
+use Rattle.lp_columns.proofs.laws.rounded_bounds_reduce.Goals as goal
+
+pub returns : goal.returns
+returns c = bounds_rounded_reduce

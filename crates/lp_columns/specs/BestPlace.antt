@@ -1,0 +1,22 @@
+-- A column fixed at its best place: no other number between its bounds costs less or helps a row.
+use Rattle.std.specs.Prelude.{ℕ, ◌<◌, IsTrue, Some}
+use Rattle.rational.specs.Number.{Number, zero_ℚ, ◌+ℚ◌, ◌-ℚ◌, ◌*ℚ◌}
+use Rattle.rational.specs.Order.{◌≤ℚ◌}
+use Rattle.rational.specs.Ends.{Between}
+use Rattle.rational.specs.Floor.{IsWhole}
+use Rattle.lp_model.specs.LinearProgram.{LinearProgram}
+use Rattle.lp_theory.specs.Edits.{with_bounds}
+
+-- in the minimizing sense: v lies between the bounds of column j, a move from any x between them to v doesn't raise the cost,
+-- and a row that has its value y between its sides still has it there after the move
+pub record IsBestAt (M : LinearProgram) (j : ℕ) (v : Number) : Type 0 where
+  pub column : j < M.columns
+  pub within : Between (M.lower_bound j) (M.upper_bound j) v
+  pub whole : IsTrue (M.whole j) → IsWhole v
+  pub cheap : (x : Number) → Between (M.lower_bound j) (M.upper_bound j) x → (M.costs j *ℚ (v -ℚ x)) ≤ℚ zero_ℚ
+  pub rows : (i : ℕ) → i < M.rows → (x y : Number) → Between (M.lower_bound j) (M.upper_bound j) x → Between (M.lower_side i) (M.upper_side i) y
+      → Between (M.lower_side i) (M.upper_side i) (y +ℚ M.coefficient i j *ℚ (v -ℚ x))
+
+-- both bounds become v
+abbrev pub column_fixed_at : LinearProgram → ℕ → Number → LinearProgram
+column_fixed_at M j v = with_bounds M j (Some v) (Some v)

@@ -1,0 +1,10 @@
+pub mod FixedColumn
+pub mod RoundBounds
+pub mod BestPlace
+pub mod EmptyColumn
+pub mod Locks
+pub mod FixedByCost
+pub mod DominatedColumn
+pub mod ParallelColumns
+pub mod CrossedBounds
+pub mod Ray

@@ -1,0 +1,11 @@
+pub mod EmptyRow
+pub mod SingletonRow
+pub mod CrossedSides
+pub mod RedundantRow
+pub mod RedundantSide
+pub mod OutOfReach
+pub mod TightenedBound
+pub mod ForcingRow
+pub mod SetMultiplier
+pub mod ParallelRows
+pub mod TightenedCoefficient

@@ -1,4 +1,0 @@
-pub mod Rows
-pub mod Singletons
-pub mod Columns
-pub mod Lists

@@ -1,8 +1,0 @@
-use Rattle.lp_rules.proofs.Columns.{empty_column, empty_column_pairs}
-use Rattle.lp_rules.proofs.laws.empty_columns_reduce.Goals as goal
-
-pub returns-clause-points : goal.returns-clause-points
-returns-clause-points c = empty_column
-
-pub returns-clause-pairs : goal.returns-clause-pairs
-returns-clause-pairs c = empty_column_pairs

@@ -1,8 +1,0 @@
-use Rattle.lp_rules.proofs.Columns.{fixed_column, fixed_column_pairs}
-use Rattle.lp_rules.proofs.laws.fixed_columns_reduce.Goals as goal
-
-pub returns-clause-points : goal.returns-clause-points
-returns-clause-points c = λ d M j v f. fixed_column M j v f d
-
-pub returns-clause-pairs : goal.returns-clause-pairs
-returns-clause-pairs c = λ M j v k f. fixed_column_pairs M j v f k

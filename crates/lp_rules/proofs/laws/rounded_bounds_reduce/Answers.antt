@@ -1,5 +1,0 @@
-use Rattle.lp_rules.proofs.Columns.{bounds_rounded_reduce}
-use Rattle.lp_rules.proofs.laws.rounded_bounds_reduce.Goals as goal
-
-pub returns : goal.returns
-returns c = bounds_rounded_reduce

@@ -1,6 +1,0 @@
-pub mod EmptyRow
-pub mod SingletonRow
-pub mod FixedColumn
-pub mod RoundBounds
-pub mod EmptyColumn
-pub mod Crossed

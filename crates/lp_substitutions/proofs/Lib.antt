@@ -1,0 +1,4 @@
+pub mod DoubletonEquation
+pub mod DoubletonPairs
+pub mod FreeColumnSingleton
+pub mod SlackColumnSingleton

@@ -1,0 +1,3 @@
+pub mod DoubletonEquation
+pub mod FreeColumnSingleton
+pub mod SlackColumnSingleton

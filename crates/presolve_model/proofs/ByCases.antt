@@ -1,0 +1,94 @@
+-- The laws of the tables by cases: one line a rule.
+use Rattle.std.proofs.Common.{◌≡◌, ◌<◌, true, [], ◌∷◌, refl, sym, subst, arith}
+use Rattle.std.specs.List.{Contains}
+use Rattle.rational.specs.Number.{Number}
+use Rattle.lp_model.specs.declared.program.Sense.{Sense}
+use Rattle.lp_model.specs.LinearProgram.{LinearProgram}
+use Rattle.lp_model.specs.Reductions.{Reduces}
+use Rattle.lp_model.specs.Vectors.{Vector}
+use Rattle.lp_model.specs.Verdicts.{NoPoint}
+use Rattle.lp_model.specs.declared.program.Sense.TheVariants.{Min}
+use Rattle.lp_theory.specs.Turning.{minimizing}
+use Rattle.lp_theory.proofs.Turns.{no_point_in}
+use Rattle.lp_theory.proofs.Verdicts.{no_point_back}
+use Rattle.problem_model.specs.Problems.{IsSparse}
+use Rattle.problem_model.specs.Showing.{shown}
+use Rattle.problem_model.specs.Sparse.{Sparse}
+use Rattle.problem_laws.proofs.AtIds.{row_inside, column_inside}
+use Rattle.rule_words.specs.Owed.{Owes}
+use Rattle.singleton_laws.proofs.EmptyRow as empty_row
+use Rattle.singleton_laws.proofs.SingletonRow as singleton_row
+use Rattle.singleton_laws.proofs.FixedColumn as fixed_column
+use Rattle.singleton_laws.proofs.RoundBounds as round_bounds
+use Rattle.singleton_laws.proofs.EmptyColumn as empty_column
+use Rattle.singleton_laws.proofs.CrossedBounds as crossed_bounds
+use Rattle.singleton_laws.proofs.CrossedSides as crossed_sides
+use Rattle.presolve_model.specs.declared.instance.Instance.{Instance}
+use Rattle.presolve_model.specs.declared.instance.Instance.TheVariants as at
+use Rattle.presolve_model.specs.declared.instance.Reduction.{Reduction}
+use Rattle.presolve_model.specs.declared.instance.Reduction.TheVariants.{EmptyRow, SingletonRow, FixedColumn, RoundBounds, EmptyColumn}
+use Rattle.presolve_model.specs.declared.instance.Verdict.{Verdict}
+use Rattle.presolve_model.specs.declared.instance.Verdict.TheVariants.{CrossedBounds, CrossedSides}
+use Rattle.presolve_model.specs.Enabled.{enabled_on}
+use Rattle.presolve_model.specs.Instances.{instances_from, id_count, rule_of, rule_at, id_at}
+use Rattle.presolve_model.specs.Meanings.{Meant}
+use Rattle.presolve_model.specs.Order.{verdict_order, reduction_order}
+use Rattle.presolve_model.specs.Tables.{edits, record_of}
+
+-- ---- what each rule owes
+pub reductions_owe : (p : Sparse) (r : Reduction) → IsSparse p → enabled_on p (at.Reduction r) ≡ true → Owes p (edits r p) (record_of r p)
+unfolding edits record_of
+reductions_owe p (EmptyRow i) s e = empty_row.owes p i s e
+reductions_owe p (SingletonRow i) s e = singleton_row.owes p i s e
+reductions_owe p (FixedColumn j) s e = fixed_column.owes p j s e
+reductions_owe p (RoundBounds j) s e = round_bounds.owes p j s e
+reductions_owe p (EmptyColumn j) s e = empty_column.owes p j s e
+
+-- ---- each enabled instance is among those of its rule and its first id, which is the problem's
+pub record IsListed (p : Sparse) (e : Instance) : Type 0 where
+  pub within : id_at e < id_count p (rule_at e)
+  pub there : Contains (instances_from p (rule_at e) (id_at e)) e
+
+alone : (p : Sparse) (e : Instance) → id_at e < id_count p (rule_at e) → instances_from p (rule_at e) (id_at e) ≡ e ∷ [] → IsListed p e
+alone p e l h = record { within = l; there = subst (λ es. Contains es e) (sym h) (0, omega arith, refl) }
+
+pub reductions_listed : (p : Sparse) (r : Reduction) → enabled_on p (at.Reduction r) ≡ true → IsListed p (at.Reduction r)
+reductions_listed p (EmptyRow i) e = alone p (at.Reduction (EmptyRow i)) (row_inside p i (empty_row.said p i e).live) refl
+reductions_listed p (SingletonRow i) e = alone p (at.Reduction (SingletonRow i)) (row_inside p i (singleton_row.said p i e).live) refl
+reductions_listed p (FixedColumn j) e = alone p (at.Reduction (FixedColumn j)) (column_inside p j (fixed_column.said p j e).live) refl
+reductions_listed p (RoundBounds j) e = alone p (at.Reduction (RoundBounds j)) (column_inside p j (round_bounds.said p j e).live) refl
+reductions_listed p (EmptyColumn j) e = alone p (at.Reduction (EmptyColumn j)) (column_inside p j (empty_column.said p j e).live) refl
+
+pub verdicts_listed : (p : Sparse) (v : Verdict) → enabled_on p (at.Verdict v) ≡ true → IsListed p (at.Verdict v)
+verdicts_listed p (CrossedBounds j) e = alone p (at.Verdict (CrossedBounds j)) (column_inside p j (crossed_bounds.said p j e).live) refl
+verdicts_listed p (CrossedSides i) e = alone p (at.Verdict (CrossedSides i)) (row_inside p i (crossed_sides.said p i e).live) refl
+
+-- ---- each rule has its place in the order
+pub reductions_ordered : (r : Reduction) → Contains reduction_order (rule_of r)
+reductions_ordered (EmptyRow i) = (0, omega arith, refl)
+reductions_ordered (SingletonRow i) = (1, omega arith, refl)
+reductions_ordered (FixedColumn j) = (2, omega arith, refl)
+reductions_ordered (RoundBounds j) = (3, omega arith, refl)
+reductions_ordered (EmptyColumn j) = (4, omega arith, refl)
+
+pub verdicts_ordered : (v : Verdict) → Contains verdict_order (rule_at (at.Verdict v))
+verdicts_ordered (CrossedBounds j) = (0, omega arith, refl)
+verdicts_ordered (CrossedSides i) = (1, omega arith, refl)
+
+-- ---- what verdicts mean; that it goes back along reductions; and what it says of a program that is maximized
+pub verdicts_mean : (p : Sparse) (v : Verdict) → IsSparse p → enabled_on p (at.Verdict v) ≡ true → Meant v Min (shown p)
+verdicts_mean p (CrossedBounds j) s e = crossed_bounds.decides p j s e
+verdicts_mean p (CrossedSides i) s e = crossed_sides.decides p i s e
+
+pub meant_back : (v : Verdict) (M R : LinearProgram) (f : Vector → Vector) (k : Number) → Reduces Min M R f k → Meant v Min R → Meant v Min M
+meant_back (CrossedBounds j) M R f k h m = no_point_back Min M R f k h m
+meant_back (CrossedSides i) M R f k h m = no_point_back Min M R f k h m
+
+pub meant_in : (v : Verdict) (d : Sense) (M : LinearProgram) → Meant v Min (minimizing d M) → Meant v d M
+meant_in (CrossedBounds j) d M h = no_point_in d M h
+meant_in (CrossedSides i) d M h = no_point_in d M h
+
+-- ---- the verdicts that say that no point is feasible
+pub meant_no_point : (v : Verdict) (d : Sense) (M : LinearProgram) → Meant v d M → NoPoint M
+meant_no_point (CrossedBounds j) d M h = h
+meant_no_point (CrossedSides i) d M h = h

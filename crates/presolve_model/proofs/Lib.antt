@@ -1,0 +1,5 @@
+pub mod Lists
+pub mod ByCases
+pub mod Tabled
+pub mod Listing
+pub mod Histories

@@ -1,0 +1,79 @@
+-- What the tables give, with no case: each law of reductions from what is owed and from the laws of edits.
+use Rattle.std.proofs.Common.{◌≡◌, ℕ, true, List, [], ◌∷◌, ◌++◌, map, take, length, refl, sym, ap, ◌∙◌, subst, arith}
+use Rattle.std.proofs.lemmas.Simd.{map-map}
+use Rattle.rational.specs.Number.{◌+ℚ◌}
+use Rattle.fractions.specs.declared.Numbers.{Numbers}
+use Rattle.lp_model.specs.declared.program.Sense.TheVariants.{Min}
+use Rattle.lp_model.specs.Reductions.{Reduces}
+use Rattle.undo_records.specs.Lift.{undone}
+use Rattle.undo_records.specs.Sound.{IsSound}
+use Rattle.undo_records.specs.Walk.{NamesLive, after}
+use Rattle.problem_model.specs.declared.part.Contents.{Contents}
+use Rattle.problem_model.specs.declared.part.Part.{Part}
+use Rattle.problem_model.specs.declared.part.Read.{Read}
+use Rattle.problem_model.specs.Reading.{read_of, Agrees}
+use Rattle.problem_model.specs.Flags.{flags_of}
+use Rattle.problem_model.specs.Parts.{contents_of}
+use Rattle.problem_model.specs.Problems.{IsSparse}
+use Rattle.problem_model.specs.Showing.{shown}
+use Rattle.problem_model.specs.Sparse.{Sparse}
+use Rattle.problem_model.specs.Writing.{IsWritable}
+use Rattle.problem_laws.specs.Telling.{IsCounted}
+use Rattle.problem_laws.specs.Sizes.{SameSize}
+use Rattle.problem_laws.proofs.Commits.{offset_committed, flags_committed, size_committed, writable_committed}
+use Rattle.problem_laws.proofs.Raising.{committed_sparse, counted_committed}
+use Rattle.rule_words.specs.Owed.{Owes}
+use Rattle.presolve_model.specs.declared.instance.Reduction.{Reduction}
+use Rattle.presolve_model.specs.declared.instance.Instance.{Instance}
+use Rattle.presolve_model.specs.declared.instance.Instance.TheVariants as at
+use Rattle.presolve_model.specs.Tables.{heads, more, holds, edits, record_of}
+use Rattle.presolve_model.specs.Changes.{changed, added, ChangeFits, ChangeIsWritten}
+use Rattle.presolve_model.specs.Enabled.{reads, enabled_on, Enabled}
+use Rattle.presolve_model.proofs.ByCases.{reductions_owe}
+
+module _ (p : Sparse) (r : Reduction) where
+  pub adds : (changed r p).offset ≡ p.offset +ℚ added r p
+  adds = offset_committed p (edits r p)
+
+  pub same_size : SameSize p (changed r p)
+  same_size = size_committed p (edits r p)
+
+  module _ (s : IsSparse p) (e : enabled_on p (at.Reduction r) ≡ true) where
+    owed : Owes p (edits r p) (record_of r p)
+    owed = reductions_owe p r s e
+
+    pub reduces_changed : Reduces Min (shown p) (shown (changed r p)) (undone (record_of r p)) (added r p)
+    reduces_changed = owed.reduces
+
+    pub sound_changed : IsSparse (changed r p)
+    sound_changed = committed_sparse p (edits r p) s owed.allowed
+
+    pub counted_changed : (a : Part) → IsCounted p (changed r p) a
+    counted_changed a = counted_committed p (edits r p) s owed.allowed a
+
+    pub writable_changed : (numbers : Numbers) → IsWritable numbers p → ChangeFits r p → ChangeIsWritten numbers r p → IsWritable numbers (changed r p)
+    writable_changed numbers w f d = writable_committed numbers p (edits r p) s w owed.allowed f.edits.each d (owed.sided numbers w)
+
+    pub sound_record : IsSound (length p.matrix.rows) (length p.matrix.columns) (record_of r p)
+    sound_record = owed.sound
+
+    pub names_live : NamesLive (flags_of p) (record_of r p)
+    names_live = owed.names
+
+    pub flags_after : flags_of (changed r p) ≡ after (record_of r p) (flags_of p)
+    flags_after = flags_committed p (edits r p) ∙ owed.deletes
+
+-- ---- a reading that agrees
+heads_taken : (p : Sparse) (hs ms : List Part) → take (length hs) (map (contents_of p) (hs ++ ms)) ≡ map (contents_of p) hs
+heads_taken p [] ms = refl
+heads_taken p (h ∷ hs) ms = ap (λ cs. contents_of p h ∷ cs) (heads_taken p hs ms)
+
+pub enabled_by : (p : Sparse) (e : Instance) (rs : List Read) → Agrees p rs → Enabled e rs → enabled_on p e ≡ true
+enabled_by p e rs a h =
+    let cs : List Contents = map (λ r. r.contents) rs in
+    let ps : List Part = map (λ r. r.part) rs in
+    let read : cs ≡ map (contents_of p) ps = sym (ap (map (λ r. r.contents)) a) ∙ map-map _ _ rs ∙ sym (map-map _ _ rs) in
+    let tail : List Part = more e (take (length (heads e)) cs) in
+    let first : take (length (heads e)) cs ≡ map (contents_of p) (heads e) = ap (take (length (heads e))) (read ∙ ap (map (contents_of p)) h.parts) ∙ heads_taken p (heads e) tail in
+    let parts : ps ≡ reads p e = h.parts ∙ ap (λ hs. heads e ++ more e hs) first in
+    ap (holds e) (ap (map (contents_of p)) (sym parts) ∙ sym read) ∙ h.holds

@@ -1,0 +1,65 @@
+-- All instances of a rule with a first id, and which rule and which first id an instance has.
+use Rattle.std.specs.Prelude.{ℕ, Bool, true, false, List, [], ◌∷◌, length, if◌then◌else◌}
+use Rattle.problem_model.specs.Sparse.{Sparse}
+use Rattle.presolve_model.specs.declared.instance.Reduction.{Reduction}
+use Rattle.presolve_model.specs.declared.instance.Reduction.TheVariants.{EmptyRow, SingletonRow, FixedColumn, RoundBounds, EmptyColumn}
+use Rattle.presolve_model.specs.declared.instance.Verdict.{Verdict}
+use Rattle.presolve_model.specs.declared.instance.Verdict.TheVariants.{CrossedBounds, CrossedSides}
+use Rattle.presolve_model.specs.declared.instance.Rule.{Rule}
+use Rattle.presolve_model.specs.declared.instance.Rule.TheVariants as rule
+use Rattle.presolve_model.specs.declared.instance.Instance.{Instance}
+use Rattle.presolve_model.specs.declared.instance.Instance.TheVariants as at
+
+-- the instances of a rule with this first id, in order
+abbrev pub instances_from : Sparse → Rule → ℕ → List Instance
+instances_from p rule.CrossedBounds j = at.Verdict (CrossedBounds j) ∷ []
+instances_from p rule.CrossedSides i = at.Verdict (CrossedSides i) ∷ []
+instances_from p rule.EmptyRow i = at.Reduction (EmptyRow i) ∷ []
+instances_from p rule.SingletonRow i = at.Reduction (SingletonRow i) ∷ []
+instances_from p rule.FixedColumn j = at.Reduction (FixedColumn j) ∷ []
+instances_from p rule.RoundBounds j = at.Reduction (RoundBounds j) ∷ []
+instances_from p rule.EmptyColumn j = at.Reduction (EmptyColumn j) ∷ []
+
+-- whether the first ids of a rule are those of rows; else they are those of columns
+abbrev pub is_of_rows : Rule → Bool
+is_of_rows rule.CrossedBounds = false
+is_of_rows rule.CrossedSides = true
+is_of_rows rule.EmptyRow = true
+is_of_rows rule.SingletonRow = true
+is_of_rows rule.FixedColumn = false
+is_of_rows rule.RoundBounds = false
+is_of_rows rule.EmptyColumn = false
+
+-- how many there are
+abbrev pub id_count : Sparse → Rule → ℕ
+id_count p r = if is_of_rows r then length p.matrix.rows else length p.matrix.columns
+
+abbrev pub rule_of : Reduction → Rule
+rule_of (EmptyRow i) = rule.EmptyRow
+rule_of (SingletonRow i) = rule.SingletonRow
+rule_of (FixedColumn j) = rule.FixedColumn
+rule_of (RoundBounds j) = rule.RoundBounds
+rule_of (EmptyColumn j) = rule.EmptyColumn
+
+abbrev pub first_id : Reduction → ℕ
+first_id (EmptyRow i) = i
+first_id (SingletonRow i) = i
+first_id (FixedColumn j) = j
+first_id (RoundBounds j) = j
+first_id (EmptyColumn j) = j
+
+abbrev pub verdict_rule : Verdict → Rule
+verdict_rule (CrossedBounds j) = rule.CrossedBounds
+verdict_rule (CrossedSides i) = rule.CrossedSides
+
+abbrev pub verdict_id : Verdict → ℕ
+verdict_id (CrossedBounds j) = j
+verdict_id (CrossedSides i) = i
+
+abbrev pub rule_at : Instance → Rule
+rule_at (at.Reduction r) = rule_of r
+rule_at (at.Verdict v) = verdict_rule v
+
+abbrev pub id_at : Instance → ℕ
+id_at (at.Reduction r) = first_id r
+id_at (at.Verdict v) = verdict_id v

@@ -1,0 +1,10 @@
+-- The order of the rules. A round lists the verdicts first, and then the reductions.
+use Rattle.std.specs.Prelude.{List, [], ◌∷◌}
+use Rattle.presolve_model.specs.declared.instance.Rule.{Rule}
+use Rattle.presolve_model.specs.declared.instance.Rule.TheVariants as rule
+
+abbrev pub verdict_order : List Rule
+verdict_order = rule.CrossedBounds ∷ rule.CrossedSides ∷ []
+
+abbrev pub reduction_order : List Rule
+reduction_order = rule.EmptyRow ∷ rule.SingletonRow ∷ rule.FixedColumn ∷ rule.RoundBounds ∷ rule.EmptyColumn ∷ []

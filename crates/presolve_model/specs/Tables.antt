@@ -1,0 +1,98 @@
+-- The tables over the rules: what each reads, where it is enabled, its edits, its record and the numbers that it computes. One line a rule.
+use Rattle.std.specs.Prelude.{ℕ, Bool, List, [], ◌∷◌}
+use Rattle.undo_records.specs.declared.undo.Undo.{Undo}
+use Rattle.problem_model.specs.declared.edit.Edit.{Edit}
+use Rattle.problem_model.specs.declared.part.Contents.{Contents}
+use Rattle.problem_model.specs.declared.part.Part.{Part}
+use Rattle.problem_model.specs.Sparse.{Sparse}
+use Rattle.rule_words.specs.Reading.{no_more}
+use Rattle.singleton_laws.specs.EmptyRow as empty_row
+use Rattle.singleton_laws.specs.SingletonRow as singleton_row
+use Rattle.singleton_laws.specs.FixedColumn as fixed_column
+use Rattle.singleton_laws.specs.RoundBounds as round_bounds
+use Rattle.singleton_laws.specs.EmptyColumn as empty_column
+use Rattle.singleton_laws.specs.CrossedBounds as crossed_bounds
+use Rattle.singleton_laws.specs.CrossedSides as crossed_sides
+use Rattle.presolve_model.specs.declared.instance.Reduction.{Reduction}
+use Rattle.presolve_model.specs.declared.instance.Reduction.TheVariants.{EmptyRow, SingletonRow, FixedColumn, RoundBounds, EmptyColumn}
+use Rattle.presolve_model.specs.declared.instance.Verdict.{Verdict}
+use Rattle.presolve_model.specs.declared.instance.Verdict.TheVariants.{CrossedBounds, CrossedSides}
+use Rattle.presolve_model.specs.declared.instance.Instance.{Instance}
+use Rattle.presolve_model.specs.declared.instance.Instance.TheVariants as at
+
+-- what a reduction reads first
+abbrev pub heads_of : Reduction → List Part
+heads_of (EmptyRow i) = empty_row.heads i
+heads_of (SingletonRow i) = singleton_row.heads i
+heads_of (FixedColumn j) = fixed_column.heads j
+heads_of (RoundBounds j) = round_bounds.heads j
+heads_of (EmptyColumn j) = empty_column.heads j
+
+-- what it reads by what the heads hold
+abbrev pub more_of : Reduction → List Contents → List Part
+more_of (EmptyRow i) cs = no_more cs
+more_of (SingletonRow i) cs = no_more cs
+more_of (FixedColumn j) cs = no_more cs
+more_of (RoundBounds j) cs = no_more cs
+more_of (EmptyColumn j) cs = no_more cs
+
+-- its condition on what it read
+abbrev pub holds_of : Reduction → List Contents → Bool
+holds_of (EmptyRow i) cs = empty_row.holds cs
+holds_of (SingletonRow i) cs = singleton_row.holds cs
+holds_of (FixedColumn j) cs = fixed_column.holds cs
+holds_of (RoundBounds j) cs = round_bounds.holds cs
+holds_of (EmptyColumn j) cs = empty_column.holds cs
+
+-- its edits
+unfoldable pub edits : Reduction → Sparse → List Edit
+edits (EmptyRow i) p = empty_row.edits p i
+edits (SingletonRow i) p = singleton_row.edits p i
+edits (FixedColumn j) p = fixed_column.edits p j
+edits (RoundBounds j) p = round_bounds.edits p j
+edits (EmptyColumn j) p = empty_column.edits p j
+
+-- its record, of the problem before it
+unfoldable pub record_of : Reduction → Sparse → Undo
+record_of (EmptyRow i) p = empty_row.record_of p i
+record_of (SingletonRow i) p = singleton_row.record_of p i
+record_of (FixedColumn j) p = fixed_column.record_of p j
+record_of (RoundBounds j) p = round_bounds.record_of p j
+record_of (EmptyColumn j) p = empty_column.record_of p j
+
+-- the numbers that it computes have room
+unfoldable pub Computes : Reduction → Sparse → Type 0
+Computes (EmptyRow i) p = empty_row.Computes p i
+Computes (SingletonRow i) p = singleton_row.Computes p i
+Computes (FixedColumn j) p = fixed_column.Computes p j
+Computes (RoundBounds j) p = round_bounds.Computes p j
+Computes (EmptyColumn j) p = empty_column.Computes p j
+
+-- ---- verdicts
+-- what a verdict reads first
+abbrev pub looked_at_by : Verdict → List Part
+looked_at_by (CrossedBounds j) = crossed_bounds.heads j
+looked_at_by (CrossedSides i) = crossed_sides.heads i
+
+-- what it reads by what the heads hold
+abbrev pub more_by : Verdict → List Contents → List Part
+more_by (CrossedBounds j) cs = no_more cs
+more_by (CrossedSides i) cs = no_more cs
+
+-- its condition on what it read
+abbrev pub holds_by : Verdict → List Contents → Bool
+holds_by (CrossedBounds j) cs = crossed_bounds.holds cs
+holds_by (CrossedSides i) cs = crossed_sides.holds cs
+
+-- ---- instances
+abbrev pub heads : Instance → List Part
+heads (at.Reduction r) = heads_of r
+heads (at.Verdict v) = looked_at_by v
+
+abbrev pub more : Instance → List Contents → List Part
+more (at.Reduction r) cs = more_of r cs
+more (at.Verdict v) cs = more_by v cs
+
+abbrev pub holds : Instance → List Contents → Bool
+holds (at.Reduction r) cs = holds_of r cs
+holds (at.Verdict v) cs = holds_by v cs

@@ -1,0 +1,92 @@
+//! Laws of the tables over the rules. No rule is named here.
+
+ghost use Rattle.std.specs.Prelude.{◌≡◌, ℕ, ◌+◌, ◌-◌, ◌^◌, ◌<◌, ◌≤◌, true, All, List, length};
+ghost use Rattle.std.specs.List.{Contains};
+ghost use Rattle.rational.specs.Number.{Number, ◌+ℚ◌};
+ghost use Rattle.fractions.specs.declared.Numbers.{Numbers};
+ghost use Rattle.lp_model.specs.declared.program.Sense.{Sense};
+ghost use Rattle.lp_model.specs.declared.program.Sense.TheVariants.{Min};
+ghost use Rattle.lp_model.specs.LinearProgram.{LinearProgram};
+ghost use Rattle.lp_model.specs.Reductions.{Reduces};
+ghost use Rattle.lp_model.specs.Vectors.{Vector};
+ghost use Rattle.lp_theory.specs.Turning.{minimizing};
+ghost use Rattle.undo_records.specs.Lift.{undone};
+ghost use Rattle.undo_records.specs.Sound.{IsSound};
+ghost use Rattle.undo_records.specs.Walk.{NamesLive, after};
+ghost use Rattle.problem_model.specs.declared.part.Part.{Part};
+ghost use Rattle.problem_model.specs.declared.part.Read.{Read};
+ghost use Rattle.problem_model.specs.Flags.{flags_of};
+ghost use Rattle.problem_model.specs.Parts.{changes_of};
+ghost use Rattle.problem_model.specs.Problems.{IsSparse};
+ghost use Rattle.problem_model.specs.Reading.{Agrees};
+ghost use Rattle.problem_model.specs.Showing.{shown};
+ghost use Rattle.problem_model.specs.Sparse.{Sparse};
+ghost use Rattle.problem_model.specs.Writing.{IsWritable};
+ghost use Rattle.problem_laws.specs.Sizes.{SameSize};
+ghost use Rattle.problem_laws.specs.Telling.{IsCounted};
+ghost use Rattle.presolve_model.specs.declared.instance.Instance.{Instance};
+ghost use Rattle.presolve_model.specs.declared.instance.Instance.TheVariants as at;
+ghost use Rattle.presolve_model.specs.declared.instance.Reduction.{Reduction};
+ghost use Rattle.presolve_model.specs.declared.instance.Verdict.{Verdict};
+ghost use Rattle.presolve_model.specs.Changes.{added, changed, ChangeFits, ChangeIsWritten};
+ghost use Rattle.presolve_model.specs.Enabled.{Enabled, enabled_on, reading_of, reads};
+ghost use Rattle.presolve_model.specs.Meanings.{Meant};
+ghost use Rattle.presolve_model.specs.Order.{reduction_order, verdict_order};
+ghost use Rattle.presolve_model.specs.Replay.{replay, Replays};
+ghost use Rattle.presolve_model.specs.Scans.{all_ids, listed, proposal_of};
+ghost use Rattle.presolve_model.specs.Stuck.{skipped_on};
+ghost use Rattle.presolve_model.specs.Tables.{record_of};
+
+/// Each reduction that is enabled reduces the linear program that is shown, undone by its record, and adds to the cost what it says.
+pub fn reductions_reduce()
+    ensures shows { (p : Sparse) (r : Reduction) → IsSparse p → enabled_on p (at.Reduction r) ≡ true → Reduces Min (shown p) (shown (changed r p)) (undone (record_of r p)) (added r p) }
+    ensures offset { (p : Sparse) (r : Reduction) → (changed r p).offset ≡ p.offset +ℚ added r p }
+{}
+
+/// Each reduction that is enabled keeps what is asked of a problem; and that it can be written, where its numbers have room and can be.
+pub fn reductions_keep_problems()
+    ensures sound { (p : Sparse) (r : Reduction) → IsSparse p → enabled_on p (at.Reduction r) ≡ true → IsSparse (changed r p) }
+    ensures size { (p : Sparse) (r : Reduction) → SameSize p (changed r p) }
+    ensures writable { (numbers : Numbers) (p : Sparse) (r : Reduction) → IsSparse p → IsWritable numbers p → enabled_on p (at.Reduction r) ≡ true → ChangeFits r p → ChangeIsWritten numbers r p → IsWritable numbers (changed r p) }
+{}
+
+/// With each reduction that is enabled, the number of a part rises by one where the reduction changed what the part holds, and stays where
+/// it did not.
+pub fn reductions_are_counted()
+    ensures { (p : Sparse) (r : Reduction) (a : Part) → IsSparse p → enabled_on p (at.Reduction r) ≡ true → IsCounted p (changed r p) a }
+{}
+
+/// The record of a reduction that is enabled is sound, names what is live, and deletes what the reduction deletes.
+pub fn records_are_sound()
+    ensures sound { (p : Sparse) (r : Reduction) → IsSparse p → enabled_on p (at.Reduction r) ≡ true → IsSound (length p.matrix.rows) (length p.matrix.columns) (record_of r p) }
+    ensures live { (p : Sparse) (r : Reduction) → IsSparse p → enabled_on p (at.Reduction r) ≡ true → NamesLive (flags_of p) (record_of r p) }
+    ensures flags { (p : Sparse) (r : Reduction) → IsSparse p → enabled_on p (at.Reduction r) ≡ true → flags_of (changed r p) ≡ after (record_of r p) (flags_of p) }
+{}
+
+/// A verdict that is enabled means what it says of the linear program that is shown; before reductions it means the same, and of a program
+/// in its own sense too.
+pub fn verdicts_mean()
+    ensures here { (p : Sparse) (v : Verdict) → IsSparse p → enabled_on p (at.Verdict v) ≡ true → Meant v Min (shown p) }
+    ensures before { (v : Verdict) (M R : LinearProgram) (f : Vector → Vector) (k : Number) → Reduces Min M R f k → Meant v Min R → Meant v Min M }
+    ensures in_sense { (v : Verdict) (d : Sense) (M : LinearProgram) → Meant v Min (minimizing d M) → Meant v d M }
+{}
+
+/// What is enabled on a reading is enabled on each problem that agrees with it.
+pub fn agreeing_readings_enable()
+    ensures { (p : Sparse) (e : Instance) (rs : List Read) → Agrees p rs → Enabled e rs → enabled_on p e ≡ true }
+{}
+
+/// A look at all first ids lists each enabled instance with its reading, and as many reductions as are enabled.
+pub fn looks_list_all()
+    ensures reductions { (p : Sparse) (v : ℕ) (r : Reduction) → enabled_on p (at.Reduction r) ≡ true → Contains (listed p v (all_ids p) reduction_order) (proposal_of p v (at.Reduction r)) }
+    ensures verdicts { (p : Sparse) (v : ℕ) (w : Verdict) → enabled_on p (at.Verdict w) ≡ true → Contains (listed p v (all_ids p) verdict_order) (proposal_of p v (at.Verdict w)) }
+    ensures skipped { (p : Sparse) (v : ℕ) → length (listed p v (all_ids p) reduction_order) ≡ skipped_on p }
+{}
+
+/// Along a history numbers alone decide: where the number of each part that an instance reads is what it was, and not at the end of its
+/// type, the instance reads what it did, and is enabled where it was. And no number rises by more than there were reductions.
+pub fn numbers_decide()
+    ensures same { (numbers : Numbers) (p : Sparse) (rs : List Reduction) (e : Instance) → IsSparse p → Replays numbers p rs → All (λ a. (changes_of p a < 2 ^ 64 - 1) × (changes_of (replay p rs) a ≡ changes_of p a)) (reads p e)
+        → (reading_of (replay p rs) e ≡ reading_of p e) × (enabled_on (replay p rs) e ≡ enabled_on p e) }
+    ensures few { (numbers : Numbers) (p : Sparse) (rs : List Reduction) (a : Part) → IsSparse p → Replays numbers p rs → changes_of (replay p rs) a ≤ changes_of p a + length rs }
+{}

@@ -1,0 +1,5 @@
+pub mod Coefficients
+pub mod EndTestsSay
+pub mod Named
+pub mod Reducing
+pub mod Widths

@@ -1,0 +1,5 @@
+pub mod Entries
+pub mod Reading
+pub mod Owed
+pub mod Widths
+pub mod Answers

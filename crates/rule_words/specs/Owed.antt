@@ -1,0 +1,39 @@
+-- What a rule owes, in words that are the same for each: of its edits and its record, where it is enabled on a problem.
+use Rattle.std.specs.Prelude.{◌≡◌, ℕ, true, length, List, All, Bool}
+use Rattle.fractions.specs.declared.Numbers.{Numbers}
+use Rattle.lp_model.specs.declared.program.Sense.TheVariants.{Min}
+use Rattle.lp_model.specs.LinearProgram.{LinearProgram}
+use Rattle.lp_model.specs.Reductions.{Reduces}
+use Rattle.undo_records.specs.declared.undo.Undo.{Undo}
+use Rattle.undo_records.specs.Lift.{undone}
+use Rattle.undo_records.specs.Sound.{IsSound}
+use Rattle.undo_records.specs.Walk.{Flags, NamesLive, after}
+use Rattle.problem_model.specs.Flags.{flags_of}
+use Rattle.problem_model.specs.Problems.{IsSparse}
+use Rattle.problem_model.specs.Showing.{shown}
+use Rattle.problem_model.specs.Sparse.{Sparse}
+use Rattle.problem_model.specs.Writing.{IsWritable}
+use Rattle.problem_model.specs.declared.edit.Edit.{Edit}
+use Rattle.problem_model.specs.Allowed.{AreAllowed, NoEntries}
+use Rattle.problem_model.specs.Raised.{committed}
+use Rattle.problem_model.specs.Living.{all_flags_edited}
+use Rattle.problem_model.specs.NewNumbers.{EditIsSided}
+use Rattle.problem_model.specs.Offsets.{added_by}
+
+-- at one place of a problem
+pub record Owes (p : Sparse) (es : List Edit) (u : Undo) : Type 0 where
+  pub allowed : AreAllowed p es
+  pub plain : NoEntries es
+  pub reduces : Reduces Min (shown p) (shown (committed p es)) (undone u) (added_by es)
+  pub sided : (numbers : Numbers) → IsWritable numbers p → All EditIsSided es
+  pub sound : IsSound (length p.matrix.rows) (length p.matrix.columns) u
+  pub names : NamesLive (flags_of p) u
+  pub deletes : all_flags_edited (flags_of p) es ≡ after u (flags_of p)
+
+-- at each place where the rule is enabled
+abbrev pub RuleOwes : (Sparse → ℕ → Bool) → (Sparse → ℕ → List Edit) → (Sparse → ℕ → Undo) → Type 0
+RuleOwes enabled edits record_of = (p : Sparse) (k : ℕ) → IsSparse p → enabled p k ≡ true → Owes p (edits p k) (record_of p k)
+
+-- what it means of the linear program that is shown that a verdict is enabled at a place
+abbrev pub RuleDecides : (Sparse → ℕ → Bool) → (LinearProgram → Type 0) → Type 0
+RuleDecides enabled Means = (p : Sparse) (k : ℕ) → IsSparse p → enabled p k ≡ true → Means (shown p)

@@ -1,0 +1,67 @@
+-- K17.
+use Rattle.std.proofs.Common.{◌≡◌, ℕ, Bool, true, false, List, [], ◌∷◌, Option, Some, unwrap_or, refl, sym, ap, ◌∙◌}
+use Rattle.std.specs.Prelude.{if◌then◌else◌}
+use Rattle.std.proofs.lemmas.Bool.{and_parts}
+use Rattle.rational.specs.Number.{Number, zero_ℚ}
+use Rattle.lp_model.specs.declared.program.Sense.TheVariants.{Min}
+use Rattle.lp_model.specs.declared.terms.Term.{Term}
+use Rattle.lp_model.specs.Sparse.{dense}
+use Rattle.lp_theory.specs.Edits.{with_bounds}
+use Rattle.lp_columns.specs.EmptyColumn.{IsEmptyColumn, resting_place}
+use Rattle.lp_columns.proofs.EmptyColumn.{empty_column}
+use Rattle.problem_model.specs.declared.edit.Edit.TheVariants.{SetBounds}
+use Rattle.problem_model.specs.declared.part.Contents.TheVariants as holding
+use Rattle.problem_model.specs.EndTests.{is_apart, is_place}
+use Rattle.problem_model.specs.Problems.{column_at, bounds_at, cost_at, column_entries, IsSparse}
+use Rattle.problem_model.specs.Showing.{end_if, shown}
+use Rattle.problem_model.specs.Sparse.{Sparse}
+use Rattle.problem_laws.proofs.AtIds.{column_inside}
+use Rattle.rule_words.specs.Owed.{RuleOwes}
+use Rattle.rule_words.proofs.Coefficients.{zero_either, end_live, coefficient_in_column}
+use Rattle.rule_words.proofs.EndTestsSay.{not_true, apart_ends, Finite, finite_end}
+use Rattle.rule_words.proofs.Named.{one_on, none_on, one_sided, nothing}
+use Rattle.rule_words.proofs.Reducing.{by_edits}
+use Rattle.singleton_laws.specs.EmptyColumn.{is_empty_column, enabled, place_of, edits, record_of}
+
+-- what the condition says: a live column without live entries, which costs least at the place o, the finite v
+pub record Said (on : Bool) (ts : List Term) (l u o : Option Number) (w : Bool) (v : Number) : Type 0 where
+  pub live : on ≡ true
+  pub none : ts ≡ []
+  pub apart : is_apart l u ≡ true
+  pub place : Finite o w v
+
+says : (on : Bool) (ts : List Term) (c : Number) (l u : Option Number) (w : Bool)
+    → is_empty_column (if on then holding.Column ts c else holding.Gone) (if on then holding.Bounds l u w else holding.Gone) ≡ true
+    → Said on ts l u (resting_place c l u) w (unwrap_or (resting_place c l u) zero_ℚ)
+says true [] c l u w e = let b = and_parts (is_apart l u) (is_place (resting_place c l u) w) e in
+    record { live = refl; none = refl; apart = b.0; place = finite_end (resting_place c l u) w b.1 }
+says true (t ∷ ts) c l u w e = absurd (not_true e)
+says false ts c l u w e = absurd (not_true e)
+
+abbrev SaidAt : Sparse → ℕ → Type 0
+SaidAt p j = Said (column_at p j).live (column_entries p j) (bounds_at p j).lower (bounds_at p j).upper (place_of p j) (bounds_at p j).whole (unwrap_or (place_of p j) zero_ℚ)
+
+pub said : (p : Sparse) (j : ℕ) → enabled p j ≡ true → SaidAt p j
+said p j = says (column_at p j).live (column_entries p j) (cost_at p j) (bounds_at p j).lower (bounds_at p j).upper (bounds_at p j).whole
+
+shows : (p : Sparse) (j : ℕ) → IsSparse p → SaidAt p j → IsEmptyColumn (shown p) j (unwrap_or (place_of p j) zero_ℚ)
+shows p j s r = record {
+  column = column_inside p j r.live;
+  empty = λ i l. coefficient_in_column p i j s.matrix ∙ ap (λ (ts : List Term). if (column_at p j).live then dense ts i else zero_ℚ) r.none ∙ zero_either (column_at p j).live;
+  apart = λ l u e g. apart_ends (bounds_at p j).lower (bounds_at p j).upper r.apart l u
+      (sym (end_live (column_at p j).live (bounds_at p j).lower r.live) ∙ e) (sym (end_live (column_at p j).live (bounds_at p j).upper r.live) ∙ g);
+  place = ap (λ (on : Bool). resting_place (if on then cost_at p j else zero_ℚ) (end_if on (bounds_at p j).lower) (end_if on (bounds_at p j).upper)) r.live ∙ r.place.value;
+  whole = λ h. r.place.whole (and_parts (column_at p j).live (bounds_at p j).whole h).1;
+}
+
+pub owes : RuleOwes enabled edits record_of
+owes p j s e = let r = said p j e in let v : Number = unwrap_or (place_of p j) zero_ℚ in record {
+  allowed = (r.live, tt);
+  plain = tt;
+  reduces = by_edits p (edits p j) (with_bounds (shown p) j (Some v) (Some v)) (λ x. x) zero_ℚ s (r.live, tt)
+      (ap (λ (o : Option Number). with_bounds (shown p) j o o) r.place.value) nothing (empty_column (shown p) j v (shows p j s r));
+  sided = λ numbers w. one_sided (SetBounds j (place_of p j) (place_of p j)) tt;
+  sound = column_inside p j r.live;
+  names = (none_on p.matrix.rows, one_on p.matrix.columns j r.live);
+  deletes = refl;
+}

@@ -1,0 +1,101 @@
+-- K2.
+use Rattle.std.proofs.Common.{◌≡◌, ℕ, Bool, true, false, List, [], ◌∷◌, length, Option, refl, sym, ap, ap₂, ◌∙◌, subst}
+use Rattle.std.specs.Prelude.{if◌then◌else◌}
+use Rattle.std.specs.List.{All}
+use Rattle.std.proofs.lemmas.List.Elements.{All-head}
+use Rattle.rational.specs.Number.{Number, zero_ℚ}
+use Rattle.rational.specs.Ends.{meet_low, meet_high}
+use Rattle.rational.specs.Total.{put}
+use Rattle.rational.proofs.Totals.{put-same, put-other}
+use Rattle.lp_model.specs.declared.program.Sense.TheVariants.{Min}
+use Rattle.lp_model.specs.declared.terms.Term.{Term}
+use Rattle.lp_model.specs.Sparse.{Ascends, dense}
+use Rattle.lp_theory.specs.Edits.{without_row, with_bounds}
+use Rattle.lp_theory.specs.MetEnds.{lower_over, upper_over}
+use Rattle.lp_rows.specs.SingletonRow.{IsSingletonRow, singleton_row_met}
+use Rattle.lp_rows.specs.SingletonRow as rule
+use Rattle.lp_rows.proofs.SingletonRow.{singleton_row}
+use Rattle.problem_model.specs.declared.edit.Edit.TheVariants.{SetBounds, DeleteRow}
+use Rattle.problem_model.specs.declared.part.Contents.TheVariants as holding
+use Rattle.problem_model.specs.Allowed.{AreAllowed}
+use Rattle.problem_model.specs.EditedPrograms.{programs_edited}
+use Rattle.problem_model.specs.Problems.{first_of, row_at, column_at, sides_at, bounds_at, row_entries, IsSparse}
+use Rattle.problem_model.specs.Showing.{coefficient_of, end_if, shown}
+use Rattle.problem_model.specs.Sparse.{Sparse}
+use Rattle.problem_laws.proofs.AtIds.{row_inside}
+use Rattle.problem_laws.proofs.Entries.{row_entries-ascend, row_entries-live}
+use Rattle.rule_words.specs.Owed.{RuleOwes}
+use Rattle.rule_words.proofs.Coefficients.{coefficient_in_row}
+use Rattle.rule_words.proofs.EndTestsSay.{not_true}
+use Rattle.rule_words.proofs.Named.{one_on, nothing_twice, two_sided}
+use Rattle.rule_words.proofs.Reducing.{by_edits}
+use Rattle.singleton_laws.specs.SingletonRow.{is_singleton_row, enabled, sole_entry, met_lower, met_upper, edits, record_of}
+
+-- what the condition says: a live row with one live entry
+pub record Said (on : Bool) (ts : List Term) : Type 0 where
+  pub live : on ≡ true
+  pub one : ts ≡ first_of ts ∷ []
+
+says : (on : Bool) (ts : List Term) (l u : Option Number)
+    → is_singleton_row (if on then holding.Entries ts else holding.Gone) (if on then holding.Sides l u else holding.Gone) ≡ true → Said on ts
+says true [] l u e = absurd (not_true e)
+says true (t ∷ []) l u e = record { live = refl; one = refl }
+says true (t ∷ s ∷ ts) l u e = absurd (not_true e)
+says false ts l u e = absurd (not_true e)
+
+pub said : (p : Sparse) (i : ℕ) → enabled p i ≡ true → Said (row_at p i).live (row_entries p i)
+said p i = says (row_at p i).live (row_entries p i) (sides_at p i).lower (sides_at p i).upper
+
+-- the entry: its column is live, its id is the problem's, and it isn't 0
+sole_live : (p : Sparse) (i : ℕ) → Said (row_at p i).live (row_entries p i) → (column_at p (sole_entry p i).id).live ≡ true
+sole_live p i o = All-head (λ (t : Term). (column_at p t.id).live ≡ true) (sole_entry p i) []
+    (subst (All (λ (t : Term). (column_at p t.id).live ≡ true)) o.one (row_entries-live p i))
+
+sole_ascends : (p : Sparse) (i : ℕ) → IsSparse p → Said (row_at p i).live (row_entries p i) → Ascends 0 (length p.matrix.columns) (sole_entry p i ∷ [])
+sole_ascends p i s o = subst (Ascends 0 (length p.matrix.columns)) o.one (row_entries-ascend p i s)
+
+module _ (p : Sparse) (s : IsSparse p) (i : ℕ) (o : Said (row_at p i).live (row_entries p i)) where
+  abbrev j : ℕ
+  j = (sole_entry p i).id
+
+  abbrev a : Number
+  a = (sole_entry p i).value
+
+  row_has : (k : ℕ) → coefficient_of p i k ≡ put (λ k. zero_ℚ) j a k
+  row_has k = coefficient_in_row p i k ∙ ap (λ (on : Bool). if on then dense (row_entries p i) k else zero_ℚ) o.live ∙ ap (λ (ts : List Term). dense ts k) o.one
+
+  entry_is : coefficient_of p i j ≡ a
+  entry_is = row_has j ∙ put-same (λ k. zero_ℚ) j a
+
+  shows : IsSingletonRow (shown p) i j
+  shows = let e : Ascends 0 (length p.matrix.columns) (sole_entry p i ∷ []) = sole_ascends p i s o in record {
+    row = row_inside p i o.live;
+    column = e.1;
+    entry = λ z. e.2 (sym entry_is ∙ z);
+    only = λ k l n. row_has k ∙ put-other (λ k. zero_ℚ) j a k n;
+  }
+
+  low_is : met_lower p i (sole_entry p i) ≡ rule.met_lower (shown p) i j
+  low_is t = meet_low (end_if (sym (sole_live p i o) t) (bounds_at p j).lower)
+      (lower_over (sym entry_is t) (end_if (sym o.live t) (sides_at p i).lower) (end_if (sym o.live t) (sides_at p i).upper))
+
+  high_is : met_upper p i (sole_entry p i) ≡ rule.met_upper (shown p) i j
+  high_is t = meet_high (end_if (sym (sole_live p i o) t) (bounds_at p j).upper)
+      (upper_over (sym entry_is t) (end_if (sym o.live t) (sides_at p i).lower) (end_if (sym o.live t) (sides_at p i).upper))
+
+  met : programs_edited (shown p) (edits p i) ≡ singleton_row_met (shown p) i j
+  met = ap₂ (λ (x y : Option Number). without_row (with_bounds (shown p) j x y) i) low_is high_is
+
+  allowed : AreAllowed p (edits p i)
+  allowed = (sole_live p i o, (o.live, tt))
+
+pub owes : RuleOwes enabled edits record_of
+owes p i s e = let o = said p i e in let t : Term = sole_entry p i in let a = sole_ascends p i s o in record {
+  allowed = allowed p s i o;
+  plain = tt;
+  reduces = by_edits p (edits p i) (singleton_row_met (shown p) i t.id) (λ x. x) zero_ℚ s (allowed p s i o) (met p s i o) nothing_twice (singleton_row (shown p) i t.id (shows p s i o) Min);
+  sided = λ numbers w. two_sided (SetBounds t.id (met_lower p i t) (met_upper p i t)) (DeleteRow i) tt tt;
+  sound = (row_inside p i o.live, a.1, a.2);
+  names = (one_on p.matrix.rows i o.live, one_on p.matrix.columns t.id (sole_live p i o));
+  deletes = refl;
+}

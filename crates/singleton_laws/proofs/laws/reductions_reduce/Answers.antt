@@ -1,8 +1,0 @@
-use Rattle.singleton_laws.proofs.ProgramsReduced.{reduces_changed, adds}
-use Rattle.singleton_laws.proofs.laws.reductions_reduce.Goals as goal
-
-pub returns-clause-shows : goal.returns-clause-shows
-returns-clause-shows c = reduces_changed
-
-pub returns-clause-offset : goal.returns-clause-offset
-returns-clause-offset c = adds

@@ -1,0 +1,63 @@
+-- K3: a column with equal bounds is put into the sides of its rows.
+use Rattle.std.specs.Prelude.{ℕ, Bool, false, List, [], ◌∷◌, ◌++◌, map, All, unwrap_or}
+use Rattle.rational.specs.Number.{Number, zero_ℚ, ◌*ℚ◌}
+use Rattle.rational.specs.Lowest.{Fits}
+use Rattle.rational.specs.Ends.{less}
+use Rattle.fractions.specs.EndWords.{LessFits}
+use Rattle.lp_model.specs.declared.terms.Term.{Term}
+use Rattle.undo_records.specs.declared.undo.Undo.{Undo}
+use Rattle.undo_records.specs.declared.undo.Undo.TheVariants as undo
+use Rattle.problem_model.specs.declared.edit.Edit.{Edit}
+use Rattle.problem_model.specs.declared.edit.Edit.TheVariants.{SetSides, AddOffset, DeleteColumn}
+use Rattle.problem_model.specs.declared.part.Contents.{Contents}
+use Rattle.problem_model.specs.declared.part.Contents.TheVariants.{Gone, Entries, Sides, Column, Bounds}
+use Rattle.problem_model.specs.declared.part.Part.{Part}
+use Rattle.problem_model.specs.declared.part.Part.TheVariants as part
+use Rattle.problem_model.specs.EndTests.{is_fixed}
+use Rattle.problem_model.specs.Problems.{sides_at, bounds_at, cost_at, column_entries}
+use Rattle.problem_model.specs.Sparse.{Sparse}
+use Rattle.rule_words.specs.Reading.{found_on, no_more}
+
+-- it reads the column and its bounds
+abbrev pub heads : ℕ → List Part
+heads j = part.Col j ∷ part.Bounds j ∷ []
+
+-- the bounds are one number, whole if the column is
+abbrev pub is_fixed_column : Contents → Contents → Bool
+is_fixed_column (Column ts c) (Bounds l u w) = is_fixed l u w
+is_fixed_column column bounds = false
+
+abbrev pub holds : List Contents → Bool
+holds (a ∷ b ∷ []) = is_fixed_column a b
+holds other = false
+
+abbrev pub enabled : Sparse → ℕ → Bool
+enabled p j = holds (found_on (heads j) no_more p)
+
+-- that number: the lower bound
+abbrev pub value_of : Sparse → ℕ → Number
+value_of p j = unwrap_or (bounds_at p j).lower zero_ℚ
+
+-- the sides of a term's row less the term at v
+abbrev pub sides_less : Sparse → Number → Term → Edit
+sides_less p v t = SetSides t.id (less (sides_at p t.id).lower (t.value *ℚ v)) (less (sides_at p t.id).upper (t.value *ℚ v))
+
+-- what is left of the column: its cost goes to the offset
+abbrev pub column_out : ℕ → Number → List Edit
+column_out j k = AddOffset k ∷ DeleteColumn j ∷ []
+
+abbrev pub edits : Sparse → ℕ → List Edit
+edits p j = map (sides_less p (value_of p j)) (column_entries p j) ++ column_out j (cost_at p j *ℚ value_of p j)
+
+-- the record keeps the column
+abbrev pub record_of : Sparse → ℕ → Undo
+record_of p j = undo.FixedColumn j (value_of p j) (cost_at p j) (column_entries p j)
+
+-- the products and differences are computed
+pub record TermComputes (p : Sparse) (v : Number) (t : Term) : Type 0 where
+  pub product : Fits (t.value *ℚ v)
+  pub lower : LessFits (sides_at p t.id).lower (t.value *ℚ v)
+  pub upper : LessFits (sides_at p t.id).upper (t.value *ℚ v)
+
+abbrev pub Computes : Sparse → ℕ → Type 0
+Computes p j = All (TermComputes p (value_of p j)) (column_entries p j) × Fits (cost_at p j *ℚ value_of p j)
