@@ -1,9 +1,9 @@
 //! The command `check IN SOL [--fixed]`.
 
 ghost use Rattle.std.specs.Prelude.{◌≡◌, ◌≤◌, ◌⊎◌, length, option_map, IfOk, IfSome, OnErr, IsErrOf};
-ghost use Rattle.file_ports.specs.Ports.{Rose};
 ghost use Rattle.command_line.specs.Seen.{check_names_of};
-ghost use Rattle.endings.specs.Moments.{Finds};
+ghost use Rattle.endings.specs.Ending.{status_of, text_of};
+ghost use Rattle.endings.specs.Moments.{FailsToRead, Finds, IsQuiet};
 ghost use Rattle.check_command.specs.Checked.{EndsCheck, check_dialect};
 
 use crate::judging::judge;
@@ -28,14 +28,11 @@ fn read_both<F: Files>(
     solution: &str,
     files: &mut F,
 ) -> Result<BothTexts, Unread>
-    ensures input { IfOk result (λ both. Finds (F.told files.old input.now) INPUT_LIMIT (F.overlong files.old INPUT_LIMIT input.now) (F.overlong files.new INPUT_LIMIT input.now)
-        (option_map (λ bytes. bytes.items) both.input)) }
-    ensures solution { IfOk result (λ both. Finds (F.told files.old solution.now) SOLUTION_LIMIT (F.overlong files.old SOLUTION_LIMIT solution.now) (F.overlong files.new SOLUTION_LIMIT solution.now)
-        (option_map (λ bytes. bytes.items) both.solution)) }
+    ensures input { IfOk result (λ both. Finds INPUT_LIMIT input.now (F.moment files.old) (F.moment files.new) (option_map (λ bytes. bytes.items) both.input)) }
+    ensures solution { IfOk result (λ both. Finds SOLUTION_LIMIT solution.now (F.moment files.old) (F.moment files.new) (option_map (λ bytes. bytes.items) both.solution)) }
     ensures most { IfOk result (λ both. IfSome both.input (λ bytes. length bytes.items ≤ INPUT_LIMIT)) }
-    ensures failed { IsErrOf result Unread.Failed → Rose (F.read_faults files.old input.now) (F.read_faults files.new input.now)
-        ⊎ Rose (F.read_faults files.old solution.now) (F.read_faults files.new solution.now) }
-    ensures kept { F.told files.new ≡ F.told files.old }
+    ensures failed { IsErrOf result Unread.Failed → FailsToRead input.now (F.moment files.old) (F.moment files.new) ⊎ FailsToRead solution.now (F.moment files.old) (F.moment files.new) }
+    ensures kept { IsQuiet (F.moment files.old) (F.moment files.new) }
 {
     let input = read_within(alloc, input, INPUT_LIMIT, files)?;
     let solution = read_within(alloc, solution, SOLUTION_LIMIT, files)?;
@@ -58,10 +55,8 @@ pub fn check<F: Files>(
     words: &CheckWords<'_>,
     files: &mut F,
 ) -> Result<Ending, AllocError>
-    ensures ends { IfOk result (λ e. EndsCheck (check_names_of words.now) e
-        (record { told = F.told files.old; reads = F.read_faults files.old; writes = F.write_faults files.old; overlong = F.overlong files.old })
-        (record { told = F.told files.new; reads = F.read_faults files.new; writes = F.write_faults files.new; overlong = F.overlong files.new })) }
-    ensures no_memory { OnErr result (F.told files.new ≡ F.told files.old) }
+    ensures ends { IfOk result (λ e. EndsCheck (check_names_of words.now) (status_of e) (text_of e) (F.moment files.old) (F.moment files.new)) }
+    ensures no_memory { OnErr result (IsQuiet (F.moment files.old) (F.moment files.new)) }
 {
     let dialect = dialect_of(words);
     match read_both(alloc, words.input, words.solution, files) {

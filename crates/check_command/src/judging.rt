@@ -1,10 +1,11 @@
 //! What is said of the texts of a program and a solution.
 
-ghost use Rattle.std.specs.Prelude.{◌≡◌, ◌<◌, ◌≤◌, ◌^◌, ℕ, length, option_map, IfOk, IfSome};
-ghost use Rattle.file_ports.specs.Ports.{Told, Gives};
+ghost use Rattle.std.specs.Prelude.{◌≡◌, ◌<◌, ◌≤◌, ◌^◌, ℕ, List, length, option_map, Some, IfOk, IfSome};
+ghost use Rattle.file_ports.specs.Ports.{Moment};
 ghost use Rattle.command_line.specs.Line.{CheckNames};
 ghost use Rattle.endings.specs.declared.reads.TheConstants.{INPUT_LIMIT, SOLUTION_LIMIT};
-ghost use Rattle.endings.specs.Moments.{Finds, Moment, Reads};
+ghost use Rattle.endings.specs.Moments.{Finds, Reads};
+ghost use Rattle.endings.specs.Ending.{status_of, text_of};
 ghost use Rattle.endings.specs.SolutionTexts.{IsPointOf};
 ghost use Rattle.check_command.specs.Checked.{SaysCheck, SaysSolution, check_dialect};
 
@@ -19,8 +20,8 @@ use std::alloc::{AllocError, Global};
 fn judge_point(alloc: Global, program: &Program, point: Point) -> Result<Ending, AllocError>
     requires long { length point ≡ length program.now.columns }
     requires few { (length program.now.rows < 2 ^ 32) × (length program.now.columns < 2 ^ 32) }
-    ensures { (solution : Told) → (before now : ℕ) → Reads solution (λ text. IsPointOf program.now text point)
-        → IfOk result (λ ending. SaysSolution program.now solution before now ending) }
+    ensures { (name : List ℕ) → (before now : Moment) → Reads SOLUTION_LIMIT (before.told name) (λ text. IsPointOf program.now text point)
+        → IfOk result (λ ending. SaysSolution program.now name before now ending) }
 {
     let pair = Pair { point, duals: None };
     match lp_check::check(alloc, program, &pair) {
@@ -32,8 +33,8 @@ fn judge_point(alloc: Global, program: &Program, point: Point) -> Result<Ending,
 /// What is said of a solution's text.
 fn judge_text(alloc: Global, program: &Program, text: &[u8]) -> Result<Ending, AllocError>
     requires { (length program.now.rows < 2 ^ 32) × (length program.now.columns < 2 ^ 32) }
-    ensures { (solution : Told) → (before now : ℕ) → Gives solution text.now
-        → IfOk result (λ ending. SaysSolution program.now solution before now ending) }
+    ensures { (name : List ℕ) → (before now : Moment) → Finds SOLUTION_LIMIT name before now (Some text.now)
+        → IfOk result (λ ending. SaysSolution program.now name before now ending) }
 {
     match read_solution(alloc, text, program) {
         Ok(point) => judge_point(alloc, program, point),
@@ -51,8 +52,8 @@ fn judge_solution(
     solution: Option<Vec<u8>>,
 ) -> Result<Ending, AllocError>
     requires { (length program.now.rows < 2 ^ 32) × (length program.now.columns < 2 ^ 32) }
-    ensures { (told : Told) → (before now : ℕ) → Finds told SOLUTION_LIMIT before now (option_map (λ text. text.items) solution)
-        → IfOk result (λ ending. SaysSolution program.now told before now ending) }
+    ensures { (name : List ℕ) → (before now : Moment) → Finds SOLUTION_LIMIT name before now (option_map (λ text. text.items) solution)
+        → IfOk result (λ ending. SaysSolution program.now name before now ending) }
 {
     match solution {
         Some(text) => judge_text(alloc, program, &text),
@@ -69,9 +70,9 @@ pub fn judge(
 ) -> Result<Ending, AllocError>
     requires { IfSome input (λ text. length text.items ≤ INPUT_LIMIT) }
     ensures { (names : CheckNames) → (before now : Moment) → dialect ≡ check_dialect names
-        → Finds (before.told names.input) INPUT_LIMIT (before.overlong INPUT_LIMIT names.input) (now.overlong INPUT_LIMIT names.input) (option_map (λ text. text.items) input)
-        → Finds (before.told names.solution) SOLUTION_LIMIT (before.overlong SOLUTION_LIMIT names.solution) (now.overlong SOLUTION_LIMIT names.solution) (option_map (λ text. text.items) solution)
-        → IfOk result (λ ending. SaysCheck names ending before now) }
+        → Finds INPUT_LIMIT names.input before now (option_map (λ text. text.items) input)
+        → Finds SOLUTION_LIMIT names.solution before now (option_map (λ text. text.items) solution)
+        → IfOk result (λ ending. SaysCheck names (status_of ending) (text_of ending) before now) }
 {
     let Some(text) = input else {
         return Ok(Ending::Refused(Vec::from_slice(alloc, b"error M17\n")?));

@@ -1,5 +1,5 @@
 -- The status of an ending, and what is printed at it.
-use Rattle.std.specs.Prelude.{ℕ, List, [], ◌∷◌, ◌++◌, codes}
+use Rattle.std.specs.Prelude.{ℕ, Bool, true, false, List, [], ◌∷◌, ◌++◌, codes}
 use Rattle.endings.specs.declared.ending.Ending.{Ending}
 use Rattle.endings.specs.declared.ending.Ending.TheVariants.{Done, Usage, Refused, ReadFault, WriteFault, NoMemory, NoRoom, RecordsRefused, SolutionRefused, Violated, Infeasible}
 
@@ -16,15 +16,37 @@ status_of (SolutionRefused line) = 8
 status_of (Violated line) = 9
 status_of Infeasible = 20
 
+-- ---- the lines that hold no number and no name
+abbrev pub usage_line : List ℕ
+usage_line = codes "usage: presolve, postsolve, check or gen" ++ 10 ∷ []
+
+abbrev pub read_fault_line : List ℕ
+read_fault_line = codes "read fault" ++ 10 ∷ []
+
+abbrev pub write_fault_line : List ℕ
+write_fault_line = codes "write fault" ++ 10 ∷ []
+
+abbrev pub no_memory_line : List ℕ
+no_memory_line = codes "no memory" ++ 10 ∷ []
+
+abbrev pub infeasible_line : List ℕ
+infeasible_line = codes "infeasible" ++ 10 ∷ []
+
 abbrev pub text_of : Ending → List ℕ
 text_of (Done text) = text.items
-text_of Usage = codes "usage: presolve, postsolve, check or gen" ++ 10 ∷ []
+text_of Usage = usage_line
 text_of (Refused line) = line.items
-text_of ReadFault = codes "read fault" ++ 10 ∷ []
-text_of WriteFault = codes "write fault" ++ 10 ∷ []
-text_of NoMemory = codes "no memory" ++ 10 ∷ []
+text_of ReadFault = read_fault_line
+text_of WriteFault = write_fault_line
+text_of NoMemory = no_memory_line
 text_of (NoRoom line) = line.items
 text_of (RecordsRefused line) = line.items
 text_of (SolutionRefused line) = line.items
 text_of (Violated line) = line.items
-text_of Infeasible = codes "infeasible" ++ 10 ∷ []
+text_of Infeasible = infeasible_line
+
+-- ---- by cases of the status
+-- the first where the test holds, else the second
+abbrev pub When : Bool → Type 0 → Type 0 → Type 0
+When true P Q = P
+When false P Q = Q

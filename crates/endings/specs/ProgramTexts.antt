@@ -1,14 +1,14 @@
 -- What is said of the text of a program: what it gives, or its first fault.
 use Rattle.std.specs.Prelude.{◌≡◌, ◌⊎◌, ℕ, List, [], ◌∷◌, ◌++◌, codes, Some, None}
 use Rattle.std.specs.Fmt.{decimal}
-use Rattle.file_ports.specs.Ports.{Rose, IsLonger}
+use Rattle.file_ports.specs.Ports.{Moment}
 use Rattle.lp_model.specs.ProgramData.{ProgramData}
 use Rattle.mps_profile.specs.Faults.{number_of_kind}
 use Rattle.mps_profile.specs.Program.{program_of}
 use Rattle.mps_profile.specs.Reading.{first_fault}
 use Rattle.mps_profile.specs.declared.dialect.Dialect.{Dialect}
 use Rattle.mps_reader.specs.declared.faults.MpsFault.{MpsFault}
-use Rattle.endings.specs.Moments.{Moment, Reads}
+use Rattle.endings.specs.Moments.{IsOverlong, Reads}
 
 -- a text has no fault, and this is its program
 abbrev pub IsProgramOf : Dialect → List ℕ → ProgramData → Type 0
@@ -21,6 +21,5 @@ fault_text fault = codes "error M" ++ (decimal (number_of_kind fault.kind) ++ (c
 -- what is said of a program's text by this name: its first fault; or that it is longer than the limit
 abbrev pub SaysFaultOf : ℕ → Dialect → List ℕ → List ℕ → Moment → Moment → Type 0
 SaysFaultOf limit dialect name said before now =
-    ((fault : MpsFault) × Reads (before.told name) (λ text. first_fault dialect text ≡ Some (fault.kind, fault.line)) × (said ≡ fault_text fault))
-    ⊎ (IsLonger (before.told name) limit × Rose (before.overlong limit name) (now.overlong limit name)
-    × (said ≡ codes "error M17" ++ 10 ∷ []))
+    ((fault : MpsFault) × Reads limit (before.told name) (λ text. first_fault dialect text ≡ Some (fault.kind, fault.line)) × (said ≡ fault_text fault))
+    ⊎ (IsOverlong limit name before now × (said ≡ codes "error M17" ++ 10 ∷ []))

@@ -1,8 +1,8 @@
 //! Reads of files up to a limit.
 
 ghost use Rattle.std.specs.Prelude.{◌≡◌, ℕ, ◌≤◌, length, option_map, IfOk, IfSome, IsErrOf};
-ghost use Rattle.file_ports.specs.Ports.{Rose, NeverFall};
-ghost use Rattle.endings.specs.Moments.{Finds};
+ghost use Rattle.file_ports.specs.Ports.{NeverFall};
+ghost use Rattle.endings.specs.Moments.{FailsToRead, Finds, IsQuiet};
 
 use file_ports::{Files, ReadErr};
 use std::alloc::Global;
@@ -32,14 +32,13 @@ pub fn read_within<F: Files>(
     limit: u64,
     files: &mut F,
 ) -> Result<Option<Vec<u8>>, Unread>
-    ensures found { IfOk result (λ found. Finds (F.told files.old name.now) limit (F.overlong files.old limit name.now) (F.overlong files.new limit name.now)
-        (option_map (λ bytes. bytes.items) found)) }
+    ensures found { IfOk result (λ found. Finds limit name.now (F.moment files.old) (F.moment files.new) (option_map (λ bytes. bytes.items) found)) }
     ensures most { IfOk result (λ found. IfSome found (λ bytes. length bytes.items ≤ limit)) }
-    ensures failed { IsErrOf result Unread.Failed → Rose (F.read_faults files.old name.now) (F.read_faults files.new name.now) }
-    ensures kept { F.told files.new ≡ F.told files.old }
-    ensures reads_stay { NeverFall (F.read_faults files.old) (F.read_faults files.new) }
-    ensures writes_stay { NeverFall (F.write_faults files.old) (F.write_faults files.new) }
-    ensures overlongs_stay { (most : ℕ) → NeverFall (F.overlong files.old most) (F.overlong files.new most) }
+    ensures failed { IsErrOf result Unread.Failed → FailsToRead name.now (F.moment files.old) (F.moment files.new) }
+    ensures kept { IsQuiet (F.moment files.old) (F.moment files.new) }
+    ensures reads_stay { NeverFall (F.moment files.old).reads (F.moment files.new).reads }
+    ensures writes_stay { NeverFall (F.moment files.old).writes (F.moment files.new).writes }
+    ensures overlongs_stay { (most : ℕ) → NeverFall ((F.moment files.old).overlong most) ((F.moment files.new).overlong most) }
 {
     match files.read(alloc, name, limit) {
         Ok(bytes) => Ok(Some(bytes)),

@@ -5,6 +5,13 @@ use Rattle.std.specs.Prelude.{◌≡◌, ◌≢◌, ◌⊎◌, ℕ, ◌-◌, ◌
 abbrev pub Told : Type 0
 Told = Option (Option (List ℕ))
 
+-- What each name tells and the counts of its faults, at one moment: of reads, of writes, and of how often it was longer than a limit.
+pub record Moment : Type 0 where
+  pub told : List ℕ → Told
+  pub reads : List ℕ → ℕ
+  pub writes : List ℕ → ℕ
+  pub overlong : ℕ → List ℕ → ℕ
+
 -- a count rose, or stands at its last value
 abbrev pub Rose : ℕ → ℕ → Type 0
 Rose before now = now < 2 ^ 64 - 1 → before < now

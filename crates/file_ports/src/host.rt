@@ -43,13 +43,7 @@ fn read_some<R: SystemFiles>(
 }
 
 impl<'a, R: SystemFiles> Files for HostFiles<'a, R> {
-    ghost told = { λ _ _. None };
-
-    ghost read_faults = { λ files _. files.reads };
-
-    ghost write_faults = { λ files _. files.writes };
-
-    ghost overlong = { λ files _ _. files.overlong };
+    ghost moment = { λ files. record { told = λ _. None; reads = λ _. files.reads; writes = λ _. files.writes; overlong = λ _ _. files.overlong } };
 
     fn read(&mut self, alloc: Global, name: &str, limit: u64) -> Result<Vec<u8>, ReadErr> {
         match read_some(self.rt, alloc, name, limit) {

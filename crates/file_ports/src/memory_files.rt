@@ -146,13 +146,12 @@ impl MemFiles {
 }
 
 impl Files for MemFiles {
-    ghost told = { λ files. told_in files.places };
-
-    ghost read_faults = { λ files _. files.read_faults };
-
-    ghost write_faults = { λ files _. files.write_faults };
-
-    ghost overlong = { λ files _ _. files.overlong };
+    ghost moment = { λ files. record {
+      told = told_in files.places;
+      reads = λ _. files.read_faults;
+      writes = λ _. files.write_faults;
+      overlong = λ _ _. files.overlong;
+    } };
 
     /// A read fails exactly where its number is listed or the name is missing. Nothing else raises the count of failed reads, and only
     /// `TooLong` raises the other.

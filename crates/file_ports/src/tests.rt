@@ -2,7 +2,7 @@ use crate::{
     Failed, Files, Held, HostFiles, HostOut, MemFiles, MemSink, ReadErr, Sink, names_differ,
 };
 use std::alloc::{AllocError, Global};
-use std::io::Write;
+use std::io::{BufWriter, Write};
 use std::test::Fail;
 use std::{fs, io};
 
@@ -139,4 +139,20 @@ fn output_that_takes_nothing_more(rt: HostRuntime) {
     assert!(rt; out.put(b"abc").is_ok());
     assert!(rt; out.put(b"").is_ok());
     assert_eq!(rt; out.put(b"d"), Err(Failed));
+}
+
+const FLUSHED: &str = "file_ports_flushed.txt";
+
+// What was put stands in the file while the sink over it is still there: the writer would else keep so few bytes to itself.
+#[test]
+fn output_is_flushed(rt: HostRuntime) -> Result<(), Fail> {
+    let alloc = rt.alloc();
+    let mut out = HostOut::new(BufWriter::new(alloc, fs::create(&rt, FLUSHED)?)?);
+    let mut files = HostFiles::new(&rt);
+    for (piece, all) in [(b"abc".as_slice(), b"abc".as_slice()), (b"de", b"abcde")] {
+        assert!(rt; out.put(piece).is_ok());
+        let bytes = files.read(alloc, FLUSHED, 9);
+        assert!(rt; matches!(&bytes, Ok(bytes) if bytes.as_slice() == all));
+    }
+    Ok(fs::remove_file(&rt, FLUSHED)?)
 }

@@ -1,23 +1,49 @@
--- How a run ends, by what its words ask for, and what it prints.
-use Rattle.std.specs.Prelude.{◌≡◌, ◌⊎◌, ℕ, List, Option, Some, None}
-use Rattle.file_ports.specs.Ports.{Rose, Grown, GrownInPart}
-use Rattle.command_line.specs.Line.{Request, Presolve, Check, Postsolve}
-use Rattle.endings.specs.Ending.{status_of, text_of}
-use Rattle.endings.specs.Moments.{Moment}
-use Rattle.endings.specs.declared.ending.Ending.{Ending}
-use Rattle.endings.specs.declared.ending.Ending.TheVariants.{Usage, NoMemory}
-use Rattle.presolve_command.specs.Presolved.{EndsPresolve}
-use Rattle.check_command.specs.Checked.{EndsCheck}
-use Rattle.postsolve_command.specs.Postsolved.{EndsPostsolve}
+-- How a run ends, by what its words ask for: its status, what it prints, and what it does to files.
+use Rattle.std.specs.Prelude.{◌≡◌, ◌⊎◌, ◌==◌, ℕ, false, List, Option, Some, None}
+use Rattle.file_ports.specs.Ports.{Moment, Rose, Grown, GrownInPart, KeepsOthers}
+use Rattle.command_line.specs.Line.{Request, Presolve, Check, Postsolve, is_taken, selected}
+use Rattle.endings.specs.Ending.{When, no_memory_line, usage_line}
+use Rattle.endings.specs.Moments.{IsQuiet, IsThere, KeepsAllBut}
+use Rattle.presolve_command.specs.Presolved as presolve
+use Rattle.check_command.specs.Checked as check
+use Rattle.postsolve_command.specs.Postsolved as postsolve
 
--- what an ending says of what the words ask for; none where they are refused
-abbrev pub Ends : Option Request → Ending → Moment → Moment → Type 0
-Ends None ending before now = ((ending ≡ Usage) ⊎ (ending ≡ NoMemory)) × (now.told ≡ before.told)
-Ends (Some (Presolve names)) ending before now = EndsPresolve names ending before now
-Ends (Some (Check names)) ending before now = EndsCheck names ending before now
-Ends (Some (Postsolve names)) ending before now = EndsPostsolve names ending before now
+-- what a run says at a status, with what it prints; the words that ask for nothing are refused
+abbrev pub Ends : Option Request → ℕ → List ℕ → Moment → Moment → Type 0
+Ends None status printed before now =
+    When (status == 1) (IsQuiet before now × (printed ≡ usage_line))
+    (When (status == 5) (IsQuiet before now × (printed ≡ no_memory_line))
+    ⊥)
+Ends (Some (Presolve names)) status printed before now = presolve.EndsPresolve names status printed before now
+Ends (Some (Check names)) status printed before now = check.EndsCheck names status printed before now
+Ends (Some (Postsolve names)) status printed before now = postsolve.EndsPostsolve names status printed before now
 
--- The sink took the text and the status is the ending's; or the sink failed, having taken a prefix, and the status is 4.
-abbrev pub Prints : ℕ → Ending → Option (List ℕ) → Option (List ℕ) → ℕ → ℕ → Type 0
-Prints status ending old new before now =
-    ((status ≡ status_of ending) × Grown old new (text_of ending)) ⊎ ((status ≡ 4) × GrownInPart old new (text_of ending) × Rose before now)
+-- The sink took all that is printed, and the run answers the status; or the sink failed, having taken a prefix, and the run answers 4.
+abbrev pub Prints : ℕ → ℕ → List ℕ → Option (List ℕ) → Option (List ℕ) → ℕ → ℕ → Type 0
+Prints answer status printed old new before now =
+    ((answer ≡ status) × Grown old new printed) ⊎ ((answer ≡ 4) × GrownInPart old new printed × Rose before now)
+
+-- a write failed of what the words ask to write
+abbrev pub IsUnwritten : Option Request → Moment → Moment → Type 0
+IsUnwritten None before now = ⊥
+IsUnwritten (Some (Presolve names)) before now = presolve.IsUnwritten names before now
+IsUnwritten (Some (Check names)) before now = ⊥
+IsUnwritten (Some (Postsolve names)) before now = postsolve.IsUnwritten names before now
+
+-- all names tell what they told but those that the words ask to write
+abbrev pub KeepsUnasked : Option Request → Moment → Moment → Type 0
+KeepsUnasked None before now = IsQuiet before now
+KeepsUnasked (Some (Presolve names)) before now = KeepsAllBut before.told now.told names.output names.records
+KeepsUnasked (Some (Check names)) before now = IsQuiet before now
+KeepsUnasked (Some (Postsolve names)) before now = KeepsOthers before.told now.told names.result
+
+-- no name that the words ask to read is told as missing
+abbrev pub AreThere : Option Request → Moment → Type 0
+AreThere None before = Unit {0}
+AreThere (Some (Presolve names)) before = IsThere (before.told names.input)
+AreThere (Some (Check names)) before = IsThere (before.told names.input) × IsThere (before.told names.solution)
+AreThere (Some (Postsolve names)) before = IsThere (before.told names.program) × IsThere (before.told names.records) × IsThere (before.told names.solution)
+
+-- clap does not take the words, or there is no command with its names in what it finds in them, or OUT and REC are equal
+abbrev pub AreRefused : List (List ℕ) → Type 0
+AreRefused words = (is_taken words ≡ false) ⊎ (selected words ≡ None)

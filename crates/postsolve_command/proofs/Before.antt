@@ -1,6 +1,6 @@
 -- What holds of a write since reads holds since before them.
 use Rattle.std.proofs.Common.{◌≡◌, ℕ, List, subst}
-use Rattle.file_ports.specs.Ports.{Told, Rose, NeverFall, KeepsOthers, Written}
+use Rattle.file_ports.specs.Ports.{Told, Rose, NeverFall, KeepsOthers, Unsettled, Written}
 use Rattle.endings.proofs.Earlier.{rose_earlier}
 
 pub written_since : (old mid new : List ℕ → Told) (name held text : List ℕ) → mid ≡ old → held ≡ text → Written (mid name) (new name) held → Written (old name) (new name) text
@@ -14,3 +14,6 @@ kept_since old mid new name same h = subst (λ t. KeepsOthers t new name) same h
 
 pub rose_since : (before between now : List ℕ → ℕ) (name : List ℕ) → NeverFall before between → Rose (between name) (now name) → Rose (before name) (now name)
 rose_since before between now name stays h = rose_earlier (before name) (between name) (now name) (stays name) h
+
+pub unsettled_since : (old mid new : List ℕ → Told) (name : List ℕ) → mid ≡ old → Unsettled (mid name) (new name) → Unsettled (old name) (new name)
+unsettled_since old mid new name same h = subst (λ (t : List ℕ → Told). Unsettled (t name) (new name)) same h

@@ -1,7 +1,8 @@
 -- What is made of three texts, by what reads found of them.
 use Rattle.std.proofs.Common.{◌≡◌, ℕ, List, inl, inr, Option, Some, None, Result, Ok, Err, sym, subst}
+use Rattle.std.specs.Option.{option_map}
 use Rattle.rational.specs.Number.{Number}
-use Rattle.file_ports.specs.Ports.{Told}
+use Rattle.file_ports.specs.Ports.{Moment}
 use Rattle.command_line.specs.Line.{PostsolveNames}
 use Rattle.lp_model.specs.ProgramData.{ProgramData}
 use Rattle.lp_model.specs.Names.{names_of_columns}
@@ -9,50 +10,48 @@ use Rattle.mps_profile.specs.Reading.{first_fault}
 use Rattle.point_text.specs.Reading as solutions
 use Rattle.record_reader.specs.Reading as record_texts
 use Rattle.undo_records.specs.Postsolve.{Postsolve}
-use Rattle.endings.specs.Moments.{Moment, Reads, Finds}
-use Rattle.endings.specs.ProgramTexts.{IsProgramOf, SaysFaultOf}
+use Rattle.endings.specs.Moments.{Finds, IsThere, Reads}
+use Rattle.endings.specs.ProgramTexts.{IsProgramOf}
 use Rattle.endings.specs.SolutionTexts.{IsPointOf, SaysSolutionFault}
 use Rattle.endings.specs.declared.reads.TheConstants.{SOLUTION_LIMIT}
-use Rattle.endings.proofs.Earlier.{given_reads}
+use Rattle.endings.proofs.Earlier.{finds_there, given_reads}
 use Rattle.postsolve_command.specs.RecordTexts.{AreRecordsOf, SaysRecordFault}
 use Rattle.postsolve_command.specs.Lifted.{GivesTexts}
 use Rattle.postsolve_command.specs.Given.{FaultsMatch, FaultsProgram, FaultsRecords, FaultsSolution, GivesPoint, GivesProgram, GivesRecords, IfFound, reduced_dialect}
-use Rattle.postsolve_command.specs.Postsolved.{AreMatched, IsBrought}
+use Rattle.postsolve_command.specs.Postsolved.{AreFound, AreMatched, AreRecordsIn, IsBrought, IsPointIn, IsProgramIn, RefusesProgram}
 use Rattle.postsolve_command.specs.declared.given.TheConstants.{PROGRAM_LIMIT, RECORDS_LIMIT}
+use Rattle.postsolve_command.specs.declared.given.Found.{Found}
 use Rattle.postsolve_command.specs.declared.lifted.Texts.{Texts}
 use Rattle.postsolve_command.specs.declared.refusal.Refusal.{Refusal}
 use Rattle.postsolve_command.specs.declared.refusal.Refusal.TheVariants.{Program, Records, Solution, Stopped, NoMemory}
 
 -- what was found has a property: so has what is told
-found_reads : (found : Option (List ℕ)) (told : Told) (limit before now : ℕ) (P : List ℕ → Type 0) → Finds told limit before now found → IfFound found P → Reads told P
-found_reads None told limit before now P finds has = absurd has
-found_reads (Some text) told limit before now P finds has = given_reads told text P finds.0 has
+found_reads : (limit : ℕ) (name : List ℕ) (before now : Moment) (found : Option (List ℕ)) (P : List ℕ → Type 0)
+    → Finds limit name before now found → IfFound found P → Reads limit (before.told name) P
+found_reads limit name before now None P finds has = absurd has
+found_reads limit name before now (Some text) P finds has = given_reads limit (before.told name) text P finds.0 finds.1 has
 
 pub program_given : (names : PostsolveNames) (before now : Moment) (found : Option (List ℕ)) (program : ProgramData)
-    → Finds (before.told names.program) PROGRAM_LIMIT (before.overlong PROGRAM_LIMIT names.program) (now.overlong PROGRAM_LIMIT names.program) found
-    → IfFound found (λ text. IsProgramOf reduced_dialect text program) → Reads (before.told names.program) (λ text. IsProgramOf reduced_dialect text program)
-program_given names before now found program finds has = found_reads found _ PROGRAM_LIMIT _ _ (λ text. IsProgramOf reduced_dialect text program) finds has
+    → Finds PROGRAM_LIMIT names.program before now found → IfFound found (λ text. IsProgramOf reduced_dialect text program) → IsProgramIn names before program
+program_given names before now found program finds has = found_reads PROGRAM_LIMIT names.program before now found (λ text. IsProgramOf reduced_dialect text program) finds has
 
 pub records_given : (names : PostsolveNames) (before now : Moment) (found : Option (List ℕ)) (records : Postsolve)
-    → Finds (before.told names.records) RECORDS_LIMIT (before.overlong RECORDS_LIMIT names.records) (now.overlong RECORDS_LIMIT names.records) found
-    → IfFound found (λ text. AreRecordsOf text records) → Reads (before.told names.records) (λ text. AreRecordsOf text records)
-records_given names before now found records finds has = found_reads found _ RECORDS_LIMIT _ _ (λ text. AreRecordsOf text records) finds has
+    → Finds RECORDS_LIMIT names.records before now found → IfFound found (λ text. AreRecordsOf text records) → AreRecordsIn names before records
+records_given names before now found records finds has = found_reads RECORDS_LIMIT names.records before now found (λ text. AreRecordsOf text records) finds has
 
 pub point_given : (names : PostsolveNames) (before now : Moment) (found : Option (List ℕ)) (program : ProgramData) (point : List Number)
-    → Finds (before.told names.solution) SOLUTION_LIMIT (before.overlong SOLUTION_LIMIT names.solution) (now.overlong SOLUTION_LIMIT names.solution) found
-    → IfFound found (λ text. IsPointOf program text point) → Reads (before.told names.solution) (λ text. IsPointOf program text point)
-point_given names before now found program point finds has = found_reads found _ SOLUTION_LIMIT _ _ (λ text. IsPointOf program text point) finds has
+    → Finds SOLUTION_LIMIT names.solution before now found → IfFound found (λ text. IsPointOf program text point) → IsPointIn names before program point
+point_given names before now found program point finds has = found_reads SOLUTION_LIMIT names.solution before now found (λ text. IsPointOf program text point) finds has
 
 program_line : (names : PostsolveNames) (before now : Moment) (found : Option (List ℕ)) (said : List ℕ)
-    → Finds (before.told names.program) PROGRAM_LIMIT (before.overlong PROGRAM_LIMIT names.program) (now.overlong PROGRAM_LIMIT names.program) found
-    → FaultsProgram found said → SaysFaultOf PROGRAM_LIMIT reduced_dialect names.program said before now
-program_line names before now None said finds says = inr (finds.0, finds.1, says)
+    → Finds PROGRAM_LIMIT names.program before now found → FaultsProgram found said → RefusesProgram names said before now
+program_line names before now None said finds says = inr (finds, says)
 program_line names before now (Some text) said finds says =
     let fault = says.0 in
-    inl (fault, given_reads (before.told names.program) text (λ t. first_fault reduced_dialect t ≡ Some (fault.kind, fault.line)) finds.0 says.1, says.2)
+    inl (fault, given_reads PROGRAM_LIMIT (before.told names.program) text (λ t. first_fault reduced_dialect t ≡ Some (fault.kind, fault.line)) finds.0 finds.1 says.1, says.2)
 
 pub program_refused : (names : PostsolveNames) (before now : Moment) (found : Option (List ℕ)) (refusal : Refusal)
-    → Finds (before.told names.program) PROGRAM_LIMIT (before.overlong PROGRAM_LIMIT names.program) (now.overlong PROGRAM_LIMIT names.program) found
+    → Finds PROGRAM_LIMIT names.program before now found
     → GivesProgram found (Err refusal) → IsBrought names (Err refusal) before now
 program_refused names before now found (Program line) finds gives = program_line names before now found line.items finds gives
 program_refused names before now found (Records line) finds gives = absurd gives
@@ -61,16 +60,16 @@ program_refused names before now found (Stopped line) finds gives = absurd gives
 program_refused names before now found NoMemory finds gives = tt
 
 records_line : (names : PostsolveNames) (before now : Moment) (found : Option (List ℕ)) (said : List ℕ)
-    → Finds (before.told names.records) RECORDS_LIMIT (before.overlong RECORDS_LIMIT names.records) (now.overlong RECORDS_LIMIT names.records) found
+    → Finds RECORDS_LIMIT names.records before now found
     → FaultsRecords found said → SaysRecordFault names.records said before now
-records_line names before now None said finds says = inr (finds.0, finds.1, says)
+records_line names before now None said finds says = inr (finds, says)
 records_line names before now (Some text) said finds says =
     let fault = says.0 in
-    inl (fault, given_reads (before.told names.records) text (λ t. record_texts.first_fault t ≡ Some (fault.kind, fault.line)) finds.0 says.1, says.2)
+    inl (fault, given_reads RECORDS_LIMIT (before.told names.records) text (λ t. record_texts.first_fault t ≡ Some (fault.kind, fault.line)) finds.0 finds.1 says.1, says.2)
 
 pub records_refused : (names : PostsolveNames) (before now : Moment) (found : Option (List ℕ)) (program : ProgramData) (refusal : Refusal)
-    → Finds (before.told names.records) RECORDS_LIMIT (before.overlong RECORDS_LIMIT names.records) (now.overlong RECORDS_LIMIT names.records) found
-    → Reads (before.told names.program) (λ text. IsProgramOf reduced_dialect text program) → GivesRecords found (Err refusal) → IsBrought names (Err refusal) before now
+    → Finds RECORDS_LIMIT names.records before now found
+    → IsProgramIn names before program → GivesRecords found (Err refusal) → IsBrought names (Err refusal) before now
 records_refused names before now found program (Program line) finds read gives = absurd gives
 records_refused names before now found program (Records line) finds read gives = (program, read, inl (records_line names before now found line.items finds gives))
 records_refused names before now found program (Solution line) finds read gives = absurd gives
@@ -78,7 +77,7 @@ records_refused names before now found program (Stopped line) finds read gives =
 records_refused names before now found program NoMemory finds read gives = tt
 
 pub match_refused : (names : PostsolveNames) (before now : Moment) (program : ProgramData) (records : Postsolve) (refusal : Refusal)
-    → Reads (before.told names.program) (λ text. IsProgramOf reduced_dialect text program) → Reads (before.told names.records) (λ text. AreRecordsOf text records)
+    → IsProgramIn names before program → AreRecordsIn names before records
     → FaultsMatch records program refusal → IsBrought names (Err refusal) before now
 match_refused names before now program records (Program line) read held gives = absurd gives
 match_refused names before now program records (Records line) read held gives = (program, read, inr (records, held, gives.0, gives.1))
@@ -87,17 +86,17 @@ match_refused names before now program records (Stopped line) read held gives = 
 match_refused names before now program records NoMemory read held gives = tt
 
 point_line : (names : PostsolveNames) (before now : Moment) (found : Option (List ℕ)) (program : ProgramData) (said : List ℕ)
-    → Finds (before.told names.solution) SOLUTION_LIMIT (before.overlong SOLUTION_LIMIT names.solution) (now.overlong SOLUTION_LIMIT names.solution) found
+    → Finds SOLUTION_LIMIT names.solution before now found
     → FaultsSolution program found said
-    → SaysSolutionFault program (before.told names.solution) (before.overlong SOLUTION_LIMIT names.solution) (now.overlong SOLUTION_LIMIT names.solution) said
-point_line names before now None program said finds says = inr (finds.0, finds.1, says)
+    → SaysSolutionFault program names.solution said before now
+point_line names before now None program said finds says = inr (finds, says)
 point_line names before now (Some text) program said finds says =
     let fault = says.0 in
-    inl (fault, given_reads (before.told names.solution) text (λ t. solutions.first_fault (names_of_columns program.columns) t ≡ Some (fault.kind, fault.line)) finds.0 says.1, says.2)
+    inl (fault, given_reads SOLUTION_LIMIT (before.told names.solution) text (λ t. solutions.first_fault (names_of_columns program.columns) t ≡ Some (fault.kind, fault.line)) finds.0 finds.1 says.1, says.2)
 
 pub point_refused : (names : PostsolveNames) (before now : Moment) (found : Option (List ℕ)) (program : ProgramData) (records : Postsolve) (refusal : Refusal)
-    → Finds (before.told names.solution) SOLUTION_LIMIT (before.overlong SOLUTION_LIMIT names.solution) (now.overlong SOLUTION_LIMIT names.solution) found
-    → AreMatched names before.told program records → GivesPoint program found (Err refusal) → IsBrought names (Err refusal) before now
+    → Finds SOLUTION_LIMIT names.solution before now found
+    → AreMatched names before program records → GivesPoint program found (Err refusal) → IsBrought names (Err refusal) before now
 point_refused names before now found program records (Program line) finds read gives = absurd gives
 point_refused names before now found program records (Records line) finds read gives = absurd gives
 point_refused names before now found program records (Solution line) finds read gives =
@@ -106,7 +105,7 @@ point_refused names before now found program records (Stopped line) finds read g
 point_refused names before now found program records NoMemory finds read gives = tt
 
 pub brought : (names : PostsolveNames) (before now : Moment) (program : ProgramData) (records : Postsolve) (point : List Number) (result : Result Texts Refusal)
-    → AreMatched names before.told program records → Reads (before.told names.solution) (λ text. IsPointOf program text point)
+    → AreMatched names before program records → IsPointIn names before program point
     → GivesTexts records point result → IsBrought names result before now
 brought names before now program records point (Ok texts) read held gives =
     record { records = records; point = point; given = record { program = program; read = read; point_text = held }; texts = gives }
@@ -125,3 +124,17 @@ handed_on names before now result given refusal is same h =
 
 pub refused_as : (names : PostsolveNames) (before now : Moment) (given refusal : Refusal) → given ≡ refusal → IsBrought names (Err given) before now → IsBrought names (Err refusal) before now
 refused_as names before now given refusal same h = subst (λ e. IsBrought names (Err e) before now) same h
+
+pub found_so : (names : PostsolveNames) (found : Found) (before now : Moment) → Finds PROGRAM_LIMIT names.program before now (option_map (λ text. text.items) found.program)
+    → Finds RECORDS_LIMIT names.records before now (option_map (λ text. text.items) found.records)
+    → Finds SOLUTION_LIMIT names.solution before now (option_map (λ text. text.items) found.solution) → AreFound names found before now
+found_so names found before now p r s = record { program = p; records = r; solution = s }
+
+-- what was found is there
+pub found_there : (names : PostsolveNames) (found : Found) (before now : Moment) → AreFound names found before now
+    → IsThere (before.told names.program) × IsThere (before.told names.records) × IsThere (before.told names.solution)
+found_there names found before now f = (
+  finds_there PROGRAM_LIMIT names.program before now _ f.program,
+  finds_there RECORDS_LIMIT names.records before now _ f.records,
+  finds_there SOLUTION_LIMIT names.solution before now _ f.solution,
+)

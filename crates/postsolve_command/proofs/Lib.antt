@@ -1,4 +1,3 @@
 mod Before
 mod Columns
 mod Brought
-pub mod Said

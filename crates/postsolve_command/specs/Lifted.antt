@@ -1,7 +1,8 @@
 -- What records make of a reduced point, and the texts of that.
-use Rattle.std.specs.Prelude.{◌≡◌, ℕ, List, [], ◌∷◌, ◌++◌, codes, length, map, Result, Ok, Err}
+use Rattle.std.specs.Prelude.{◌≡◌, ℕ, List, [], ◌∷◌, ◌++◌, codes, length, map, Result, Ok, Err, All}
 use Rattle.std.specs.Fmt.{decimal}
 use Rattle.rational.specs.Number.{Number}
+use Rattle.rational.specs.Lowest.{Fits}
 use Rattle.lp_model.specs.Vectors.{Vector, vector_of}
 use Rattle.point_text.specs.SolutionText.{solution_text}
 use Rattle.record_reader.specs.Matching.{live_names}
@@ -16,9 +17,10 @@ use Rattle.postsolve_command.specs.declared.lifted.Texts.{Texts}
 abbrev pub point_at : Postsolve → List Number → Vector
 point_at records point = vector_of (placed records.columns point)
 
--- the lift of a reduced point has room, and these are its numbers, one for each original column
+-- the lift of a reduced point has room, and these are its numbers, one for each original column; each fits in 128 bits
 pub record IsLift (records : Postsolve) (point lifted : List Number) : Type 0 where
   pub fits : LiftFits records.undos (point_at records point)
+  pub room : All Fits lifted
   pub size : length lifted ≡ length records.columns
   pub is : vector_of lifted ≡ lift records.undos (point_at records point)
 

@@ -1,8 +1,8 @@
 -- What is said of the text of records: what it gives, or its first fault.
 use Rattle.std.specs.Prelude.{◌≡◌, ◌⊎◌, ℕ, List, [], ◌∷◌, ◌++◌, codes, Some, None}
 use Rattle.std.specs.Fmt.{decimal}
-use Rattle.file_ports.specs.Ports.{Rose, IsLonger}
-use Rattle.endings.specs.Moments.{Moment, Reads}
+use Rattle.file_ports.specs.Ports.{Moment}
+use Rattle.endings.specs.Moments.{IsOverlong, Reads}
 use Rattle.record_reader.specs.Faults.{number_of_kind}
 use Rattle.record_reader.specs.Reading.{first_fault, records_of}
 use Rattle.record_reader.specs.declared.faults.RecordFault.{RecordFault}
@@ -20,6 +20,5 @@ record_fault_text fault = codes "error F" ++ (decimal (number_of_kind fault.kind
 -- what is said of the text of records by this name: its first fault; or that it is longer than is read
 abbrev pub SaysRecordFault : List ℕ → List ℕ → Moment → Moment → Type 0
 SaysRecordFault name said before now =
-    ((fault : RecordFault) × Reads (before.told name) (λ text. first_fault text ≡ Some (fault.kind, fault.line)) × (said ≡ record_fault_text fault))
-    ⊎ (IsLonger (before.told name) RECORDS_LIMIT × Rose (before.overlong RECORDS_LIMIT name) (now.overlong RECORDS_LIMIT name)
-    × (said ≡ codes "error F8" ++ 10 ∷ []))
+    ((fault : RecordFault) × Reads RECORDS_LIMIT (before.told name) (λ text. first_fault text ≡ Some (fault.kind, fault.line)) × (said ≡ record_fault_text fault))
+    ⊎ (IsOverlong RECORDS_LIMIT name before now × (said ≡ codes "error F8" ++ 10 ∷ []))

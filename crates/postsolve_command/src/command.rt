@@ -1,13 +1,14 @@
 //! The command `postsolve OUT REC SOL RESULT`.
 
-ghost use Rattle.std.specs.Prelude.{◌≡◌, ◌≤◌, ◌⊎◌, length, option_map, IfOk, IfSome, OnErr, IsErrOf};
-ghost use Rattle.file_ports.specs.Ports.{Rose, NeverFall};
+ghost use Rattle.std.specs.Prelude.{◌≤◌, length, option_map, IfOk, IfSome, OnErr, IsErrOf};
+ghost use Rattle.file_ports.specs.Ports.{Moment, NeverFall};
 ghost use Rattle.command_line.specs.Line.{PostsolveNames};
 ghost use Rattle.command_line.specs.Seen.{postsolve_names_of};
-ghost use Rattle.endings.specs.Moments.{Finds, Moment};
+ghost use Rattle.endings.specs.Ending.{status_of, text_of};
+ghost use Rattle.endings.specs.Moments.{Finds, IsQuiet};
 ghost use Rattle.endings.specs.declared.reads.TheConstants.{SOLUTION_LIMIT};
 ghost use Rattle.postsolve_command.specs.declared.given.TheConstants.{PROGRAM_LIMIT, RECORDS_LIMIT};
-ghost use Rattle.postsolve_command.specs.Postsolved.{AreFound, EndsPostsolve, IsBrought};
+ghost use Rattle.postsolve_command.specs.Postsolved.{AreFound, EndsPostsolve, IsBrought, IsUnread};
 
 use crate::given::{
     Found, PROGRAM_LIMIT, RECORDS_LIMIT, point_of, program_of, records_of, see_match,
@@ -25,19 +26,14 @@ fn read_all<F: Files>(
     words: &PostsolveWords<'_>,
     files: &mut F,
 ) -> Result<Found, Unread>
-    ensures program { IfOk result (λ found. Finds (F.told files.old words.now.program.now) PROGRAM_LIMIT
-        (F.overlong files.old PROGRAM_LIMIT words.now.program.now) (F.overlong files.new PROGRAM_LIMIT words.now.program.now) (option_map (λ text. text.items) found.program)) }
-    ensures records { IfOk result (λ found. Finds (F.told files.old words.now.records.now) RECORDS_LIMIT
-        (F.overlong files.old RECORDS_LIMIT words.now.records.now) (F.overlong files.new RECORDS_LIMIT words.now.records.now) (option_map (λ text. text.items) found.records)) }
-    ensures solution { IfOk result (λ found. Finds (F.told files.old words.now.solution.now) SOLUTION_LIMIT
-        (F.overlong files.old SOLUTION_LIMIT words.now.solution.now) (F.overlong files.new SOLUTION_LIMIT words.now.solution.now) (option_map (λ text. text.items) found.solution)) }
+    ensures program { IfOk result (λ found. Finds PROGRAM_LIMIT words.now.program.now (F.moment files.old) (F.moment files.new) (option_map (λ text. text.items) found.program)) }
+    ensures records { IfOk result (λ found. Finds RECORDS_LIMIT words.now.records.now (F.moment files.old) (F.moment files.new) (option_map (λ text. text.items) found.records)) }
+    ensures solution { IfOk result (λ found. Finds SOLUTION_LIMIT words.now.solution.now (F.moment files.old) (F.moment files.new) (option_map (λ text. text.items) found.solution)) }
     ensures most_of_program { IfOk result (λ found. IfSome found.program (λ text. length text.items ≤ PROGRAM_LIMIT)) }
     ensures most_of_records { IfOk result (λ found. IfSome found.records (λ text. length text.items ≤ RECORDS_LIMIT)) }
-    ensures failed { IsErrOf result Unread.Failed → Rose (F.read_faults files.old words.now.program.now) (F.read_faults files.new words.now.program.now)
-        ⊎ Rose (F.read_faults files.old words.now.records.now) (F.read_faults files.new words.now.records.now)
-        ⊎ Rose (F.read_faults files.old words.now.solution.now) (F.read_faults files.new words.now.solution.now) }
-    ensures kept { F.told files.new ≡ F.told files.old }
-    ensures writes_stay { NeverFall (F.write_faults files.old) (F.write_faults files.new) }
+    ensures failed { IsErrOf result Unread.Failed → IsUnread (postsolve_names_of words.now) (F.moment files.old) (F.moment files.new) }
+    ensures kept { IsQuiet (F.moment files.old) (F.moment files.new) }
+    ensures writes_stay { NeverFall (F.moment files.old).writes (F.moment files.new).writes }
 {
     let program = read_within(alloc, words.program, PROGRAM_LIMIT, files)?;
     let records = read_within(alloc, words.records, RECORDS_LIMIT, files)?;
@@ -74,10 +70,8 @@ pub fn postsolve<F: Files>(
     words: &PostsolveWords<'_>,
     files: &mut F,
 ) -> Result<Ending, AllocError>
-    ensures ends { IfOk result (λ e. EndsPostsolve (postsolve_names_of words.now) e
-        (record { told = F.told files.old; reads = F.read_faults files.old; writes = F.write_faults files.old; overlong = F.overlong files.old })
-        (record { told = F.told files.new; reads = F.read_faults files.new; writes = F.write_faults files.new; overlong = F.overlong files.new })) }
-    ensures no_memory { OnErr result (F.told files.new ≡ F.told files.old) }
+    ensures ends { IfOk result (λ e. EndsPostsolve (postsolve_names_of words.now) (status_of e) (text_of e) (F.moment files.old) (F.moment files.new)) }
+    ensures no_memory { OnErr result (IsQuiet (F.moment files.old) (F.moment files.new)) }
 {
     let found = match read_all(alloc, words, files) {
         Ok(found) => found,

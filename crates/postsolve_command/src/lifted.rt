@@ -1,7 +1,8 @@
 //! The lift of a point, and its texts.
 
-ghost use Rattle.std.specs.Prelude.{◌≡◌, ◌++◌, [], ◌∷◌, codes, length, IfOk};
+ghost use Rattle.std.specs.Prelude.{◌≡◌, ◌++◌, [], ◌∷◌, codes, length, All, IfOk};
 ghost use Rattle.std.specs.Fmt.{decimal};
+ghost use Rattle.rational.specs.Lowest.{Fits};
 ghost use Rattle.point_text.specs.SolutionText.{solution_text};
 ghost use Rattle.record_reader.specs.Matching.{Matches};
 ghost use Rattle.postsolve_command.specs.Lifted.{GivesTexts, Lifts, column_names, columns_text};
@@ -29,13 +30,32 @@ fn stop_line(alloc: Global, at: usize) -> Result<Vec<u8>, AllocError>
     Vec::from_slice(alloc, text.as_bytes())
 }
 
+/// A number has room. Says so, and does nothing.
+fn number_fits(number: &Frac)
+    ensures { Fits number.now }
+{
+    let _parts = number.parts();
+}
+
+/// Each number has room. Says so, and does nothing.
+fn numbers_fit(numbers: &[Frac])
+    ensures { All Fits numbers.now }
+{
+    for number in numbers {
+        number_fits(number);
+    }
+}
+
 /// The original point that the records make of a reduced one.
 fn lifted(alloc: Global, records: &Records, point: &Point) -> Result<PointBuf, Refusal>
     ensures { Lifts records.now point.now result }
 {
     let mut buffer = PointBuf::new(alloc, records, point)?;
     match lift(records, &mut buffer) {
-        Ok(()) => Ok(buffer),
+        Ok(()) => {
+            numbers_fit(buffer.as_slice());
+            Ok(buffer)
+        }
         Err(stop) => Err(Refusal::Stopped(stop_line(alloc, stop.at)?)),
     }
 }

@@ -1,4 +1,3 @@
 mod Before
 mod Made
 mod PlainKept
-pub mod Said

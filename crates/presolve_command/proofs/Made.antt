@@ -1,5 +1,5 @@
 -- What is made of a text's program is made of the text.
-use Rattle.std.proofs.Common.{◌≡◌, ℕ, List, Result, Ok, Err, ◌∙◌, sym, subst}
+use Rattle.std.proofs.Common.{◌≡◌, ◌≤◌, ℕ, List, length, Result, Ok, Err, ◌∙◌, sym, subst}
 use Rattle.file_ports.specs.Ports.{Told, Gives}
 use Rattle.lp_model.specs.ProgramData.{ProgramData}
 use Rattle.lp_model.specs.Meaning.{meaning}
@@ -18,7 +18,7 @@ use Rattle.presolve_rounds.specs.declared.outcome.ReducedProgram.{ReducedProgram
 use Rattle.presolve_command.specs.declared.reduce.Texts.{Texts}
 use Rattle.presolve_command.specs.declared.reduce.NotReduced.{NotReduced}
 use Rattle.presolve_command.specs.declared.reduce.NotReduced.TheVariants.{Fault, Infeasible, NoMemory}
-use Rattle.presolve_command.specs.Texts.{HasNoPoint, IsMade, IsReduced, Outcome, options_for}
+use Rattle.presolve_command.specs.Texts.{HasNoPoint, IsConcluded, IsMade, IsReduced, Outcome, options_for}
 
 pub made_reduced : (dialect : Dialect) (limit : ℕ) (text : List ℕ) (program : ProgramData) (r : Result Texts NotReduced)
     → IsProgramOf dialect text program → IsMade (options_for dialect limit) program r → IsReduced dialect limit text r
@@ -28,16 +28,17 @@ made_reduced dialect limit text program (Err Infeasible) read made = (read.0, su
 made_reduced dialect limit text program (Err NoMemory) read made = tt
 
 -- what a read gave has a program without a feasible point: so has what is told
-pub no_point_read : (told : Told) (d e : Dialect) (held text : List ℕ) → Gives told held → d ≡ e → text ≡ held → HasNoPoint d text → Reads told (λ t. HasNoPoint e t)
-no_point_read told d e held text gives same is h =
+pub no_point_read : (limit : ℕ) (told : Told) (d e : Dialect) (held text : List ℕ) → Gives told held → length held ≤ limit → d ≡ e → text ≡ held → HasNoPoint d text
+    → Reads limit told (λ t. HasNoPoint e t)
+no_point_read limit told d e held text gives most same is h =
     let P : Dialect → Type 0 = λ x. HasNoPoint x text in
     let Q : List ℕ → Type 0 = λ t. HasNoPoint e t in
-    given_reads told held Q gives (subst Q is (subst P same h))
+    given_reads limit told held Q gives most (subst Q is (subst P same h))
 
 -- what was concluded as one dialect says was concluded as the same dialect says
-pub concluded_so : (o : Outcome) (limit : ℕ) {d e : Dialect} → d ≡ e → Concluded (options_for d limit) o.source o.program o.records o.report.end
-    → Concluded (options_for e limit) o.source o.program o.records o.report.end
-concluded_so o limit same h = subst (λ (x : Dialect). Concluded (options_for x limit) o.source o.program o.records o.report.end) same h
+pub concluded_so : (o : Outcome) (limit : ℕ) (program records printed : List ℕ) {d e : Dialect} → d ≡ e → IsConcluded (options_for d limit) o program records printed
+    → IsConcluded (options_for e limit) o program records printed
+concluded_so o limit program records printed same h = subst (λ (x : Dialect). IsConcluded (options_for x limit) o program records printed) same h
 
 -- what presolve says where it gives a reduced program
 pub concluded_of : (options : Options) (program : ProgramData) (p : Presolved) (made : ReducedProgram) → p ≡ Reduced made → Concludes options program p

@@ -11,8 +11,12 @@ use Rattle.mps_written_lines.specs.Formats.{free_format}
 use Rattle.mps_profile.specs.Reading.{first_fault}
 use Rattle.mps_profile.specs.Program.{program_of}
 use Rattle.mps_round_trip.proofs.Round.{no_fault, again}
-use Rattle.presolve_model.specs.Conclusions.{CarriesNames, HaveNames, live_names, names_in}
-use Rattle.presolve_command.specs.Texts.{Outcome, ReadsBack}
+use Rattle.presolve_model.specs.Conclusions.{CarriesNames, Concluded, HaveNames, live_names, names_in}
+use Rattle.presolve_model.specs.declared.conclusion.Options.{Options}
+use Rattle.record_round_trip.specs.Ranges.{HasRange}
+use Rattle.whole_way.specs.Laws.{TextsComeBack}
+use Rattle.whole_way.specs.Texts.{TextsFit}
+use Rattle.presolve_command.specs.Texts.{AreTexts, ComesBack, Outcome, ReadsBack}
 
 -- what holds of all names holds of those that are live
 live_all : (P : List ℕ → Type 0) (labels : List Label) → All P (names_in labels) → All P (live_names labels)
@@ -37,3 +41,11 @@ reads_back numbers o text carried named w a is = λ h.
       sound = ap (λ (t : List ℕ). first_fault (free_format numbers) t) is ∙ no_fault numbers o.program named.left plain w a;
       same = ap (λ (t : List ℕ). program_of (free_format numbers) t) is ∙ again numbers o.program named.left plain w a;
     }
+
+-- both texts come back by the law of the whole way
+pub comes_back : (options : Options) (o : Outcome) (program records printed : List ℕ) → TextsComeBack
+    → Concluded options o.source o.program o.records o.report.end → AreTexts o program records printed → HasRange o.records → ComesBack o program records
+comes_back options o program records printed law concluded texts range = λ plain.
+    subst (λ (text : List ℕ). TextsFit o.program o.records text records) (sym texts.program_text)
+    (subst (λ (text : List ℕ). TextsFit o.program o.records (mps_text o.program) text) (sym texts.records_text)
+    (law options o.source o.program o.records o.report.end concluded plain range))

@@ -1,62 +1,69 @@
--- What an ending of a presolve says of the files before and after it.
-use Rattle.std.specs.Prelude.{◌≡◌, ◌⊎◌, ℕ, List}
-use Rattle.file_ports.specs.Ports.{Told, Rose, KeepsOthers, Written}
+-- What a presolve says of the files before and after it, by its status and what it prints.
+use Rattle.std.specs.Prelude.{◌≡◌, ◌≢◌, ◌⊎◌, ℕ, ◌==◌, List}
+use Rattle.file_ports.specs.Ports.{Moment, Unsettled, KeepsOthers, Written}
 use Rattle.command_line.specs.Line.{PresolveNames}
 use Rattle.endings.specs.Dialects.{dialect_of}
-use Rattle.endings.specs.Moments.{Moment, KeepsAllBut, Reads}
+use Rattle.endings.specs.Ending.{When, infeasible_line, no_memory_line, read_fault_line, write_fault_line}
+use Rattle.endings.specs.Moments.{FailsToRead, FailsToWrite, IsQuiet, IsThere, KeepsAllBut, Reads}
 use Rattle.endings.specs.ProgramTexts.{IsProgramOf, SaysFaultOf}
 use Rattle.endings.specs.declared.reads.TheConstants.{INPUT_LIMIT}
-use Rattle.endings.specs.declared.ending.Ending.{Ending}
-use Rattle.endings.specs.declared.ending.Ending.TheVariants.{Done, Usage, Refused, ReadFault, WriteFault, NoMemory, NoRoom, RecordsRefused, SolutionRefused, Violated, Infeasible}
-use Rattle.presolve_model.specs.Conclusions.{Concluded}
 use Rattle.presolve_model.specs.declared.conclusion.Options.{Options}
-use Rattle.presolve_command.specs.Texts.{Outcome, AreTexts, HasNoPoint, ReadsBack, options_for}
+use Rattle.presolve_command.specs.Texts.{Outcome, HasNoPoint, IsConcluded, options_for}
 
 -- what presolve is told by the words
 abbrev pub options_in : PresolveNames → Options
 options_in names = options_for (dialect_of names.options) names.options.limit
 
--- presolve concluded some outcome of IN's program; its texts were written, and its report goes with them
-pub record IsPresolved (names : PresolveNames) (printed : List ℕ) (old new : List ℕ → Told) : Type 0 where
+-- IN's text has no fault; presolve concluded some outcome of its program, with these texts
+pub record IsMadeOf (names : PresolveNames) (program records printed : List ℕ) (before : Moment) : Type 0 where
   pub outcome : Outcome
-  pub source : Reads (old names.input) (λ text. IsProgramOf (dialect_of names.options) text outcome.source)
-  pub concluded : Concluded (options_in names) outcome.source outcome.program outcome.records outcome.report.end
+  pub source : Reads INPUT_LIMIT (before.told names.input) (λ text. IsProgramOf (dialect_of names.options) text outcome.source)
+  pub concluded : IsConcluded (options_in names) outcome program records printed
+
+-- both texts were written, and the report goes with them; no other name changed
+pub record IsPresolved (names : PresolveNames) (printed : List ℕ) (before now : Moment) : Type 0 where
   pub program : List ℕ
   pub records : List ℕ
-  pub texts : AreTexts outcome program records printed
-  pub reads_back : ReadsBack (dialect_of names.options).numbers outcome program
-  pub program_written : Written (old names.output) (new names.output) program
-  pub records_written : Written (old names.records) (new names.records) records
-  pub others : KeepsAllBut old new names.output names.records
+  pub made : IsMadeOf names program records printed before
+  pub program_written : Written (before.told names.output) (now.told names.output) program
+  pub records_written : Written (before.told names.records) (now.told names.records) records
+  pub others : KeepsAllBut before.told now.told names.output names.records
 
 -- what is said of IN's text
 abbrev pub SaysFault : PresolveNames → List ℕ → Moment → Moment → Type 0
 SaysFault names said before now = SaysFaultOf INPUT_LIMIT (dialect_of names.options) names.input said before now
 
 -- IN's text has no fault, and its program has no feasible point
-abbrev pub IsInfeasible : PresolveNames → (List ℕ → Told) → Type 0
-IsInfeasible names told = Reads (told names.input) (λ text. HasNoPoint (dialect_of names.options) text)
+abbrev pub IsInfeasible : PresolveNames → Moment → Type 0
+IsInfeasible names before = Reads INPUT_LIMIT (before.told names.input) (λ text. HasNoPoint (dialect_of names.options) text)
+
+-- a write of a name failed: what it tells is not told, or as before
+abbrev pub FailsAt : List ℕ → Moment → Moment → Type 0
+FailsAt name before now = FailsToWrite name before now × Unsettled (before.told name) (now.told name)
 
 -- Of two writes one failed: the first, and all other names stand; or the second, and the first text was written.
--- What was told before and is told now, and the counts of write faults before and now, are by name.
-abbrev pub FailsBetween : List ℕ → List ℕ → List ℕ → (List ℕ → Told) → (List ℕ → Told) → (List ℕ → ℕ) → (List ℕ → ℕ) → Type 0
-FailsBetween first text second old new before now =
-    (KeepsOthers old new first × Rose (before first) (now first))
-    ⊎ (Written (old first) (new first) text × Rose (before second) (now second) × KeepsAllBut old new first second)
+abbrev pub FailsBetween : List ℕ → List ℕ → List ℕ → Moment → Moment → Type 0
+FailsBetween first text second before now =
+    (KeepsOthers before.told now.told first × FailsAt first before now)
+    ⊎ (Written (before.told first) (now.told first) text × FailsAt second before now × KeepsAllBut before.told now.told first second)
 
--- what an ending of a presolve says
-abbrev pub EndsPresolve : PresolveNames → Ending → Moment → Moment → Type 0
-EndsPresolve names (Done text) before now = IsPresolved names text.items before.told now.told
-EndsPresolve names Usage before now = ⊥
-EndsPresolve names (Refused line) before now = SaysFault names line.items before now × (now.told ≡ before.told)
-EndsPresolve names ReadFault before now = (now.told ≡ before.told) × Rose (before.reads names.input) (now.reads names.input)
-EndsPresolve names WriteFault before now = (outcome : Outcome) × (program records printed : List ℕ) × AreTexts outcome program records printed
-    × Reads (before.told names.input) (λ text. IsProgramOf (dialect_of names.options) text outcome.source)
-    × Concluded (options_in names) outcome.source outcome.program outcome.records outcome.report.end
-    × FailsBetween names.output program names.records before.told now.told before.writes now.writes
-EndsPresolve names NoMemory before now = now.told ≡ before.told
-EndsPresolve names (NoRoom line) before now = ⊥
-EndsPresolve names (RecordsRefused line) before now = ⊥
-EndsPresolve names (SolutionRefused line) before now = ⊥
-EndsPresolve names (Violated line) before now = ⊥
-EndsPresolve names Infeasible before now = IsInfeasible names before.told × (now.told ≡ before.told)
+-- what would have been written was made, and one of the two writes failed
+abbrev pub IsUnwritten : PresolveNames → Moment → Moment → Type 0
+IsUnwritten names before now = (program records printed : List ℕ) × IsMadeOf names program records printed before
+    × FailsBetween names.output program names.records before now
+
+-- what a presolve says at a status, with what it prints
+abbrev pub SaysPresolve : PresolveNames → ℕ → List ℕ → Moment → Moment → Type 0
+SaysPresolve names status printed before now =
+    When (status == 0) (IsPresolved names printed before now)
+    (When (status == 2) (SaysFault names printed before now × IsQuiet before now)
+    (When (status == 3) (FailsToRead names.input before now × IsQuiet before now × (printed ≡ read_fault_line))
+    (When (status == 4) (IsUnwritten names before now × (printed ≡ write_fault_line))
+    (When (status == 5) (IsQuiet before now × (printed ≡ no_memory_line))
+    (When (status == 20) (IsInfeasible names before × IsQuiet before now × (printed ≡ infeasible_line))
+    ⊥)))))
+
+-- the same; and where IN could be read, it isn't told as missing
+pub record EndsPresolve (names : PresolveNames) (status : ℕ) (printed : List ℕ) (before now : Moment) : Type 0 where
+  pub says : SaysPresolve names status printed before now
+  pub read : status ≢ 3 → status ≢ 5 → IsThere (before.told names.input)

@@ -15,6 +15,8 @@ use Rattle.presolve_model.specs.declared.conclusion.Options.{Options}
 use Rattle.mps_writer.specs.MpsText.{mps_text}
 use Rattle.record_file.specs.RecordText.{record_text}
 use Rattle.undo_records.specs.Postsolve.{Postsolve}
+use Rattle.record_round_trip.specs.Ranges.{HasRange}
+use Rattle.whole_way.specs.Texts.{TextsFit}
 use Rattle.endings.specs.ProgramTexts.{IsProgramOf}
 use Rattle.presolve_command.specs.declared.report.Report.{Report}
 use Rattle.presolve_command.specs.declared.reduce.Texts.{Texts}
@@ -60,11 +62,17 @@ pub record TextReads (numbers : Numbers) (text : List ℕ) (program : ProgramDat
 abbrev pub ReadsBack : Numbers → Outcome → List ℕ → Type 0
 ReadsBack numbers outcome text = Plain outcome.source → TextReads numbers text outcome.program
 
--- presolve, told this, concludes this outcome of its program, and these are its texts, of which the program's reads back
+-- where the names of what was read are plain, postsolve reads both texts as this program and these records, which go together
+abbrev pub ComesBack : Outcome → List ℕ → List ℕ → Type 0
+ComesBack outcome program records = Plain outcome.source → TextsFit outcome.program outcome.records program records
+
+-- presolve, told this, concludes this outcome of its program, and these are its texts, which read back; the records' numbers have room
 pub record IsConcluded (options : Options) (outcome : Outcome) (program records printed : List ℕ) : Type 0 where
   pub concluded : Concluded options outcome.source outcome.program outcome.records outcome.report.end
+  pub range : HasRange outcome.records
   pub texts : AreTexts outcome program records printed
   pub reads_back : ReadsBack options.numbers outcome program
+  pub comes_back : ComesBack outcome program records
 
 -- what is made of a program: the texts of an outcome of it, or that it has no feasible point
 abbrev pub IsMade : Options → ProgramData → Result Texts NotReduced → Type 0

@@ -3,7 +3,8 @@
 ghost use Rattle.std.specs.Prelude.{◌≡◌, ◌≢◌, IfOk, OnOk, OnErr};
 ghost use Rattle.file_ports.specs.Ports.{Written};
 ghost use Rattle.command_line.specs.Seen.{names_of};
-ghost use Rattle.endings.specs.Moments.{KeepsAllBut};
+ghost use Rattle.endings.specs.Ending.{status_of, text_of};
+ghost use Rattle.endings.specs.Moments.{IsQuiet, KeepsAllBut};
 ghost use Rattle.presolve_command.specs.Presolved.{EndsPresolve, FailsBetween};
 
 use crate::reduce::{NotReduced, Texts, reduce};
@@ -20,11 +21,10 @@ fn write_both<F: Files>(
     files: &mut F,
 ) -> Result<(), Failed>
     requires { output.now ≢ records.now }
-    ensures program { OnOk result (Written (F.told files.old output.now) (F.told files.new output.now) texts.now.program.items) }
-    ensures records { OnOk result (Written (F.told files.old records.now) (F.told files.new records.now) texts.now.records.items) }
-    ensures others { KeepsAllBut (F.told files.old) (F.told files.new) output.now records.now }
-    ensures failed { OnErr result (FailsBetween output.now texts.now.program.items records.now
-        (F.told files.old) (F.told files.new) (F.write_faults files.old) (F.write_faults files.new)) }
+    ensures program { OnOk result (Written ((F.moment files.old).told output.now) ((F.moment files.new).told output.now) texts.now.program.items) }
+    ensures records { OnOk result (Written ((F.moment files.old).told records.now) ((F.moment files.new).told records.now) texts.now.records.items) }
+    ensures others { KeepsAllBut (F.moment files.old).told (F.moment files.new).told output.now records.now }
+    ensures failed { OnErr result (FailsBetween output.now texts.now.program.items records.now (F.moment files.old) (F.moment files.new)) }
 {
     files.write(output, &texts.program)?;
     files.write(records, &texts.records)
@@ -37,10 +37,8 @@ pub fn presolve<F: Files>(
     files: &mut F,
 ) -> Result<Ending, AllocError>
     requires { words.now.output.now ≢ words.now.records.now }
-    ensures ends { IfOk result (λ e. EndsPresolve (names_of words.now) e
-        (record { told = F.told files.old; reads = F.read_faults files.old; writes = F.write_faults files.old; overlong = F.overlong files.old })
-        (record { told = F.told files.new; reads = F.read_faults files.new; writes = F.write_faults files.new; overlong = F.overlong files.new })) }
-    ensures no_memory { OnErr result (F.told files.new ≡ F.told files.old) }
+    ensures ends { IfOk result (λ e. EndsPresolve (names_of words.now) (status_of e) (text_of e) (F.moment files.old) (F.moment files.new)) }
+    ensures no_memory { OnErr result (IsQuiet (F.moment files.old) (F.moment files.new)) }
 {
     let text = match files.read(alloc, words.input, INPUT_LIMIT) {
         Ok(text) => text,

@@ -14,7 +14,9 @@ use mps_writer::{WriteError, write_mps};
 use presolve_model::Options;
 use presolve_rounds::{Presolved, ReducedProgram, presolve};
 use record_file::write_records;
+use record_round_trip::records_have_range;
 use std::alloc::{AllocError, Global};
+use whole_way::laws::texts_come_back;
 
 /// All that a presolve writes and prints.
 #[derive(Drop)]
@@ -141,8 +143,10 @@ fn reduce_program(alloc: Global, program: Program, options: &Options) -> Result<
     ensures { IsMade options.now program result }
 {
     let before = size_of(&program);
+    texts_come_back();
     match presolve(alloc, program, options) {
         Ok(Presolved::Reduced(made)) => {
+            records_have_range(&made.records);
             let report = report_for(&made, before);
             let texts = texts_of(alloc, &made, &report)?;
             Ok(texts)

@@ -1,7 +1,8 @@
 use Rattle.endings.specs.SolutionTexts.{IsPointOf}
+use Rattle.endings.specs.declared.reads.TheConstants.{SOLUTION_LIMIT}
 use Rattle.endings.proofs.Earlier.{given_reads}
 use Rattle.check_command.proofs.judging.judge_text.Goals as goal
 
 pub returns-in-Ok : goal.returns-in-Ok
-returns-in-Ok c = λ solution before now gives. c.judge_point.ensures solution before now
-    (given_reads solution c.args.text.now (λ text. IsPointOf c.args.program.now text c.in-Ok.point) gives c.in-Ok.ensures)
+returns-in-Ok c = λ name before now finds. c.judge_point.ensures name before now
+    (given_reads SOLUTION_LIMIT (before.told name) c.args.text.now (λ text. IsPointOf c.args.program.now text c.in-Ok.point) finds.0 finds.1 c.in-Ok.ensures)

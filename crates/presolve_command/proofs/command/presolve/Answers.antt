@@ -1,43 +1,65 @@
-use Rattle.std.proofs.Common.{subst}
-use Rattle.mps_profile.specs.declared.dialect.Dialect.{Dialect}
-use Rattle.presolve_command.specs.Texts.{ReadsBack}
-use Rattle.endings.proofs.Earlier.{program_read, gives_kept}
-use Rattle.presolve_command.proofs.Before.{fails_earlier, presolved_earlier}
+use Rattle.std.proofs.Common.{Some, refl}
+use Rattle.command_line.specs.Seen.{names_of}
+use Rattle.endings.specs.declared.reads.TheConstants.{INPUT_LIMIT}
+use Rattle.endings.proofs.Earlier.{finds_there, program_read}
+use Rattle.presolve_command.specs.Presolved.{IsMadeOf}
+use Rattle.presolve_command.proofs.Before.{fails_earlier, others_earlier, written_earlier}
 use Rattle.presolve_command.proofs.Made.{concluded_so, infeasible_said, no_point_read}
 use Rattle.presolve_command.proofs.command.presolve.Goals as goal
 
 pub returns-in-Ok-write_both-clause-ends : goal.returns-in-Ok-write_both-clause-ends
 returns-in-Ok-write_both-clause-ends g c =
+    let names = names_of c.args.words.now in
+    let before = g.F.Files.moment c.args.files.now in
+    let between = g.F.Files.moment c.read.new.self in
+    let now = g.F.Files.moment c.write_both.new.files in
     let reduced = c.in-Ok-reduce.ensures in
-    let outcome = reduced.0 in
-    presolved_earlier _ _ (g.F.Files.told c.args.files.now) (g.F.Files.told c.read.new.self) (g.F.Files.told c.write_both.new.files) c.read.ensures.kept (record {
-      outcome = outcome;
-      source = program_read _ _ _ c.in-Ok.text.items _ outcome.source (gives_kept (g.F.Files.told c.args.files.now) (g.F.Files.told c.read.new.self) _ _ c.read.ensures.kept c.in-Ok.ensures.bytes) c.dialect_of.ensures c.deref.ensures.value reduced.1;
-      concluded = concluded_so outcome _ c.dialect_of.ensures reduced.2.concluded;
-      program = c.in-Ok-reduce.texts.program.items;
-      records = c.in-Ok-reduce.texts.records.items;
-      texts = reduced.2.texts;
-      reads_back = subst (λ (d : Dialect). ReadsBack d.numbers outcome c.in-Ok-reduce.texts.program.items) c.dialect_of.ensures reduced.2.reads_back;
-      program_written = c.in-Ok-write_both.ensures.program;
-      records_written = c.in-Ok-write_both.ensures.records;
-      others = c.in-Ok-write_both.ensures.others;
-    })
+    let texts = c.in-Ok-reduce.texts in
+    let made : IsMadeOf names texts.program.items texts.records.items texts.report.items before = record {
+      outcome = reduced.0;
+      source = program_read INPUT_LIMIT (before.told names.input) _ _ c.in-Ok.text.items _ reduced.0.source c.in-Ok.ensures.bytes c.in-Ok.ensures.most c.dialect_of.ensures c.deref.ensures.value reduced.1;
+      concluded = concluded_so reduced.0 names.options.limit _ _ _ c.dialect_of.ensures reduced.2;
+    } in
+    record {
+      says = record {
+        program = texts.program.items;
+        records = texts.records.items;
+        made = made;
+        program_written = written_earlier names.output _ before between now c.read.ensures.kept c.in-Ok-write_both.ensures.program;
+        records_written = written_earlier names.records _ before between now c.read.ensures.kept c.in-Ok-write_both.ensures.records;
+        others = others_earlier names.output names.records before between now c.read.ensures.kept c.in-Ok-write_both.ensures.others;
+      };
+      read = λ a b. finds_there INPUT_LIMIT names.input before before (Some c.in-Ok.text.items) (c.in-Ok.ensures.bytes, c.in-Ok.ensures.most);
+    }
 
 pub returns-clause-ends : goal.returns-clause-ends
-returns-clause-ends g c = (
-  c.in-Ok-reduce.ensures.0,
-  c.in-Ok-reduce.texts.program.items,
-  c.in-Ok-reduce.texts.records.items,
-  c.in-Ok-reduce.texts.report.items,
-  c.in-Ok-reduce.ensures.2.texts,
-  program_read _ _ _ c.in-Ok.text.items _ c.in-Ok-reduce.ensures.0.source c.in-Ok.ensures.bytes c.dialect_of.ensures c.deref.ensures.value c.in-Ok-reduce.ensures.1,
-  concluded_so c.in-Ok-reduce.ensures.0 _ c.dialect_of.ensures c.in-Ok-reduce.ensures.2.concluded,
-  fails_earlier _ _ _ _ _ _ (g.F.Files.write_faults c.args.files.now) (g.F.Files.write_faults c.read.new.self) (g.F.Files.write_faults c.write_both.new.files) c.read.ensures.kept c.read.ensures.writes_stay c.in-Err.ensures.failed,
-)
+returns-clause-ends g c =
+    let names = names_of c.args.words.now in
+    let before = g.F.Files.moment c.args.files.now in
+    let between = g.F.Files.moment c.read.new.self in
+    let now = g.F.Files.moment c.write_both.new.files in
+    let reduced = c.in-Ok-reduce.ensures in
+    let texts = c.in-Ok-reduce.texts in
+    let made : IsMadeOf names texts.program.items texts.records.items texts.report.items before = record {
+      outcome = reduced.0;
+      source = program_read INPUT_LIMIT (before.told names.input) _ _ c.in-Ok.text.items _ reduced.0.source c.in-Ok.ensures.bytes c.in-Ok.ensures.most c.dialect_of.ensures c.deref.ensures.value reduced.1;
+      concluded = concluded_so reduced.0 names.options.limit _ _ _ c.dialect_of.ensures reduced.2;
+    } in
+    record {
+      says = ((texts.program.items, texts.records.items, texts.report.items, made, fails_earlier names.output _ names.records before between now c.read.ensures.kept c.read.ensures.writes_stay c.in-Err.ensures.failed), refl);
+      read = λ a b. finds_there INPUT_LIMIT names.input before before (Some c.in-Ok.text.items) (c.in-Ok.ensures.bytes, c.in-Ok.ensures.most);
+    }
 
 pub returns-in-Err-Infeasible-clause-ends : goal.returns-in-Err-Infeasible-clause-ends
-returns-in-Err-Infeasible-clause-ends g c = (
-  no_point_read _ _ _ c.in-Ok.text.items _ c.in-Ok.ensures.bytes c.dialect_of.ensures c.deref.ensures.value
-      (infeasible_said c.dialect_of.result c.args.words.now.options.limit c.deref.result.now c.in-Err-Infeasible.field-0 c.in-Err-Infeasible.field-0-is c.in-Err-Infeasible.ensures),
-  c.read.ensures.kept,
-)
+returns-in-Err-Infeasible-clause-ends g c =
+    let names = names_of c.args.words.now in
+    let before = g.F.Files.moment c.args.files.now in
+    record {
+      says = (
+        no_point_read INPUT_LIMIT (before.told names.input) _ _ c.in-Ok.text.items _ c.in-Ok.ensures.bytes c.in-Ok.ensures.most c.dialect_of.ensures c.deref.ensures.value
+            (infeasible_said c.dialect_of.result c.args.words.now.options.limit c.deref.result.now c.in-Err-Infeasible.field-0 c.in-Err-Infeasible.field-0-is c.in-Err-Infeasible.ensures),
+        c.read.ensures.kept,
+        refl,
+      );
+      read = λ a b. finds_there INPUT_LIMIT names.input before before (Some c.in-Ok.text.items) (c.in-Ok.ensures.bytes, c.in-Ok.ensures.most);
+    }

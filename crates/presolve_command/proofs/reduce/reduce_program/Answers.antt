@@ -1,7 +1,7 @@
 use Rattle.std.proofs.Common.{refl}
 use Rattle.mps_round_trip.proofs.Widths.{widths_fit}
 use Rattle.presolve_command.proofs.Made.{concluded_of, concluded_with}
-use Rattle.presolve_command.proofs.PlainKept.{reads_back}
+use Rattle.presolve_command.proofs.PlainKept.{comes_back, reads_back}
 use Rattle.presolve_command.specs.Texts.{Outcome}
 use Rattle.presolve_command.proofs.reduce.reduce_program.Goals as goal
 
@@ -10,14 +10,17 @@ returns-in-Ok-Reduced c =
     let made = c.in-Ok-Reduced.made in
     let concluded = concluded_of c.args.options.now c.args.program c.in-Ok-Reduced.field-0 made c.in-Ok-Reduced.field-0-is c.in-Ok-Reduced.ensures in
     let outcome : Outcome = record { source = c.args.program; program = made.program; records = made.records; report = c.report_for-report.result } in
+    let told = concluded_with c.args.options.now c.args.program made c.report_for-report.result.end c.report_for-report.ensures.end concluded in
     let counted = c.size_of-before.ensures in
     let texts = c.in_ok-texts-in-Ok-Reduced.ensures c.args.program (c.report_for-report.ensures.told c.args.program counted.rows counted.columns counted.entries) in (
       outcome,
       refl,
       record {
-        concluded = concluded_with c.args.options.now c.args.program made c.report_for-report.result.end c.report_for-report.ensures.end concluded;
+        concluded = told;
+        range = c.records_have_range.ensures;
         texts = texts;
         reads_back = reads_back c.args.options.now.numbers outcome _ concluded.names concluded.named concluded.writable concluded.ascends texts.program_text;
+        comes_back = comes_back c.args.options.now outcome _ _ _ c.texts_come_back.ensures told texts c.records_have_range.ensures;
       },
     )
 
