@@ -1,7 +1,7 @@
 -- A history keeps the numbers of rows and columns, and the constant.
 use Rattle.std.proofs.Common.{List, [], ◌∷◌, refl, ◌∙◌}
 use Rattle.problem_model.specs.Sparse.{Sparse}
-use Rattle.problem_laws.specs.Sizes.{SameSize}
+use Rattle.edit_laws.specs.Sizes.{SameSize}
 use Rattle.presolve_model.specs.declared.instance.Reduction.{Reduction}
 use Rattle.presolve_model.specs.Changes.{changed}
 use Rattle.presolve_model.specs.Replay.{replay}

@@ -1,7 +1,7 @@
 //! Edits committed, if their numbers may stand.
 
 ghost use Rattle.std.specs.Prelude.{◌↔◌, All, IsTrue};
-ghost use Rattle.problem_model.specs.Allowed.{AreAllowed, NoEntries};
+ghost use Rattle.problem_model.specs.Allowed.{AreAllowed, EntriesFirst};
 ghost use Rattle.problem_model.specs.NewNumbers.{EditFits, EditIsWritten, EditsAreWritten};
 ghost use Rattle.problem_model.specs.Offsets.{OffsetFits};
 ghost use Rattle.problem_model.specs.NewNumbers.{WidthFits, WidthIsWritten, IsWritten};
@@ -120,7 +120,7 @@ pub fn make(
     numbers: Numbers,
 ) -> Result<(), Refusal>
     requires allowed { AreAllowed problem.old edits.now }
-    requires plain { NoEntries edits.now }
+    requires ordered { EntriesFirst edits.now }
     ensures { Makes numbers edits.now problem.old result problem.new }
 {
     if !all_fit(edits) || !offset_fits(problem.offset(), edits) {

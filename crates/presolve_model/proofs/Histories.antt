@@ -8,8 +8,8 @@ use Rattle.problem_model.specs.Parts.{contents_of, changes_of}
 use Rattle.problem_model.specs.Problems.{IsSparse}
 use Rattle.problem_model.specs.Reading.{read_of}
 use Rattle.problem_model.specs.Sparse.{Sparse}
-use Rattle.problem_laws.specs.Telling.{IsTold, AllAllowed, all_committed}
-use Rattle.problem_laws.proofs.Raising.{all_told, all_counted}
+use Rattle.edit_laws.specs.Telling.{IsTold, AllAllowed, all_committed}
+use Rattle.edit_laws.proofs.Raising.{all_told, all_counted}
 use Rattle.presolve_model.specs.declared.instance.Instance.{Instance}
 use Rattle.presolve_model.specs.declared.instance.Reduction.{Reduction}
 use Rattle.presolve_model.specs.Changes.{changed}

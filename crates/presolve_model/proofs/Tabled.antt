@@ -18,10 +18,10 @@ use Rattle.problem_model.specs.Problems.{IsSparse}
 use Rattle.problem_model.specs.Showing.{shown}
 use Rattle.problem_model.specs.Sparse.{Sparse}
 use Rattle.problem_model.specs.Writing.{IsWritable}
-use Rattle.problem_laws.specs.Telling.{IsCounted}
-use Rattle.problem_laws.specs.Sizes.{SameSize}
-use Rattle.problem_laws.proofs.Commits.{offset_committed, flags_committed, size_committed, writable_committed}
-use Rattle.problem_laws.proofs.Raising.{committed_sparse, counted_committed}
+use Rattle.edit_laws.specs.Telling.{IsCounted}
+use Rattle.edit_laws.specs.Sizes.{SameSize}
+use Rattle.edit_laws.proofs.Committed.{offset_committed, flags_committed, size_committed, writable_committed}
+use Rattle.edit_laws.proofs.Raising.{committed_sparse, counted_committed}
 use Rattle.rule_words.specs.Owed.{Owes}
 use Rattle.presolve_model.specs.declared.instance.Reduction.{Reduction}
 use Rattle.presolve_model.specs.declared.instance.Instance.{Instance}

@@ -16,10 +16,10 @@ use Rattle.problem_model.specs.Parts.{contents_of, changes_of}
 use Rattle.problem_model.specs.Problems.{IsSparse}
 use Rattle.problem_model.specs.Raised.{risen, same_contents, changes_after, numbered_line, numbered_sides, numbered_bounds, numbered, raised, committed}
 use Rattle.problem_model.specs.Sparse.{Sparse}
-use Rattle.problem_laws.proofs.Lists.{sparse_applied, size_applied}
+use Rattle.edit_laws.proofs.Lists.{sparse_applied, size_applied}
 use Rattle.problem_laws.proofs.Numbering.{contents-numbered, changes-row, changes-column, changes-sides, changes-bounds, each_at-ext, each_at-twice}
-use Rattle.problem_laws.proofs.NumbersStay.{changes_applied}
-use Rattle.problem_laws.proofs.SameContents.{is-same_contents, other-same_contents}
+use Rattle.edit_laws.proofs.NumbersStay.{changes_applied}
+use Rattle.edit_laws.proofs.SameContents.{is-same_contents, other-same_contents}
 use Rattle.problem_laws.proofs.Terms.{not_both}
 use Rattle.sparse_problem.specs.Renumbered.{same_part, number_put, changes_put, IsThere}
 use Rattle.sparse_problem.proofs.Renumbering.{numbered_self}

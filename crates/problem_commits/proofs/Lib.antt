@@ -2,3 +2,4 @@ pub mod Lefts
 pub mod Changed
 pub mod Noted
 pub mod Committing
+pub mod GivingBack

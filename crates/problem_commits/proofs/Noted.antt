@@ -22,10 +22,10 @@ use Rattle.problem_model.specs.Sparse.{Sparse}
 use Rattle.problem_model.specs.Touching.{is_sides_of, is_bounds_of, is_column}
 use Rattle.problem_laws.proofs.AtIds.{row_inside, column_inside, sides_inside, bounds_inside, losing-live, without-dead}
 use Rattle.problem_laws.proofs.Entries.{has-live_only, live_entries_name, row_entries-live, row_entries-tell, row_entries-none_zero, column_entries-live, column_entries-tell, column_entries-none_zero, row_deleted-column_entries, column_deleted-row_entries}
-use Rattle.problem_laws.proofs.NumbersStay.{Lives, lives_self, lives_more, lives_edited, lives_applied}
+use Rattle.edit_laws.proofs.NumbersStay.{Lives, lives_self, lives_more, lives_edited, lives_applied}
 use Rattle.problem_laws.proofs.Terms.{not_both, without-absent, has-cons_other, named_by}
-use Rattle.problem_laws.proofs.Lists.{sparse_edited}
-use Rattle.problem_laws.proofs.Untouched.{rows_hold, columns_hold, stays_edited}
+use Rattle.problem_laws.proofs.Single.{sparse_edited}
+use Rattle.edit_laws.proofs.Untouched.{rows_hold, columns_hold, stays_edited}
 use Rattle.sparse_problem.specs.Renumbered.{same_part, IsThere}
 use Rattle.problem_commits.specs.declared.notes.Note.{Note}
 use Rattle.problem_commits.specs.Noting.{asked, certain, columns_noted, rows_noted, noted, all_noted}

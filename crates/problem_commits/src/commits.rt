@@ -1,11 +1,11 @@
 //! Commits.
 
 ghost use Rattle.std.specs.Prelude.{◌≡◌, OnErr, OnOk};
-ghost use Rattle.problem_model.specs.Allowed.{AreAllowed, NoEntries};
+ghost use Rattle.problem_model.specs.Allowed.{AreAllowed, EntriesFirst};
 ghost use Rattle.problem_model.specs.Offsets.{OffsetFits};
 ghost use Rattle.problem_model.specs.Raised.{committed};
 
-use crate::edits::make_all;
+use crate::entries::apply;
 use crate::notes::note_all;
 use crate::raises::raise_all;
 use problem_model::Edit;
@@ -20,13 +20,13 @@ use std::alloc::{AllocError, Global};
 pub fn commit(problem: &mut Problem, alloc: Global, edits: &[Edit]) -> Result<(), AllocError>
     requires allowed { AreAllowed problem.old edits.now }
     requires fits { OffsetFits problem.old.offset edits.now }
-    requires plain { NoEntries edits.now }
+    requires first { EntriesFirst edits.now }
     ensures ok { OnOk result (problem.new ≡ committed problem.old edits.now) }
     ensures err { OnErr result (problem.new ≡ problem.old) }
 {
     problem.is_sparse();
     let notes = note_all(alloc, problem, edits)?;
-    make_all(problem, edits);
+    apply(problem, alloc, edits)?;
     raise_all(problem, notes.as_slice());
     Ok(())
 }

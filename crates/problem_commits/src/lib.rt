@@ -5,6 +5,7 @@
 mod commits;
 mod contents;
 mod edits;
+mod entries;
 mod notes;
 mod parts;
 mod raises;

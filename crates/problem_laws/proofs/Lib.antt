@@ -6,13 +6,5 @@ pub mod ShowingEdits
 pub mod PutTerms
 pub mod EntriesKept
 pub mod EntriesShown
+pub mod Single
 pub mod Numbering
-pub mod Untouched
-pub mod Writing
-pub mod Lists
-pub mod Sweeps
-pub mod Touched
-pub mod SameContents
-pub mod Raising
-pub mod Commits
-pub mod NumbersStay

@@ -1,6 +1,5 @@
-//! Laws of the changes of a problem, of its definitions alone. The functions here do nothing when they run: each states laws, and its
-//! check proves them. The lemmas in `proofs/` are meant for the crates above too.
+//! Laws of single edits of a problem, of its definitions alone. The function here does nothing when it runs: it states laws, and its check
+//! proves them. The lemmas in `proofs/` are meant for the crates above too.
 #![tactic(auto)]
 
-pub mod commit_laws;
-pub mod edit_laws;
+pub mod single_edits;

@@ -13,7 +13,7 @@ use Rattle.problem_model.specs.Offsets.{added_by}
 use Rattle.problem_model.specs.Problems.{IsSparse}
 use Rattle.problem_model.specs.Showing.{shown}
 use Rattle.problem_model.specs.Sparse.{Sparse}
-use Rattle.problem_laws.proofs.Commits.{shown_committed}
+use Rattle.edit_laws.proofs.Committed.{shown_committed}
 
 pub by_edits : (p : Sparse) (es : List Edit) (R : LinearProgram) (f : Vector → Vector) (k : Number) → IsSparse p → AreAllowed p es → programs_edited (shown p) es ≡ R → k ≡ added_by es → Reduces Min (shown p) R f k
     → Reduces Min (shown p) (shown (committed p es)) f (added_by es)

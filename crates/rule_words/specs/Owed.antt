@@ -14,7 +14,7 @@ use Rattle.problem_model.specs.Showing.{shown}
 use Rattle.problem_model.specs.Sparse.{Sparse}
 use Rattle.problem_model.specs.Writing.{IsWritable}
 use Rattle.problem_model.specs.declared.edit.Edit.{Edit}
-use Rattle.problem_model.specs.Allowed.{AreAllowed, NoEntries}
+use Rattle.problem_model.specs.Allowed.{AreAllowed, EntriesFirst}
 use Rattle.problem_model.specs.Raised.{committed}
 use Rattle.problem_model.specs.Living.{all_flags_edited}
 use Rattle.problem_model.specs.NewNumbers.{EditIsSided}
@@ -23,7 +23,7 @@ use Rattle.problem_model.specs.Offsets.{added_by}
 -- at one place of a problem
 pub record Owes (p : Sparse) (es : List Edit) (u : Undo) : Type 0 where
   pub allowed : AreAllowed p es
-  pub plain : NoEntries es
+  pub ordered : EntriesFirst es
   pub reduces : Reduces Min (shown p) (shown (committed p es)) (undone u) (added_by es)
   pub sided : (numbers : Numbers) → IsWritable numbers p → All EditIsSided es
   pub sound : IsSound (length p.matrix.rows) (length p.matrix.columns) u

@@ -57,7 +57,7 @@ shows p j s r = record {
 pub owes : RuleOwes enabled edits record_of
 owes p j s e = let r = said p j e in let v : Number = unwrap_or (place_of p j) zero_ℚ in record {
   allowed = (r.live, tt);
-  plain = tt;
+  ordered = tt;
   reduces = by_edits p (edits p j) (with_bounds (shown p) j (Some v) (Some v)) (λ x. x) zero_ℚ s (r.live, tt)
       (ap (λ (o : Option Number). with_bounds (shown p) j o o) r.place.value) nothing (empty_column (shown p) j v (shows p j s r));
   sided = λ numbers w. one_sided (SetBounds j (place_of p j) (place_of p j)) tt;

@@ -47,7 +47,7 @@ shows p i h = record {
 pub owes : RuleOwes enabled edits record_of
 owes p i s e = let h = said p i e in record {
   allowed = (h.live, tt);
-  plain = tt;
+  ordered = tt;
   reduces = by_edits p (edits p i) (without_row (shown p) i) (λ x. x) zero_ℚ s (h.live, tt) refl nothing (empty_row Min (shown p) i (shows p i h));
   sided = λ numbers w. one_sided (DeleteRow i) tt;
   sound = row_inside p i h.live;

@@ -37,8 +37,8 @@ use Rattle.problem_model.specs.Raised.{committed}
 use Rattle.problem_model.specs.NewNumbers.{IsSided, EditIsSided}
 use Rattle.problem_model.specs.Offsets.{added_by}
 use Rattle.problem_model.specs.EditedPrograms.{programs_edited}
-use Rattle.problem_laws.proofs.Lists.{allowed_more}
-use Rattle.problem_laws.proofs.Sweeps.{sweep, programs_more, added_more, sweep_matrix, sweep_allowed, sweep_added, sweep_flags, sweep_no_entries, sweep_sided, sweep_only, sweep_lower, sweep_upper}
+use Rattle.edit_laws.proofs.Lists.{allowed_more, entries_first_none}
+use Rattle.edit_laws.proofs.Sweeps.{sweep, programs_more, added_more, sweep_matrix, sweep_allowed, sweep_added, sweep_flags, sweep_no_entries, sweep_sided, sweep_only, sweep_lower, sweep_upper}
 use Rattle.rule_words.specs.Owed.{RuleOwes}
 use Rattle.singleton_laws.specs.FixedColumn.{is_fixed_column, enabled, value_of, sides_less, column_out, edits, record_of}
 use Rattle.rule_words.proofs.Reducing.{by_edits}
@@ -136,7 +136,7 @@ module _ (p : Sparse) (s : IsSparse p) (j : ℕ) (w : Number) (f : Said (column_
 pub owes : RuleOwes enabled edits record_of
 owes p j s e = let f = said p j e in let w = value_of p j in record {
   allowed = allowed p s j w f;
-  plain = sweep_no_entries (low p s j w f) (high p s j w f) (column_entries p j) (column_out j (cost_at p j *ℚ w)) tt;
+  ordered = entries_first_none (edits p j) (sweep_no_entries (low p s j w f) (high p s j w f) (column_entries p j) (column_out j (cost_at p j *ℚ w)) tt);
   reduces = reduces p s j w f;
   sided = sided p s j w f;
   sound = (column_inside p j f.live, column_entries-ascend p j s);

@@ -38,7 +38,7 @@ rounded p j live = ap (λ (on : Bool). with_bounds (shown p) j (rounded_up (end_
 pub owes : RuleOwes enabled edits record_of
 owes p j s e = let b = said p j e in record {
   allowed = (b.live, tt);
-  plain = tt;
+  ordered = tt;
   reduces = by_edits p (edits p j) (bounds_rounded (shown p) j) (λ x. x) zero_ℚ s (b.live, tt) (rounded p j b.live) nothing
       (bounds_rounded_reduce Min (shown p) j (record { column = column_inside p j b.live; whole = ap₂ (λ (x y : Bool). x && y) b.live b.whole }));
   sided = λ numbers w. one_sided (SetBounds j (rounded_up (bounds_at p j).lower) (rounded_down (bounds_at p j).upper)) tt;

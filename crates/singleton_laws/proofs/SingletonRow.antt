@@ -92,7 +92,7 @@ module _ (p : Sparse) (s : IsSparse p) (i : ℕ) (o : Said (row_at p i).live (ro
 pub owes : RuleOwes enabled edits record_of
 owes p i s e = let o = said p i e in let t : Term = sole_entry p i in let a = sole_ascends p i s o in record {
   allowed = allowed p s i o;
-  plain = tt;
+  ordered = tt;
   reduces = by_edits p (edits p i) (singleton_row_met (shown p) i t.id) (λ x. x) zero_ℚ s (allowed p s i o) (met p s i o) nothing_twice (singleton_row (shown p) i t.id (shows p s i o) Min);
   sided = λ numbers w. two_sided (SetBounds t.id (met_lower p i t) (met_upper p i t)) (DeleteRow i) tt tt;
   sound = (row_inside p i o.live, a.1, a.2);

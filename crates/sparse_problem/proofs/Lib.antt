@@ -8,3 +8,5 @@ pub mod Crossing
 pub mod MadeProblems
 pub mod WrittenRows
 pub mod Renumbering
+pub mod Below
+pub mod Putting

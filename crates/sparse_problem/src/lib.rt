@@ -1,6 +1,7 @@
 //! A problem in sparse rows and columns, by the ids of the program that it was made of.
 #![tactic(auto)]
 
+mod entries;
 mod lines;
 mod made;
 mod moves;
@@ -9,6 +10,7 @@ mod problem;
 mod transpose;
 mod written;
 
+pub use entries::{Held, Replaced};
 pub use lines::is_live;
 pub use made::in_sense;
 pub use problem::Problem;

@@ -1,12 +1,14 @@
 //! Problems.
 
-ghost use Rattle.std.specs.Prelude.{◌≡◌, ◌<◌, ◌^◌, length, IfOk, true, [], ◌∷◌};
-ghost use Rattle.problem_model.specs.Edits.{bounds_set, column_deleted, cost_set, offset_set, row_deleted, sides_set};
+ghost use Rattle.std.specs.Prelude.{◌≡◌, ◌<◌, ◌^◌, length, IfOk, OnErr, OnOk, true, [], ◌∷◌};
+ghost use Rattle.problem_model.specs.Edits.{bounds_set, column_deleted, cost_set, entry_set, offset_set, row_deleted, sides_set};
 ghost use Rattle.problem_model.specs.Parts.{changes_of};
 ghost use Rattle.problem_model.specs.declared.part.Part.TheVariants as part;
+ghost use Rattle.sparse_problem.specs.Putting.{replaced_at, entries_given};
 ghost use Rattle.sparse_problem.specs.Renumbered.{changes_put, IsThere};
 ghost use Rattle.problem_model.specs.Problems.{bounds_at, column_at, column_entries, cost_at, IsSparse, row_at, row_entries, sides_at};
 
+use crate::entries::{Replaced, give, with_entry};
 use crate::lines::{delete_line, first_live, is_live, live_entries_of, live_terms_of};
 use crate::moves::{move_bounds, move_sides};
 use crate::numbers::{line_changes, number_line};
@@ -334,5 +336,46 @@ impl Problem {
                 None => 0,
             },
         }
+    }
+
+    /// Sets the entry in which a row and a column cross, and hands out the entries that both had. 0 leaves no entry there. The new lists
+    /// are made before the first of them is put in place.
+    ///
+    /// # Errors
+    /// Memory ran out. The problem is as it was.
+    pub fn set_entry(
+        &mut self,
+        alloc: Global,
+        i: u32,
+        j: u32,
+        value: Frac,
+    ) -> Result<Replaced, AllocError>
+        requires row { (row_at self.old i).live ≡ true }
+        requires column { (column_at self.old j).live ≡ true }
+        ensures set { OnOk result (self.new ≡ entry_set self.old i j value) }
+        ensures before { IfOk result (λ c. c ≡ replaced_at self.old i j) }
+        ensures err { OnErr result (self.new ≡ self.old) }
+    {
+        let in_row = with_entry(alloc, &self.rows[i as usize], j, &value)?;
+        let in_column = with_entry(alloc, &self.columns[j as usize], i, &value)?;
+        let in_row = give(&mut self.rows[i as usize], in_row);
+        let in_column = give(&mut self.columns[j as usize], in_column);
+        Ok(Replaced {
+            row: i,
+            column: j,
+            in_row,
+            in_column,
+        })
+    }
+
+    /// Gives a row and a column the entries that they had.
+    pub fn put_back(&mut self, before: Replaced)
+        requires row { before.row < length self.old.matrix.rows }
+        requires column { before.column < length self.old.matrix.columns }
+        requires sound { IsSparse (entries_given self.old before) }
+        ensures { self.new ≡ entries_given self.old before }
+    {
+        give(&mut self.rows[before.row as usize], before.in_row);
+        give(&mut self.columns[before.column as usize], before.in_column);
     }
 }

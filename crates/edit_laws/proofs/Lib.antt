@@ -1,0 +1,9 @@
+pub mod Untouched
+pub mod Writing
+pub mod Lists
+pub mod Sweeps
+pub mod Touched
+pub mod SameContents
+pub mod NumbersStay
+pub mod Raising
+pub mod Committed

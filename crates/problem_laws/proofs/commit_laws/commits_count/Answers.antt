@@ -1,5 +1,0 @@
-use Rattle.problem_laws.proofs.Raising.{counted_committed}
-use Rattle.problem_laws.proofs.commit_laws.commits_count.Goals as goal
-
-pub returns : goal.returns
-returns c = λ p es a s h. counted_committed p es s h a
