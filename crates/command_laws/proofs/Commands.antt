@@ -1,0 +1,147 @@
+-- Each command of the line asks for something where its required names are given.
+use Rattle.std.proofs.Common.{◌≡◌, ◌∙◌, ◌≢◌, ◌||◌, ◌⊎◌, Bool, true, false, cond, not, refl, sym, ap, ℕ, List, [], Option, Some, None, inl, inr, true≢false, bytes_eq, codes}
+use Rattle.std.specs.List.{list_all}
+use Rattle.std.specs.Str.Parse.{digits_value, without_leading_plus}
+use Rattle.std.proofs.lemmas.Option.{none-some, same_Some}
+use Rattle.std.proofs.lemmas.Slice.Eq.{bytes_eq-Decides}
+use Rattle.clap.proofs.WalkLemmas.{both}
+use Rattle.clap.specs.ValueTests.{accepts}
+use Rattle.clap.specs.Simple.{Shape, built, built_leaf, help_shape, inherited, label_of}
+use Rattle.clap.specs.Takes.{is_given, value_passes}
+use Rattle.clap.specs.Walk.{Row, Rule, Text, answers_to, arg_by_id, first_of}
+use Rattle.clap.specs.declared.builder.value_parser.ValueParser.TheVariants.{Unsigned}
+use Rattle.command_line.specs.Line.{check_app, first_app, limit_in, limit_of, limited_app, line_app, postsolve_app, postsolve_words, presolve_app, presolve_words, request_of}
+use Rattle.command_line.specs.declared.reading.TheConstants.{MOST_RECORDS}
+use Rattle.command_laws.proofs.Rows.{Each, HasFirst, either, first_passes, given_first}
+use Rattle.command_laws.proofs.Uses.{IsKnown}
+use Rattle.command_laws.specs.Asking.{HasOneOutput}
+
+-- the command of this name asks for something, but for presolve with one name for OUT and REC
+abbrev pub Asks : Text → List Row → Type 0
+Asks name rows = (request_of name rows ≢ None) ⊎ HasOneOutput name rows
+
+-- the arguments of a command that is not the one for help are known, and their names, where they are given, ask for something
+abbrev pub AsksWhereGiven : Shape → Type 0
+AsksWhereGiven s = (word : Text) → answers_to word (label_of s) ≡ true → bytes_eq word (codes "help") ≡ false
+    → Each (IsKnown s.rules) s.rules
+    × ((rows : List Row) → Each (HasFirst s.rules) rows → list_all (λ a. not a.required || is_given a.id rows) s.rules ≡ true → Asks s.name rows)
+
+-- the commands of the line, as clap builds them
+presolve_command : Shape
+presolve_command = built_leaf (inherited line_app.top presolve_app.top)
+
+check_command : Shape
+check_command = built_leaf (inherited line_app.top check_app.top)
+
+postsolve_command : Shape
+postsolve_command = built_leaf (inherited line_app.top postsolve_app.top)
+
+limit_is : (v : Text) → accepts false (Unsigned 1 MOST_RECORDS) v ≡ true → limit_in v ≡ Some (digits_value 10 (without_leading_plus v))
+unfolding limit_in
+limit_is v e = ap (λ b. cond b (Some (digits_value 10 (without_leading_plus v))) None) e
+
+module _ (rules : List Rule) (rows : List Row) (each : Each (HasFirst rules) rows) where
+  limit_given : ((a : Rule) (v : Text) → arg_by_id rules (codes "limit") ≡ Some a → value_passes a v ≡ true → accepts false (Unsigned 1 MOST_RECORDS) v ≡ true)
+      → (n : ℕ) × (limit_of (first_of (codes "limit") rows) ≡ Some n)
+  limit_given takes = go (first_of (codes "limit") rows) refl
+    where
+      go : (o : Option Text) → first_of (codes "limit") rows ≡ o → (n : ℕ) × (limit_of o ≡ Some n)
+      go None is = (MOST_RECORDS, refl)
+      go (Some v) is =
+          let got = first_passes rules (codes "limit") rows v each is in
+          (digits_value 10 (without_leading_plus v), limit_is v (takes got.0 v got.1 got.2))
+
+  presolve_given : (n : ℕ) → limit_of (first_of (codes "limit") rows) ≡ Some n → is_given (codes "in") rows ≡ true → is_given (codes "out") rows ≡ true
+      → is_given (codes "rec") rows ≡ true → Asks (codes "presolve") rows
+  presolve_given n limit has_input has_output has_records =
+      let input = given_first rules (codes "in") rows each has_input in
+      let output = given_first rules (codes "out") rows each has_output in
+      let records = given_first rules (codes "rec") rows each has_records in
+      by input output records (bytes_eq output.0 records.0) refl
+    where
+      by : (input : (v : Text) × (first_of (codes "in") rows ≡ Some v)) (output : (v : Text) × (first_of (codes "out") rows ≡ Some v))
+          (records : (v : Text) × (first_of (codes "rec") rows ≡ Some v)) (b : Bool) → bytes_eq output.0 records.0 ≡ b → Asks (codes "presolve") rows
+      by input output records true same = inr (refl, output.1 ∙ ap Some ((bytes_eq-Decides output.0 records.0).0 same) ∙ sym records.1)
+      by input output records false differ = inl (λ none. none-some _ (sym (rw (input.1, output.1, records.1, limit, differ) at none)))
+
+  check_given : is_given (codes "in") rows ≡ true → is_given (codes "sol") rows ≡ true → Asks (codes "check") rows
+  check_given has_input has_solution =
+      let input = given_first rules (codes "in") rows each has_input in
+      let solution = given_first rules (codes "sol") rows each has_solution in
+      inl (λ none. none-some _ (sym (rw (input.1, solution.1) at none)))
+
+  postsolve_given : is_given (codes "out") rows ≡ true → is_given (codes "rec") rows ≡ true → is_given (codes "sol") rows ≡ true
+      → is_given (codes "result") rows ≡ true → Asks (codes "postsolve") rows
+  postsolve_given has_program has_records has_solution has_result =
+      let program = given_first rules (codes "out") rows each has_program in
+      let records = given_first rules (codes "rec") rows each has_records in
+      let solution = given_first rules (codes "sol") rows each has_solution in
+      let result = given_first rules (codes "result") rows each has_result in
+      inl (λ none. none-some _ (sym (rw (program.1, records.1, solution.1, result.1) at none)))
+
+presolve_known : Each (IsKnown presolve_command.rules) presolve_command.rules
+unfolding presolve_command line_app first_app check_app presolve_app limited_app presolve_words postsolve_app postsolve_words
+presolve_known = ((refl, refl), ((refl, refl), ((refl, refl), ((refl, refl), ((refl, refl), ((refl, refl), ((refl, refl), tt)))))))
+
+presolve_asks : AsksWhereGiven presolve_command
+unfolding presolve_command line_app first_app check_app presolve_app limited_app presolve_words postsolve_app postsolve_words
+presolve_asks word answers differs = (
+  presolve_known,
+  λ rows each given.
+      let input = both (is_given (codes "in") rows) _ given in
+      let output = both (is_given (codes "out") rows) _ input.1 in
+      let records = both (is_given (codes "rec") rows) _ output.1 in
+      let limit = limit_given presolve_command.rules rows each (λ a v found passes. ap (λ (r : Rule). value_passes r v) (same_Some _ a found) ∙ passes) in
+      presolve_given presolve_command.rules rows each limit.0 limit.1 input.0 output.0 records.0,
+)
+
+check_known : Each (IsKnown check_command.rules) check_command.rules
+unfolding check_command line_app first_app check_app presolve_app limited_app presolve_words postsolve_app postsolve_words
+check_known = ((refl, refl), ((refl, refl), ((refl, refl), ((refl, refl), tt))))
+
+check_asks : AsksWhereGiven check_command
+unfolding check_command line_app first_app check_app presolve_app limited_app presolve_words postsolve_app postsolve_words
+check_asks word answers differs = (
+  check_known,
+  λ rows each given.
+      let input = both (is_given (codes "in") rows) _ given in
+      let solution = both (is_given (codes "sol") rows) _ input.1 in
+      check_given check_command.rules rows each input.0 solution.0,
+)
+
+postsolve_known : Each (IsKnown postsolve_command.rules) postsolve_command.rules
+unfolding postsolve_command line_app first_app check_app presolve_app limited_app presolve_words postsolve_app postsolve_words
+postsolve_known = ((refl, refl), ((refl, refl), ((refl, refl), ((refl, refl), ((refl, refl), tt)))))
+
+postsolve_asks : AsksWhereGiven postsolve_command
+unfolding postsolve_command line_app first_app check_app presolve_app limited_app presolve_words postsolve_app postsolve_words
+postsolve_asks word answers differs = (
+  postsolve_known,
+  λ rows each given.
+      let program = both (is_given (codes "out") rows) _ given in
+      let records = both (is_given (codes "rec") rows) _ program.1 in
+      let solution = both (is_given (codes "sol") rows) _ records.1 in
+      let result = both (is_given (codes "result") rows) _ solution.1 in
+      postsolve_given postsolve_command.rules rows each program.0 records.0 solution.0 result.0,
+)
+
+-- the word that answers to the command for help
+help_asks : (s : Shape) → label_of s ≡ (codes "help", []) → AsksWhereGiven s
+help_asks s label word answers differs =
+    let named = either (bytes_eq (codes "help") word) false (ap (answers_to word) (sym label) ∙ answers) in
+    elim named [
+      | inl same ↦
+          let is : codes "help" ≡ word = (bytes_eq-Decides (codes "help") word).0 same in
+          absurd (true≢false (sym ((bytes_eq-Decides word (codes "help")).1 (sym is)) ∙ differs))
+      | inr never ↦ absurd (true≢false (sym never))
+    ]
+
+-- each command of the line asks for something
+pub commands_ask : Each AsksWhereGiven (built line_app).subs
+unfolding presolve_command check_command postsolve_command line_app first_app check_app presolve_app limited_app presolve_words postsolve_app postsolve_words
+commands_ask = (presolve_asks, (check_asks, (postsolve_asks, (help_asks (built_leaf help_shape) refl, tt))))
+
+-- the line has the command for help
+pub line_has_help : (built line_app).top.disable_help_subcommand ≡ false
+unfolding line_app first_app check_app presolve_app limited_app presolve_words postsolve_app postsolve_words
+line_has_help = refl

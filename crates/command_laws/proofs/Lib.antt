@@ -1,0 +1,5 @@
+mod Rows
+mod Uses
+mod Walking
+mod Commands
+mod Taken

@@ -1,0 +1,13 @@
+-- What words that clap takes ask for.
+use Rattle.std.specs.Prelude.{◌≡◌, ◌≢◌, ◌⊎◌, List, Some, None, codes, true}
+use Rattle.clap.specs.Words.{Row, Text, first_of}
+use Rattle.command_line.specs.Line.{found_in, is_taken, selected}
+
+-- presolve, with one name for OUT and REC
+abbrev pub HasOneOutput : Text → List Row → Type 0
+HasOneOutput name rows = (name ≡ codes "presolve") × (first_of (codes "out") rows ≡ first_of (codes "rec") rows)
+
+-- where clap takes the words and finds a command in them, they ask for something, but for presolve with one name for OUT and REC
+abbrev pub TakenWordsAsk : Type 0
+TakenWordsAsk = (words : List Text) (name : Text) (rows : List Row) → is_taken words ≡ true → found_in words ≡ Some (name, rows)
+    → (selected words ≢ None) ⊎ HasOneOutput name rows
