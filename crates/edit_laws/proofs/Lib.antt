@@ -7,3 +7,4 @@ pub mod SameContents
 pub mod NumbersStay
 pub mod Raising
 pub mod Committed
+pub mod Reducing

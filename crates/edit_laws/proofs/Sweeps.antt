@@ -10,8 +10,8 @@ use Rattle.rational.proofs.Totals.{put-same, put-other}
 use Rattle.lp_model.specs.declared.terms.Term.{Term}
 use Rattle.lp_model.specs.LinearProgram.{LinearProgram}
 use Rattle.lp_model.specs.Sparse.{has}
-use Rattle.lp_theory.specs.Edits.{with_sides}
-use Rattle.undo_records.specs.Walk.{Flags}
+use Rattle.lp_model.specs.Edits.{with_sides}
+use Rattle.lp_model.specs.Flags.{Flags}
 use Rattle.problem_model.specs.Edits.{sides_set}
 use Rattle.problem_model.specs.Problems.{row_at}
 use Rattle.problem_model.specs.Sparse.{Sparse}
@@ -19,7 +19,8 @@ use Rattle.problem_laws.proofs.Terms.{has-cons_other}
 use Rattle.problem_model.specs.Allowed.{AreAllowed, NoEntries}
 use Rattle.problem_model.specs.Applied.{applied}
 use Rattle.problem_model.specs.Living.{all_flags_edited}
-use Rattle.problem_model.specs.NewNumbers.{IsSided, EditIsSided}
+use Rattle.lp_model.specs.Ends.{IsSided}
+use Rattle.problem_model.specs.NewNumbers.{EditIsSided}
 use Rattle.problem_model.specs.Offsets.{amount_of, added_by}
 use Rattle.problem_model.specs.EditedPrograms.{edited_program, programs_edited}
 use Rattle.problem_model.specs.declared.edit.Edit.{Edit}

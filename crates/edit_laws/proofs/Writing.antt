@@ -14,7 +14,7 @@ use Rattle.problem_model.specs.declared.line.Line.{Line}
 use Rattle.problem_model.specs.declared.line.Sides.{Sides}
 use Rattle.problem_model.specs.declared.line.Bounds.{Bounds}
 use Rattle.problem_model.specs.Edits.{row_deleted, column_deleted, sides_set, bounds_set, offset_set, cost_set, entry_set}
-use Rattle.problem_model.specs.NewNumbers.{WidthFits, WidthIsWritten, IsWritten, AreNear}
+use Rattle.lp_model.specs.Ends.{WidthFits, WidthIsWritten, IsWritten, AreNear, IsSided}
 use Rattle.problem_model.specs.Problems.{row_at, column_at, sides_at, bounds_at, cost_at, IsSparse}
 use Rattle.problem_model.specs.Sparse.{Sparse}
 use Rattle.problem_model.specs.Writing.{KeptSides, KeptColumn, IsWritable}
@@ -23,7 +23,7 @@ use Rattle.problem_laws.proofs.Terms.{not_both}
 use Rattle.problem_model.specs.Allowed.{IsAllowed}
 use Rattle.problem_model.specs.Applied.{edited}
 use Rattle.problem_model.specs.Entries.{led_by, put_term}
-use Rattle.problem_model.specs.NewNumbers.{EditFits, EditIsWritten, IsSided, EditIsSided}
+use Rattle.problem_model.specs.NewNumbers.{EditFits, EditIsWritten, EditIsSided}
 use Rattle.problem_model.specs.declared.edit.Edit.{Edit}
 use Rattle.problem_model.specs.declared.edit.Edit.TheVariants.{DeleteRow, DeleteColumn, SetSides, SetBounds, AddOffset, SetCost, SetEntry}
 use Rattle.problem_laws.proofs.EntriesKept.{put_row_live, put_column_live, put-same_line, put-other_line}

@@ -1,6 +1,5 @@
 -- What was walked reduces the program, and its records are sound.
-use Rattle.std.proofs.Common.{◌≡◌, ℕ, suc, ◌+◌, ◌<◌, Bool, true, false, All, List, [], ◌∷◌, length, map, replicate, sym, refl, ap, ap₂, ◌∙◌, subst, pos, if◌then◌else◌}
-use Rattle.std.proofs.Common.{drop, get_or, arith}
+use Rattle.std.proofs.Common.{◌≡◌, ℕ, suc, ◌+◌, ◌<◌, Bool, true, false, All, List, [], ◌∷◌, length, map, replicate, sym, refl, ap, ap₂, ◌∙◌, subst, pos, if◌then◌else◌, drop, get_or, arith}
 use Rattle.std.proofs.lemmas.List.{length-map}
 use Rattle.std.proofs.lemmas.Bool.{true≢false}
 use Rattle.rational.specs.Ring.{ring, v, num, ◌:+◌, ◌:-◌}
@@ -14,14 +13,15 @@ use Rattle.lp_model.specs.LinearProgram.{LinearProgram}
 use Rattle.lp_model.specs.Vectors.{Vector}
 use Rattle.lp_model.specs.Reductions.{Reduces}
 use Rattle.lp_model.specs.Writable.{EntriesAscend}
-use Rattle.lp_theory.specs.Turning.{minimizing, signed}
-use Rattle.lp_theory.specs.Renumbering.{spread}
+use Rattle.lp_model.specs.Turning.{minimizing, signed}
+use Rattle.lp_passages.specs.Renumbering.{spread}
 use Rattle.lp_theory.proofs.Steps.{compose}
-use Rattle.lp_theory.proofs.Turns.{reduces_in}
+use Rattle.lp_passages.proofs.Turns.{reduces_in}
 use Rattle.undo_records.specs.Postsolve.{Postsolve}
 use Rattle.undo_records.specs.Lift.{lift}
 use Rattle.undo_records.specs.Sound.{IsSound}
-use Rattle.undo_records.specs.Walk.{Flags, Walks, AreSound, all_live, flags_of as told_flags}
+use Rattle.lp_model.specs.Flags.{Flags}
+use Rattle.undo_records.specs.Walk.{Walks, AreSound, all_live, flags_of as told_flags}
 use Rattle.undo_records.specs.declared.label.Label.{Label}
 use Rattle.problem_model.specs.Flags.{flags_of}
 use Rattle.problem_model.specs.Matrices.{line_at}

@@ -4,7 +4,7 @@ ghost use Rattle.std.specs.Prelude.{◌↔◌, All, IsTrue};
 ghost use Rattle.problem_model.specs.Allowed.{AreAllowed, EntriesFirst};
 ghost use Rattle.problem_model.specs.NewNumbers.{EditFits, EditIsWritten, EditsAreWritten};
 ghost use Rattle.problem_model.specs.Offsets.{OffsetFits};
-ghost use Rattle.problem_model.specs.NewNumbers.{WidthFits, WidthIsWritten, IsWritten};
+ghost use Rattle.lp_model.specs.Ends.{WidthFits, WidthIsWritten, IsWritten};
 ghost use Rattle.instances.specs.Made.{Makes};
 
 use fractions::ext::Ext;
@@ -12,7 +12,7 @@ use fractions::frac::Frac;
 use fractions::{Numbers, Past};
 use problem_commits::commit;
 use problem_model::{Edit, Refusal};
-use rule_words::numbers::{are_near, can_write, can_write_both, can_write_end, width_of};
+use lp_model::writing::{are_near, can_write, can_write_both, can_write_end, width_of};
 use sparse_problem::Problem;
 use std::alloc::Global;
 

@@ -14,7 +14,7 @@ use Rattle.lp_model.specs.Vectors.{Vector}
 use Rattle.lp_model.specs.LinearProgram.{LinearProgram, value_at, cost_at, Feasible}
 use Rattle.lp_model.specs.Optimality.{Continuous, reduced_cost}
 use Rattle.lp_model.specs.Reductions.{Reduces, Priced, ReducesPairs}
-use Rattle.lp_theory.specs.Edits.{without_column}
+use Rattle.lp_model.specs.Edits.{without_column}
 use Rattle.lp_theory.proofs.Carrying.{Carries, pairs_of}
 use Rattle.lp_theory.proofs.Pairs.{some_inj}
 use Rattle.lp_theory.proofs.Steps.{no_worse_same}

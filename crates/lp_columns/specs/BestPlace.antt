@@ -5,7 +5,7 @@ use Rattle.rational.specs.Order.{◌≤ℚ◌}
 use Rattle.rational.specs.Ends.{Between}
 use Rattle.rational.specs.Floor.{IsWhole}
 use Rattle.lp_model.specs.LinearProgram.{LinearProgram}
-use Rattle.lp_theory.specs.Edits.{with_bounds}
+use Rattle.lp_model.specs.Edits.{with_bounds}
 
 -- in the minimizing sense: v lies between the bounds of column j, a move from any x between them to v doesn't raise the cost,
 -- and a row that has its value y between its sides still has it there after the move

@@ -7,7 +7,7 @@ use Rattle.lp_model.specs.Vectors.{Vector}
 use Rattle.lp_model.specs.LinearProgram.{LinearProgram}
 use Rattle.lp_model.specs.Optimality.{reduced_cost}
 use Rattle.lp_model.specs.Reductions.{Priced}
-use Rattle.lp_theory.specs.Edits.{without_column}
+use Rattle.lp_model.specs.Edits.{without_column}
 
 -- enabled at column j: l = u = v, whole if the column is
 pub record IsFixedColumn (M : LinearProgram) (j : ℕ) (v : Number) : Type 0 where

@@ -8,7 +8,7 @@ use Rattle.lp_model.specs.Vectors.{Vector}
 use Rattle.lp_model.specs.LinearProgram.{LinearProgram}
 use Rattle.lp_model.specs.Reductions.{Priced}
 use Rattle.lp_theory.specs.Activities.{least_term, greatest_term}
-use Rattle.lp_theory.specs.Edits.{with_bounds}
+use Rattle.lp_model.specs.Edits.{with_bounds}
 use Rattle.lp_theory.specs.Dropped.{column_dropped}
 use Rattle.lp_theory.specs.MetEnds.{lower_over, upper_over}
 use Rattle.lp_theory.specs.Nearest.{InOrder, near}

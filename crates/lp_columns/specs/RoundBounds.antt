@@ -3,7 +3,7 @@ use Rattle.std.specs.Prelude.{ℕ, ◌<◌, IsTrue, Option, Some, None}
 use Rattle.rational.specs.Number.{Number, of_ℤ}
 use Rattle.rational.specs.Floor.{floor_of, ceil_of}
 use Rattle.lp_model.specs.LinearProgram.{LinearProgram}
-use Rattle.lp_theory.specs.Edits.{with_bounds}
+use Rattle.lp_model.specs.Edits.{with_bounds}
 
 -- enabled at column j, which has to be whole (that one of its bounds isn't, and that they aren't crossed, is a matter of the scan alone)
 pub record IsWholeColumn (M : LinearProgram) (j : ℕ) : Type 0 where

@@ -12,3 +12,8 @@ pub mod Meaning
 pub mod Violations
 pub mod Room
 pub mod Writable
+pub mod Turning
+pub mod Edits
+pub mod Flags
+pub mod EndTests
+pub mod Ends

@@ -3,12 +3,14 @@
 //! `specs/` says what a program means and what is asked of a point, of duals and of a reduction.
 #![tactic(auto)]
 
+pub mod ends;
 mod labels;
 mod name;
 mod plain;
 mod point;
 mod program;
 mod terms;
+pub mod writing;
 
 pub use labels::Labels;
 pub use name::{Name, is_name};

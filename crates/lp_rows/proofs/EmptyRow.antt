@@ -9,7 +9,7 @@ use Rattle.lp_model.specs.declared.program.Sense.TheVariants.{Min}
 use Rattle.lp_model.specs.Vectors.{Vector}
 use Rattle.lp_model.specs.LinearProgram.{LinearProgram, value_at}
 use Rattle.lp_model.specs.Reductions.{Reduces, ReducesPairs}
-use Rattle.lp_theory.specs.Edits.{without_row}
+use Rattle.lp_model.specs.Edits.{without_row}
 use Rattle.lp_theory.proofs.Carrying.{pairs_of}
 use Rattle.lp_theory.proofs.Pairs.{row_pairs}
 use Rattle.lp_theory.proofs.Steps.{redundant_row}

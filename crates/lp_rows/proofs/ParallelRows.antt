@@ -19,7 +19,7 @@ use Rattle.lp_model.specs.LinearProgram.{LinearProgram, value_at, Feasible}
 use Rattle.lp_model.specs.Senses.{Sits}
 use Rattle.lp_model.specs.Optimality.{reduced_cost}
 use Rattle.lp_model.specs.Reductions.{Reduces, Priced, ReducesPairs}
-use Rattle.lp_theory.specs.Edits.{with_sides}
+use Rattle.lp_model.specs.Edits.{with_sides}
 use Rattle.lp_theory.specs.MetEnds.{lower_over, upper_over, is_from_row}
 use Rattle.lp_theory.proofs.ActivityLaws.{lt_true}
 use Rattle.lp_theory.proofs.Carrying.{Carries, pairs_of}

@@ -6,7 +6,7 @@ use Rattle.lp_model.specs.declared.program.Sense.TheVariants.{Min}
 use Rattle.lp_model.specs.LinearProgram.{LinearProgram, value_at}
 use Rattle.lp_model.specs.Reductions.{Reduces, ReducesPairs}
 use Rattle.lp_theory.specs.Activities.{least, greatest}
-use Rattle.lp_theory.specs.Edits.{without_row}
+use Rattle.lp_model.specs.Edits.{without_row}
 use Rattle.lp_theory.proofs.ActivityLaws.{least-value, greatest-value}
 use Rattle.lp_theory.proofs.Carrying.{pairs_of}
 use Rattle.lp_theory.proofs.RowBounds.{at_least_from, at_most_from}

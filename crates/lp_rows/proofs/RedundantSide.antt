@@ -10,7 +10,7 @@ use Rattle.lp_model.specs.Vectors.{Vector}
 use Rattle.lp_model.specs.LinearProgram.{LinearProgram, value_at, Feasible}
 use Rattle.lp_model.specs.Reductions.{Reduces, Priced, ReducesPairs}
 use Rattle.lp_theory.specs.Activities.{least, greatest}
-use Rattle.lp_theory.specs.Edits.{with_sides}
+use Rattle.lp_model.specs.Edits.{with_sides}
 use Rattle.lp_theory.proofs.ActivityLaws.{least-value, greatest-value}
 use Rattle.lp_theory.proofs.Carrying.{Carries, pairs_of}
 use Rattle.lp_theory.proofs.RowBounds.{at_least_from, at_most_from}

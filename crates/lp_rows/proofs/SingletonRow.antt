@@ -17,7 +17,7 @@ use Rattle.lp_model.specs.declared.program.Sense.TheVariants.{Min}
 use Rattle.lp_model.specs.Vectors.{Vector}
 use Rattle.lp_model.specs.LinearProgram.{LinearProgram, value_at, Feasible}
 use Rattle.lp_model.specs.Reductions.{Reduces, Priced, ReducesPairs}
-use Rattle.lp_theory.specs.Edits.{with_bounds}
+use Rattle.lp_model.specs.Edits.{with_bounds}
 use Rattle.lp_theory.proofs.ActivityLaws.{lt_true}
 use Rattle.lp_theory.proofs.Carrying.{Carries, pairs_of, carries_same_z}
 use Rattle.lp_theory.proofs.Pairs.{undo_row, moved, bounded, row_pairs, transfer, not_below}

@@ -19,7 +19,7 @@ use Rattle.lp_model.specs.Vectors.{Vector}
 use Rattle.lp_model.specs.LinearProgram.{LinearProgram, value_at, Feasible}
 use Rattle.lp_model.specs.Reductions.{Reduces, Priced, ReducesPairs}
 use Rattle.lp_theory.specs.Activities.{least_rest, greatest_rest}
-use Rattle.lp_theory.specs.Edits.{with_bounds}
+use Rattle.lp_model.specs.Edits.{with_bounds}
 use Rattle.lp_theory.specs.Reached.{rest_at, IsAtLeastEnd, IsAtGreatestEnd}
 use Rattle.lp_theory.proofs.ActivityLaws.{lt_true, value-rest, least_rest-value, greatest_rest-value}
 use Rattle.lp_theory.proofs.Carrying.{Carries, pairs_of}

@@ -5,7 +5,7 @@ use Rattle.rational.specs.Total.{put}
 use Rattle.rational.specs.Ends.{Between}
 use Rattle.lp_model.specs.LinearProgram.{LinearProgram}
 use Rattle.lp_model.specs.Reductions.{Priced}
-use Rattle.lp_theory.specs.Edits.{without_row}
+use Rattle.lp_model.specs.Edits.{without_row}
 
 -- enabled at row i: no entries, L <= 0 <= U
 pub record IsEmptyRow (M : LinearProgram) (i : ℕ) : Type 0 where

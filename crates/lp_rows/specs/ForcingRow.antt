@@ -11,7 +11,7 @@ use Rattle.lp_model.specs.LinearProgram.{LinearProgram}
 use Rattle.lp_model.specs.Reductions.{Priced}
 use Rattle.lp_theory.specs.Activities.{least, greatest}
 use Rattle.lp_theory.specs.Crossed.{AreCrossed}
-use Rattle.lp_theory.specs.Edits.{without_row}
+use Rattle.lp_model.specs.Edits.{without_row}
 
 -- nothing of row i is crossed: neither its sides nor the bounds of its columns
 pub record IsUncrossed (M : LinearProgram) (i : ℕ) : Type 0 where

@@ -7,7 +7,7 @@ use Rattle.rational.specs.Ends.{meet_low, meet_high}
 use Rattle.lp_model.specs.Vectors.{Vector}
 use Rattle.lp_model.specs.LinearProgram.{LinearProgram}
 use Rattle.lp_model.specs.Reductions.{Priced}
-use Rattle.lp_theory.specs.Edits.{without_row, with_sides}
+use Rattle.lp_model.specs.Edits.{without_row, with_sides}
 use Rattle.lp_theory.specs.MetEnds.{lower_over, upper_over, is_from_row}
 
 -- enabled at rows i and k: row i is s times row k; that they have an entry only the scan asks

@@ -6,7 +6,7 @@ use Rattle.rational.specs.Ends.{LowBelow, HighAbove}
 use Rattle.lp_model.specs.LinearProgram.{LinearProgram}
 use Rattle.lp_model.specs.Reductions.{Priced}
 use Rattle.lp_theory.specs.Activities.{least, greatest}
-use Rattle.lp_theory.specs.Edits.{without_row}
+use Rattle.lp_model.specs.Edits.{without_row}
 
 -- enabled at row i: the least activity is at least L, the greatest at most U; that the row has an entry only the scan asks
 pub record IsRedundantRow (M : LinearProgram) (i : ℕ) : Type 0 where

@@ -3,7 +3,7 @@ use Rattle.std.specs.Prelude.{ℕ, ◌<◌, None}
 use Rattle.rational.specs.Ends.{LowBelow, HighAbove}
 use Rattle.lp_model.specs.LinearProgram.{LinearProgram}
 use Rattle.lp_theory.specs.Activities.{least, greatest}
-use Rattle.lp_theory.specs.Edits.{with_sides}
+use Rattle.lp_model.specs.Edits.{with_sides}
 
 -- Enabled at row i: the least activity is at least L, or the greatest at most U. That the row has an entry, that both sides are
 -- finite and that the other one is not kept only the scan asks.

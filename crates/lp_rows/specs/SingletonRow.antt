@@ -6,7 +6,7 @@ use Rattle.rational.specs.Total.{put}
 use Rattle.rational.specs.Ends.{meet_low, meet_high}
 use Rattle.lp_model.specs.LinearProgram.{LinearProgram}
 use Rattle.lp_model.specs.Reductions.{Priced}
-use Rattle.lp_theory.specs.Edits.{without_row, with_bounds}
+use Rattle.lp_model.specs.Edits.{without_row, with_bounds}
 pub use Rattle.lp_theory.specs.MetEnds.{lower_over, upper_over, is_from_row}
 
 -- enabled at row i: one entry, at column j

@@ -9,7 +9,7 @@ use Rattle.lp_model.specs.Vectors.{Vector}
 use Rattle.lp_model.specs.LinearProgram.{LinearProgram}
 use Rattle.lp_model.specs.Reductions.{Priced}
 use Rattle.lp_theory.specs.Activities.{least_rest, greatest_rest}
-use Rattle.lp_theory.specs.Edits.{with_bounds}
+use Rattle.lp_model.specs.Edits.{with_bounds}
 
 -- what is left of L by the greatest rest, and of U by the least, over the entry a; for a below 0 they change places
 abbrev pub implied_lower : LinearProgram → ℕ → ℕ → Option Number

@@ -8,8 +8,7 @@ use Rattle.rational.specs.MinMax.{abs_ℚ}
 use Rattle.rational.specs.Ends.{scaled}
 use Rattle.lp_model.specs.LinearProgram.{LinearProgram}
 use Rattle.lp_theory.specs.Activities.{least_rest, greatest_rest}
-use Rattle.lp_theory.specs.Changes.{with_coefficient}
-use Rattle.lp_theory.specs.Edits.{with_sides}
+use Rattle.lp_model.specs.Edits.{with_coefficient, with_sides}
 
 -- the side that a row has
 pub data OneSide : Type 0 where

@@ -8,7 +8,7 @@ use Rattle.rational.specs.Ends.{same_end, minus_ends, LowBelow, HighAbove}
 use Rattle.lp_model.specs.Vectors.{Vector}
 use Rattle.lp_model.specs.LinearProgram.{LinearProgram}
 use Rattle.lp_model.specs.Reductions.{Priced}
-use Rattle.lp_theory.specs.Edits.{without_row}
+use Rattle.lp_model.specs.Edits.{without_row}
 use Rattle.lp_theory.specs.Activities.{least_rest, greatest_rest}
 use Rattle.lp_theory.specs.Elsewhere.{products, IsColumnSingleton, column_put_into_row}
 use Rattle.lp_theory.specs.MetEnds.{lower_over, upper_over}

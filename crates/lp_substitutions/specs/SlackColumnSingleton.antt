@@ -8,7 +8,7 @@ use Rattle.rational.specs.Ends.{less, minus_ends, meet_low, meet_high}
 use Rattle.lp_model.specs.Vectors.{Vector}
 use Rattle.lp_model.specs.LinearProgram.{LinearProgram}
 use Rattle.lp_model.specs.Reductions.{Priced}
-use Rattle.lp_theory.specs.Edits.{without_row, with_sides}
+use Rattle.lp_model.specs.Edits.{without_row, with_sides}
 use Rattle.lp_theory.specs.Activities.{least_term, greatest_term}
 use Rattle.lp_theory.specs.Elsewhere.{products, IsColumnSingleton, column_put_into_row}
 use Rattle.lp_theory.specs.MetEnds.{lower_over, upper_over}

@@ -3,12 +3,8 @@ pub mod Joins
 pub mod ActivityLaws
 pub mod Carrying
 pub mod Pairs
-pub mod Optimal
 pub mod SparseSums
 pub mod Verdicts
-pub mod Turns
-pub mod Ids
-pub mod Renumbered
 pub mod Moves
 pub mod CrossedEnds
 pub mod MetEndLaws

@@ -16,7 +16,7 @@ use Rattle.lp_theory.proofs.Carrying.{Carries, PairsReduce}
 use Rattle.lp_model.specs.Optimality.{reduced_cost}
 use Rattle.rational.specs.Compare.{lt_ℚ}
 use Rattle.lp_theory.specs.Activities.{least_term, total_ends}
-use Rattle.lp_theory.specs.Edits.{without_row}
+use Rattle.lp_model.specs.Edits.{without_row}
 use Rattle.rational.proofs.Totals.{put-same, put-other, at_or_off, total_same, total-put_factor}
 use Rattle.rational.proofs.Signs.{times-over, <ℚ-≢, <ℚ-≢'}
 use Rattle.lp_theory.proofs.ActivityLaws.{lt_true, lt_false, total_ends-low, total_ends-high}

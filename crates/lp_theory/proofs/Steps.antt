@@ -13,7 +13,7 @@ use Rattle.lp_model.specs.Vectors.{Vector}
 use Rattle.lp_model.specs.LinearProgram.{LinearProgram, value_at, cost_at, Feasible}
 use Rattle.lp_model.specs.Senses.{NoWorse}
 use Rattle.lp_model.specs.Reductions.{Reduces, Priced, ReducesPairs}
-use Rattle.lp_theory.specs.Edits.{without_row, with_bounds, with_sides}
+use Rattle.lp_model.specs.Edits.{without_row, with_bounds, with_sides}
 
 -- ---- no worse
 pub no_worse_same : (s : Sense) (a b : Number) → a ≡ b → NoWorse s a b

@@ -2,12 +2,9 @@
 use Rattle.std.specs.Prelude.{◌≡◌, ℕ, ◌<◌}
 use Rattle.rational.specs.Number.{Number, ◌+ℚ◌, ◌-ℚ◌, ◌*ℚ◌}
 use Rattle.rational.specs.Total.{put}
+use Rattle.lp_model.specs.Edits.{with_coefficient}
 use Rattle.lp_model.specs.Vectors.{Vector}
 use Rattle.lp_model.specs.LinearProgram.{LinearProgram, value_at, cost_at}
-
--- M with the coefficient c at (i, j)
-abbrev pub with_coefficient : LinearProgram → ℕ → ℕ → Number → LinearProgram
-with_coefficient M i j c = record M { coefficient = put M.coefficient i (put (M.coefficient i) j c) }
 
 -- another number b at column j moves a row's value by its coefficient times the difference
 abbrev pub ValueMoves : Type 0

@@ -1,8 +1,5 @@
-pub mod Edits
 pub mod Activities
 pub mod Joining
-pub mod Turning
-pub mod Renumbering
 pub mod Changes
 pub mod Crossed
 pub mod MetEnds

@@ -1,19 +1,15 @@
-//! The theory of linear programs and of what reduces them. `specs/` has the definitions: changes of a program by original ids,
-//! activities, steps in a row, the two senses, and the passage to the ids of a written program. The functions here do nothing
-//! when they run: each states laws of those definitions, and its check proves them.
+//! The theory of linear programs and of what reduces them. `specs/` has the definitions: activities and where they are reached, ends that
+//! meet, steps in a row. The functions here do nothing when they run: each states laws of those definitions, and its check proves them.
 #![tactic(auto)]
 
 ghost use Rattle.std.specs.Prelude.{◌≡◌, ◌≢◌, ℕ, ◌<◌, List, Some};
-ghost use Rattle.rational.specs.Number.{Number, zero_ℚ, ◌+ℚ◌, ◌*ℚ◌};
+ghost use Rattle.rational.specs.Number.{Number, ◌+ℚ◌, ◌*ℚ◌};
 ghost use Rattle.rational.specs.Total.{total};
 ghost use Rattle.rational.specs.Ends.{AtLeast, AtMost};
 ghost use Rattle.lp_model.specs.declared.terms.Term.{Term};
 ghost use Rattle.lp_model.specs.declared.program.Sense.{Sense};
-ghost use Rattle.lp_model.specs.declared.program.Sense.TheVariants.{Min};
 ghost use Rattle.lp_model.specs.Vectors.{Vector};
-ghost use Rattle.lp_model.specs.LinearProgram.{LinearProgram, value_at, cost_at, Feasible};
-ghost use Rattle.lp_model.specs.Senses.{NoWorse};
-ghost use Rattle.lp_model.specs.Optimality.{Meets};
+ghost use Rattle.lp_model.specs.LinearProgram.{LinearProgram, value_at};
 ghost use Rattle.lp_model.specs.Reductions.{Reduces, ReducesPairs, Priced};
 ghost use Rattle.lp_model.specs.Sparse.{dense, Ascends, sparse_total};
 ghost use Rattle.lp_model.specs.Verdicts.{NoPoint, Endless, NoPointOrEndless};
@@ -21,8 +17,6 @@ ghost use Rattle.lp_theory.specs.Activities.{least, greatest, least_rest, greate
 ghost use Rattle.lp_theory.specs.Changes.{ValueMoves, CostMoves, CoefficientMoves};
 ghost use Rattle.lp_theory.specs.Joining.{Step, end_of, lift, lift_pair, offset_of, EachReduces, EachReducesPairs};
 ghost use Rattle.lp_theory.specs.Reached.{rest_at, InBoundsOff, IsAtLeastEnd, IsAtGreatestEnd};
-ghost use Rattle.lp_theory.specs.Renumbering.{IsRest, written, gathered, spread, gathered_pair, spread_pair};
-ghost use Rattle.lp_theory.specs.Turning.{minimizing, signed, in_sense};
 
 /// A value and a cost move with one coordinate, and a value with one coefficient.
 pub fn values_move_with_a_coordinate()
@@ -64,32 +58,11 @@ pub fn reductions_join()
     ensures pairs { (d : Sense) (M : LinearProgram) (steps : List Step) → EachReducesPairs d M steps → ReducesPairs d M (end_of M steps) (lift_pair steps) }
 {}
 
-/// A point and duals that meet the optimality conditions are a certificate: no feasible point has a better cost.
-pub fn what_meets_is_best()
-    ensures { (d : Sense) (M : LinearProgram) (x y : Vector) → Meets d M x y → (w : Vector) → Feasible M w → NoWorse d (cost_at M x) (cost_at M w) }
-{}
-
 /// What is known of the reduced program in the place of a best point is known of the program.
 pub fn verdicts_go_back()
     ensures none { (d : Sense) (M R : LinearProgram) (f : Vector → Vector) (k : Number) → Reduces d M R f k → NoPoint R → NoPoint M }
     ensures endless { (d : Sense) (M R : LinearProgram) (f : Vector → Vector) (k : Number) → Reduces d M R f k → Endless d R → Endless d M }
     ensures either { (d : Sense) (M R : LinearProgram) (f : Vector → Vector) (k : Number) → Reduces d M R f k → NoPointOrEndless d R → NoPointOrEndless d M }
-{}
-
-/// What holds of a program as it is minimized, with negated costs where its sense is Max, holds in the program's own sense.
-pub fn senses_agree()
-    ensures points { (d : Sense) (M R : LinearProgram) (f : Vector → Vector) (k : Number) → Reduces Min (minimizing d M) (minimizing d R) f k → Reduces d M R f (signed d k) }
-    ensures pairs { (d : Sense) (M R : LinearProgram) (f : Priced → Priced) → ReducesPairs Min (minimizing d M) (minimizing d R) f → ReducesPairs d M R (in_sense d f) }
-    ensures none { (d : Sense) (M : LinearProgram) → NoPoint (minimizing d M) → NoPoint M }
-    ensures either { (d : Sense) (M : LinearProgram) → NoPointOrEndless Min (minimizing d M) → NoPointOrEndless d M }
-{}
-
-/// The written program, in which deleted rows and columns have no ids, has the points and pairs of the program with original ids.
-pub fn written_programs_keep_points()
-    ensures points { (d : Sense) (M : LinearProgram) (rows columns : List ℕ) → IsRest M rows columns → Reduces d M (written M rows columns) (spread columns) zero_ℚ }
-    ensures pairs { (d : Sense) (M : LinearProgram) (rows columns : List ℕ) → IsRest M rows columns → ReducesPairs d M (written M rows columns) (spread_pair rows columns) }
-    ensures points_back { (d : Sense) (M : LinearProgram) (rows columns : List ℕ) → IsRest M rows columns → Reduces d (written M rows columns) M (gathered columns) zero_ℚ }
-    ensures pairs_back { (d : Sense) (M : LinearProgram) (rows columns : List ℕ) → IsRest M rows columns → ReducesPairs d (written M rows columns) M (gathered_pair rows columns) }
 {}
 
 /// What is known of the program that reductions in a row leave, in the place of a best point, is known of the first program.

@@ -8,8 +8,8 @@ use Rattle.lp_model.specs.Reductions.{Reduces}
 use Rattle.lp_model.specs.Vectors.{Vector}
 use Rattle.lp_model.specs.Verdicts.{NoPoint}
 use Rattle.lp_model.specs.declared.program.Sense.TheVariants.{Min}
-use Rattle.lp_theory.specs.Turning.{minimizing}
-use Rattle.lp_theory.proofs.Turns.{no_point_in}
+use Rattle.lp_model.specs.Turning.{minimizing}
+use Rattle.lp_passages.proofs.Turns.{no_point_in}
 use Rattle.lp_theory.proofs.Verdicts.{no_point_back}
 use Rattle.problem_model.specs.Problems.{IsSparse}
 use Rattle.problem_model.specs.Showing.{shown}

@@ -5,8 +5,8 @@ use Rattle.lp_model.specs.ProgramData.{ProgramData}
 use Rattle.lp_model.specs.Meaning.{meaning}
 use Rattle.lp_model.specs.Reductions.{Reduces}
 use Rattle.lp_model.specs.Vectors.{Vector}
-use Rattle.lp_theory.specs.Turning.{signed}
-use Rattle.lp_theory.specs.Renumbering.{spread}
+use Rattle.lp_model.specs.Turning.{signed}
+use Rattle.lp_passages.specs.Renumbering.{spread}
 use Rattle.undo_records.specs.Postsolve.{Postsolve}
 use Rattle.undo_records.specs.Lift.{lift}
 use Rattle.undo_records.specs.declared.label.Label.{Label}

@@ -9,7 +9,7 @@ ghost use Rattle.lp_model.specs.declared.program.Sense.TheVariants.{Min};
 ghost use Rattle.lp_model.specs.LinearProgram.{LinearProgram};
 ghost use Rattle.lp_model.specs.Reductions.{Reduces};
 ghost use Rattle.lp_model.specs.Vectors.{Vector};
-ghost use Rattle.lp_theory.specs.Turning.{minimizing};
+ghost use Rattle.lp_model.specs.Turning.{minimizing};
 ghost use Rattle.undo_records.specs.Lift.{undone};
 ghost use Rattle.undo_records.specs.Sound.{IsSound};
 ghost use Rattle.undo_records.specs.Walk.{NamesLive, after};

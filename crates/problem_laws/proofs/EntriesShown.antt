@@ -7,14 +7,13 @@ use Rattle.rational.specs.Number.{Number, zero_ℚ}
 use Rattle.rational.specs.Total.{put}
 use Rattle.rational.proofs.Totals.{put-same, put-other, at_or_off}
 use Rattle.lp_model.specs.Sparse.{dense}
-use Rattle.lp_theory.specs.Changes.{with_coefficient}
+use Rattle.lp_model.specs.Edits.{with_coefficient, with_cost}
 use Rattle.problem_model.specs.Problems.{row_at, column_at, sides_at, bounds_at, cost_at, IsSparse}
 use Rattle.problem_model.specs.Showing.{coefficient_of, end_if, shown}
 use Rattle.problem_model.specs.Sparse.{Sparse}
 use Rattle.problem_laws.proofs.AtIds.{row_inside, column_inside, cost_inside}
 use Rattle.problem_laws.proofs.ShowingEdits.{cell}
 use Rattle.problem_model.specs.Edits.{entry_set, cost_set}
-use Rattle.problem_model.specs.EditedPrograms.{with_cost}
 use Rattle.problem_laws.proofs.EntriesKept.{put_long, put_live, put_dense, put_dense_other}
 
 module _ (p : Sparse) (m k : ℕ) (c : Number) (s : IsSparse p) (row : (row_at p m).live ≡ true) (column : (column_at p k).live ≡ true) where

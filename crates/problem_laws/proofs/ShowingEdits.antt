@@ -7,7 +7,7 @@ use Rattle.rational.specs.Total.{put}
 use Rattle.rational.proofs.Totals.{put-same, put-other, at_or_off}
 use Rattle.lp_model.specs.declared.terms.Term.{Term}
 use Rattle.lp_model.specs.Sparse.{dense}
-use Rattle.lp_theory.specs.Edits.{without_row, with_bounds, with_sides}
+use Rattle.lp_model.specs.Edits.{without_row, with_bounds, with_sides}
 use Rattle.problem_model.specs.declared.line.Sides.{Sides}
 use Rattle.problem_model.specs.declared.line.Bounds.{Bounds}
 use Rattle.problem_model.specs.Problems.{row_at, column_at, sides_at, bounds_at, cost_at, IsSparse}

@@ -1,17 +1,10 @@
 -- What edits make of the linear program that a problem shows.
-use Rattle.std.specs.Prelude.{ℕ, List, [], ◌∷◌}
-use Rattle.rational.specs.Number.{Number}
-use Rattle.rational.specs.Total.{put}
+use Rattle.std.specs.Prelude.{List, [], ◌∷◌}
 use Rattle.lp_model.specs.LinearProgram.{LinearProgram}
-use Rattle.lp_theory.specs.Changes.{with_coefficient}
-use Rattle.lp_theory.specs.Edits.{without_row, with_bounds, with_sides}
+use Rattle.lp_model.specs.Edits.{without_row, with_bounds, with_sides, with_coefficient, with_cost}
 use Rattle.problem_model.specs.LeftOut.{column_left_out}
 use Rattle.problem_model.specs.declared.edit.Edit.{Edit}
 use Rattle.problem_model.specs.declared.edit.Edit.TheVariants.{DeleteRow, DeleteColumn, SetSides, SetBounds, AddOffset, SetCost, SetEntry}
-
--- the cost c of column j
-abbrev pub with_cost : LinearProgram → ℕ → Number → LinearProgram
-with_cost M j c = record M { costs = put M.costs j c }
 
 abbrev pub edited_program : LinearProgram → Edit → LinearProgram
 edited_program M (DeleteRow i) = without_row M i

@@ -1,6 +1,6 @@
 -- Which rows and columns of a problem are live, as records speak of them.
 use Rattle.std.specs.Prelude.{map}
-use Rattle.undo_records.specs.Walk.{Flags}
+use Rattle.lp_model.specs.Flags.{Flags}
 use Rattle.problem_model.specs.Sparse.{Sparse}
 
 abbrev pub flags_of : Sparse → Flags

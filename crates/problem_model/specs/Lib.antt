@@ -7,7 +7,6 @@ pub mod Reading
 pub mod Showing
 pub mod Programs
 pub mod Writing
-pub mod EndTests
 pub mod Flags
 pub mod LeftOut
 pub mod Entries

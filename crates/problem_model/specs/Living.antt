@@ -1,6 +1,6 @@
 -- What is live after edits.
 use Rattle.std.specs.Prelude.{false, List, [], ◌∷◌, slice_set}
-use Rattle.undo_records.specs.Walk.{Flags}
+use Rattle.lp_model.specs.Flags.{Flags}
 use Rattle.problem_model.specs.declared.edit.Edit.{Edit}
 use Rattle.problem_model.specs.declared.edit.Edit.TheVariants.{DeleteRow, DeleteColumn, SetSides, SetBounds, AddOffset, SetCost, SetEntry}
 

@@ -1,32 +1,12 @@
 -- The numbers that are new with edits: when they have room, and when they can be written.
-use Rattle.std.specs.Prelude.{◌≢◌, ⊤, List, All, Option, Some, None, IfSome}
-use Rattle.rational.specs.Number.{Number, ◌-ℚ◌, neg_ℚ}
+use Rattle.std.specs.Prelude.{⊤, List, All}
 use Rattle.fractions.specs.declared.Numbers.{Numbers}
-use Rattle.fractions.specs.FracWords.{SumFits}
-use Rattle.lp_model.specs.Writable.{IsNear, WritableNumber}
+use Rattle.lp_model.specs.Ends.{WidthFits, WidthIsWritten, IsWritten, AreNear, IsSided}
+use Rattle.lp_model.specs.Writable.{WritableNumber}
 use Rattle.problem_model.specs.Sparse.{Sparse}
 use Rattle.problem_model.specs.Offsets.{OffsetFits}
 use Rattle.problem_model.specs.declared.edit.Edit.{Edit}
 use Rattle.problem_model.specs.declared.edit.Edit.TheVariants.{DeleteRow, DeleteColumn, SetSides, SetBounds, AddOffset, SetCost, SetEntry}
-
--- the width of two finite sides that differ: it has room, and so has the lower side with it
-abbrev pub WidthFits : Option Number → Option Number → Type 0
-WidthFits None u = ⊤
-WidthFits (Some l) None = ⊤
-WidthFits (Some l) (Some u) = l ≢ u → SumFits u (neg_ℚ l) × SumFits l (u -ℚ l)
-
--- finite ends, and the width of two that differ, can be written
-abbrev pub WidthIsWritten : Numbers → Option Number → Option Number → Type 0
-WidthIsWritten numbers None u = ⊤
-WidthIsWritten numbers (Some l) None = ⊤
-WidthIsWritten numbers (Some l) (Some u) = l ≢ u → WritableNumber numbers (u -ℚ l)
-
-abbrev pub IsWritten : Numbers → Option Number → Option Number → Type 0
-IsWritten numbers l u = IfSome l (WritableNumber numbers) × IfSome u (WritableNumber numbers)
-
--- new bounds are finite below 10^20, or infinite
-abbrev pub AreNear : Option Number → Option Number → Type 0
-AreNear l u = IfSome l IsNear × IfSome u IsNear
 
 -- a finite bound is below 10^20 in magnitude, and the width of finite sides has room
 abbrev pub EditFits : Edit → Type 0
@@ -57,11 +37,6 @@ abbrev pub EditsAreWritten : Numbers → List Edit → Type 0
 EditsAreWritten numbers es = All (EditIsWritten numbers) es
 
 -- a side stays finite
-abbrev pub IsSided : Option Number → Option Number → Type 0
-IsSided None None = ⊥
-IsSided None (Some u) = ⊤
-IsSided (Some l) u = ⊤
-
 abbrev pub EditIsSided : Edit → Type 0
 EditIsSided (SetSides i l u) = IsSided l u
 EditIsSided (DeleteRow i) = ⊤

@@ -7,7 +7,7 @@ use Rattle.lp_model.specs.declared.program.RowDef.{RowDef}
 use Rattle.lp_model.specs.declared.program.ColumnDef.{ColumnDef}
 use Rattle.lp_model.specs.declared.terms.Term.{Term}
 use Rattle.lp_model.specs.ProgramData.{ProgramData}
-use Rattle.lp_theory.specs.Turning.{signed}
+use Rattle.lp_model.specs.Turning.{signed}
 use Rattle.problem_model.specs.declared.line.Line.{Line}
 use Rattle.problem_model.specs.declared.line.Sides.{Sides}
 use Rattle.problem_model.specs.declared.line.Bounds.{Bounds}

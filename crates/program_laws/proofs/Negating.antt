@@ -12,7 +12,7 @@ use Rattle.lp_model.specs.declared.program.Sense.{Sense}
 use Rattle.lp_model.specs.declared.program.Sense.TheVariants.{Min, Max}
 use Rattle.lp_model.specs.LinearProgram.{LinearProgram}
 use Rattle.lp_model.specs.Writable.{WritableNumber}
-use Rattle.lp_theory.specs.Turning.{signed, minimizing}
+use Rattle.lp_model.specs.Turning.{signed, minimizing}
 
 size_turned : (z : ℤ) → nat_abs (neg_ℤ z) ≡ nat_abs z
 size_turned (pos zero) = refl

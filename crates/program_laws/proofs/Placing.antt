@@ -4,8 +4,8 @@ use Rattle.std.specs.Prelude.{if◌then◌else◌}
 use Rattle.rational.specs.Number.{Number, zero_ℚ}
 use Rattle.rational.proofs.Totals.{put-same, put-other}
 use Rattle.lp_model.specs.Vectors.{Vector, vector_of}
-use Rattle.lp_theory.specs.Renumbering.{IsLeftOut, spread}
-use Rattle.lp_theory.proofs.Ids.{ids-at, spread-off}
+use Rattle.lp_passages.specs.Renumbering.{IsLeftOut, spread}
+use Rattle.lp_passages.proofs.Ids.{ids-at, spread-off}
 use Rattle.undo_records.specs.declared.label.Label.{Label}
 use Rattle.undo_records.specs.Lift.{placed}
 use Rattle.problem_model.specs.declared.line.Line.{Line}

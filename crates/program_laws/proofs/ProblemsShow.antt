@@ -12,7 +12,7 @@ use Rattle.lp_model.specs.declared.program.ColumnDef.{ColumnDef}
 use Rattle.lp_model.specs.Meaning.{no_row, no_column, meaning}
 use Rattle.lp_model.specs.ProgramData.{ProgramData}
 use Rattle.lp_model.specs.Sparse.{dense}
-use Rattle.lp_theory.specs.Turning.{signed, minimizing}
+use Rattle.lp_model.specs.Turning.{signed, minimizing}
 use Rattle.problem_model.specs.declared.line.Line.{Line}
 use Rattle.problem_model.specs.declared.line.Sides.{Sides}
 use Rattle.problem_model.specs.declared.line.Bounds.{Bounds}

@@ -2,7 +2,7 @@
 use Rattle.std.proofs.Common.{◌≡◌, ℕ, zero, suc, ◌+◌, ◌<◌, ◌≤◌, Bool, true, false, cond, List, [], ◌∷◌, length, take, slice_index, sym, refl, ap, ◌∙◌, subst, arith, add-one}
 use Rattle.std.specs.Prelude.{if◌then◌else◌}
 use Rattle.std.proofs.lemmas.List.Sums.{sum_by-cons}
-use Rattle.lp_theory.specs.Renumbering.{IdsFrom, IsLeftOut}
+use Rattle.lp_passages.specs.Renumbering.{IdsFrom, IsLeftOut}
 use Rattle.problem_model.specs.declared.line.Line.{Line}
 use Rattle.problem_model.specs.Matrices.{line_at}
 use Rattle.problem_model.specs.Programs.{rank, live_ids_from, live_ids}

@@ -15,7 +15,7 @@ use Rattle.lp_model.specs.ProgramData.{ProgramData}
 use Rattle.lp_model.specs.Writable.{WritableNumber, WritableBound, WritableSides, WritableRow, WritableColumn, Writable}
 use Rattle.problem_model.specs.declared.line.Sides.{Sides}
 use Rattle.problem_model.specs.declared.line.Bounds.{Bounds}
-use Rattle.problem_model.specs.EndTests.{is_in_order}
+use Rattle.lp_model.specs.EndTests.{is_in_order}
 use Rattle.problem_model.specs.Problems.{row_at, column_at, sides_at, bounds_at, cost_at, IsSparse}
 use Rattle.problem_model.specs.Programs.{IsProblemOf, written_column, written_program}
 use Rattle.problem_model.specs.Sparse.{Sparse}

@@ -13,9 +13,9 @@ use Rattle.lp_model.specs.ProgramData.{ProgramData}
 use Rattle.lp_model.specs.Reductions.{Reduces}
 use Rattle.lp_model.specs.Sparse.{Ascends, dense}
 use Rattle.lp_model.specs.Writable.{EntriesAscend}
-use Rattle.lp_theory.specs.Renumbering.{IsRest, gathered, spread, written}
-use Rattle.lp_theory.specs.Turning.{signed, minimizing}
-use Rattle.lp_theory.proofs.Renumbered.{reduces_to_written, written_reduces_to}
+use Rattle.lp_passages.specs.Renumbering.{IsRest, gathered, spread, written}
+use Rattle.lp_model.specs.Turning.{signed, minimizing}
+use Rattle.lp_passages.proofs.Renumbered.{reduces_to_written, written_reduces_to}
 use Rattle.lp_theory.proofs.Steps.{compose}
 use Rattle.problem_model.specs.declared.line.Sides.{Sides}
 use Rattle.problem_model.specs.Problems.{row_at, column_at, sides_at, bounds_at, cost_at, IsSparse}

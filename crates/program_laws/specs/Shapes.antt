@@ -1,8 +1,8 @@
 -- What a problem that is written has to do with its program.
 use Rattle.std.specs.Prelude.{◌≡◌, ℕ, true, length}
 use Rattle.lp_model.specs.ProgramData.{ProgramData}
-use Rattle.lp_theory.specs.Turning.{signed}
-use Rattle.problem_model.specs.EndTests.{is_in_order}
+use Rattle.lp_model.specs.Turning.{signed}
+use Rattle.lp_model.specs.EndTests.{is_in_order}
 use Rattle.problem_model.specs.Problems.{row_at, sides_at}
 use Rattle.problem_model.specs.Sparse.{Sparse}
 

@@ -12,7 +12,8 @@ use Rattle.lp_model.specs.Name.{is_name, IsName}
 use Rattle.undo_records.specs.Named.{AreNamed}
 use Rattle.undo_records.specs.Postsolve.{Postsolve}
 use Rattle.undo_records.specs.Sound.{IsSound}
-use Rattle.undo_records.specs.Walk.{Flags, Walks, NamesLive, AreSound, all_live, after, cleared, lives, flags_of, rows_deleted, columns_deleted}
+use Rattle.lp_model.specs.Flags.{Flags}
+use Rattle.undo_records.specs.Walk.{Walks, NamesLive, AreSound, all_live, after, cleared, lives, flags_of, rows_deleted, columns_deleted}
 use Rattle.undo_records.specs.declared.label.Label.{Label}
 use Rattle.undo_records.specs.declared.undo.Undo.{Undo}
 use Rattle.undo_records.proofs.Walking.{walks_on}

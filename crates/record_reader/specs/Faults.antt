@@ -1,7 +1,8 @@
 -- The fault of a line, by what the lines before it have given.
 use Rattle.std.specs.Prelude.{ℕ, Bool, true, false, ◌&&◌, List, [], ◌∷◌, Option, Some, None, Result, Ok, Err, is_some, codes, if◌then◌else◌}
 use Rattle.undo_records.specs.Postsolve.{Postsolve}
-use Rattle.undo_records.specs.Walk.{Flags, lives}
+use Rattle.lp_model.specs.Flags.{Flags}
+use Rattle.undo_records.specs.Walk.{lives}
 use Rattle.rational.specs.Number.{Number}
 use Rattle.record_words.specs.Words.{words_of}
 use Rattle.record_words.specs.Undos.{undo_fault}

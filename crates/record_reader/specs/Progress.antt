@@ -3,7 +3,8 @@ use Rattle.std.specs.Prelude.{ℕ, zero, suc, pred, List, [], ◌∷◌, ◌++�
 use Rattle.rational.specs.Number.{Number, zero_ℚ}
 use Rattle.lp_model.specs.declared.program.Sense.TheVariants.{Min}
 use Rattle.undo_records.specs.Postsolve.{Postsolve}
-use Rattle.undo_records.specs.Walk.{Flags, all_live, after}
+use Rattle.lp_model.specs.Flags.{Flags}
+use Rattle.undo_records.specs.Walk.{all_live, after}
 use Rattle.undo_records.specs.declared.undo.Undo.{Undo}
 use Rattle.record_words.specs.Words.{words_of}
 use Rattle.record_words.specs.Undos.{undo_in}

@@ -18,7 +18,8 @@ use Rattle.number_texts.specs.Written.{written}
 use Rattle.number_texts.proofs.Again.{read-written}
 use Rattle.undo_records.specs.Postsolve.{Postsolve}
 use Rattle.undo_records.specs.Sound.{IsSound}
-use Rattle.undo_records.specs.Walk.{Flags, Walks, after, all_live, flags_of, lives}
+use Rattle.lp_model.specs.Flags.{Flags}
+use Rattle.undo_records.specs.Walk.{Walks, after, all_live, flags_of, lives}
 use Rattle.undo_records.specs.declared.label.Label.{Label}
 use Rattle.undo_records.specs.declared.undo.Undo.{Undo}
 use Rattle.record_file.specs.Words.{live_word}

@@ -1,6 +1,6 @@
 -- What reading a line gives.
 use Rattle.std.specs.Prelude.{◌≡◌, ℕ, List, Some, None, Result, Ok, Err}
-use Rattle.undo_records.specs.Walk.{Flags}
+use Rattle.lp_model.specs.Flags.{Flags}
 use Rattle.undo_records.specs.declared.undo.Undo.{Undo}
 use Rattle.record_words.specs.Words.{words_of}
 use Rattle.record_words.specs.Undos.{rule_fault, undo_of, undo_fault, undo_in}

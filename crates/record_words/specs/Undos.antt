@@ -3,7 +3,8 @@ use Rattle.std.specs.Prelude.{ℕ, Bool, true, not, ◌&&◌, List, Option, Some
 use Rattle.std.specs.List.{list_all}
 use Rattle.rational.specs.Number.{Number}
 use Rattle.lp_model.specs.declared.terms.Term.{Term}
-use Rattle.undo_records.specs.Walk.{Flags, is_on, rows_named, columns_named}
+use Rattle.lp_model.specs.Flags.{Flags}
+use Rattle.undo_records.specs.Walk.{is_on, rows_named, columns_named}
 use Rattle.undo_records.specs.declared.side.Side.{Side}
 use Rattle.undo_records.specs.declared.side.Side.TheVariants.{Lower}
 use Rattle.undo_records.specs.declared.side.RowFate.{RowFate}

@@ -2,7 +2,8 @@
 
 ghost use Rattle.std.specs.Prelude.{◌≡◌, ◌<◌, ℕ, None, List, length};
 ghost use Rattle.undo_records.specs.Sound.{IsSound};
-ghost use Rattle.undo_records.specs.Walk.{Flags, NamesLive};
+ghost use Rattle.lp_model.specs.Flags.{Flags};
+ghost use Rattle.undo_records.specs.Walk.{NamesLive};
 ghost use Rattle.record_words.specs.Undos.{names_live, undo_fault, undo_in};
 ghost use Rattle.record_words.specs.Results.{IsUndo, IsRuleUndo};
 ghost use Rattle.record_words.specs.Views.{words_left};

@@ -8,7 +8,7 @@ use Rattle.lp_model.specs.declared.program.Sense.TheVariants.{Min}
 use Rattle.lp_model.specs.ProgramData.{ProgramData}
 use Rattle.lp_model.specs.Meaning.{meaning}
 use Rattle.lp_model.specs.Writable.{EntriesAscend, Writable}
-use Rattle.lp_theory.specs.Turning.{signed}
+use Rattle.lp_model.specs.Turning.{signed}
 use Rattle.undo_records.specs.Postsolve.{Postsolve}
 use Rattle.undo_records.specs.Walk.{AreSound}
 use Rattle.problem_model.specs.declared.part.Contents.TheVariants as holds
@@ -21,7 +21,7 @@ use Rattle.presolve_model.specs.Conclusions.{Decided}
 use Rattle.presolve_model.specs.Enabled.{enabled_on}
 use Rattle.presolve_model.specs.Meanings.{Meant}
 use Rattle.presolve_model.proofs.ByCases.{meant_in}
-use Rattle.problem_model.specs.EndTests.{is_in_order}
+use Rattle.lp_model.specs.EndTests.{is_in_order}
 use Rattle.presolve_model.specs.Ledger.{Ledger, Stands}
 use Rattle.problem_model.specs.Problems.{IsSparse, row_at, sides_at}
 use Rattle.problem_model.specs.Programs.{IsProblemOf, written_program}

@@ -2,7 +2,7 @@
 use Rattle.std.specs.Prelude.{◌≡◌, Bool, List, map}
 use Rattle.lp_model.specs.ProgramData.{ProgramData}
 use Rattle.lp_model.specs.Names.{names_of_rows, names_of_columns}
-use Rattle.lp_theory.specs.Turning.{signed}
+use Rattle.lp_model.specs.Turning.{signed}
 use Rattle.undo_records.specs.Postsolve.{Postsolve}
 use Rattle.undo_records.specs.Walk.{lives}
 use Rattle.problem_model.specs.declared.line.Line.{Line}

@@ -10,7 +10,7 @@ use Rattle.rational.proofs.Comparisons.{le_ℚ-is, lt_ℚ-is, eq_ℚ-is}
 use Rattle.rational.proofs.Floors.{is_whole-is}
 use Rattle.lp_theory.proofs.Pairs.{some_inj}
 use Rattle.lp_theory.specs.Crossed.{AreCrossed}
-use Rattle.problem_model.specs.EndTests.{is_in_order, is_crossed, is_apart, holds_zero, is_fixed, is_place}
+use Rattle.lp_model.specs.EndTests.{is_in_order, is_crossed, is_apart, holds_zero, is_fixed, is_place}
 
 pub not_true : false ≡ true → ⊥
 not_true e = true≢false (sym e)

@@ -1,5 +1,3 @@
 pub mod Coefficients
 pub mod EndTestsSay
 pub mod Named
-pub mod Reducing
-pub mod Widths

@@ -1,5 +1,4 @@
 pub mod Entries
 pub mod Reading
 pub mod Owed
-pub mod Widths
 pub mod Answers

@@ -6,12 +6,12 @@ use Rattle.rational.specs.Number.{Number, zero_ℚ}
 use Rattle.lp_model.specs.declared.program.Sense.TheVariants.{Min}
 use Rattle.lp_model.specs.declared.terms.Term.{Term}
 use Rattle.lp_model.specs.Sparse.{dense}
-use Rattle.lp_theory.specs.Edits.{with_bounds}
+use Rattle.lp_model.specs.Edits.{with_bounds}
 use Rattle.lp_columns.specs.EmptyColumn.{IsEmptyColumn, resting_place}
 use Rattle.lp_columns.proofs.EmptyColumn.{empty_column}
 use Rattle.problem_model.specs.declared.edit.Edit.TheVariants.{SetBounds}
 use Rattle.problem_model.specs.declared.part.Contents.TheVariants as holding
-use Rattle.problem_model.specs.EndTests.{is_apart, is_place}
+use Rattle.lp_model.specs.EndTests.{is_apart, is_place}
 use Rattle.problem_model.specs.Problems.{column_at, bounds_at, cost_at, column_entries, IsSparse}
 use Rattle.problem_model.specs.Showing.{end_if, shown}
 use Rattle.problem_model.specs.Sparse.{Sparse}
@@ -20,7 +20,7 @@ use Rattle.rule_words.specs.Owed.{RuleOwes}
 use Rattle.rule_words.proofs.Coefficients.{zero_either, end_live, coefficient_in_column}
 use Rattle.rule_words.proofs.EndTestsSay.{not_true, apart_ends, Finite, finite_end}
 use Rattle.rule_words.proofs.Named.{one_on, none_on, one_sided, nothing}
-use Rattle.rule_words.proofs.Reducing.{by_edits}
+use Rattle.edit_laws.proofs.Reducing.{by_edits}
 use Rattle.singleton_laws.specs.EmptyColumn.{is_empty_column, enabled, place_of, edits, record_of}
 
 -- what the condition says: a live column without live entries, which costs least at the place o, the finite v

@@ -6,7 +6,7 @@ use Rattle.rational.specs.Ends.{Between}
 use Rattle.lp_model.specs.declared.program.Sense.TheVariants.{Min}
 use Rattle.lp_model.specs.declared.terms.Term.{Term}
 use Rattle.lp_model.specs.Sparse.{dense}
-use Rattle.lp_theory.specs.Edits.{without_row}
+use Rattle.lp_model.specs.Edits.{without_row}
 use Rattle.lp_rows.specs.EmptyRow.{IsEmptyRow}
 use Rattle.lp_rows.proofs.EmptyRow.{empty_row}
 use Rattle.problem_model.specs.declared.edit.Edit.TheVariants.{DeleteRow}
@@ -19,7 +19,7 @@ use Rattle.rule_words.specs.Owed.{RuleOwes}
 use Rattle.rule_words.proofs.Coefficients.{zero_either, coefficient_in_row}
 use Rattle.rule_words.proofs.EndTestsSay.{not_true, zero_held}
 use Rattle.rule_words.proofs.Named.{one_on, none_on, one_sided, nothing}
-use Rattle.rule_words.proofs.Reducing.{by_edits}
+use Rattle.edit_laws.proofs.Reducing.{by_edits}
 use Rattle.singleton_laws.specs.EmptyRow.{is_empty_row, enabled, edits, record_of}
 
 -- what the condition says: a live row without live entries, whose sides hold 0

@@ -13,7 +13,7 @@ use Rattle.lp_model.specs.declared.terms.Term.{Term}
 use Rattle.lp_model.specs.LinearProgram.{LinearProgram}
 use Rattle.lp_model.specs.Reductions.{Reduces}
 use Rattle.lp_model.specs.Sparse.{dense, has}
-use Rattle.lp_theory.specs.Edits.{without_column}
+use Rattle.lp_model.specs.Edits.{without_column}
 use Rattle.lp_columns.specs.FixedColumn.{IsFixedColumn, undo_fixed_column}
 use Rattle.lp_columns.proofs.FixedColumn.{fixed_column}
 use Rattle.undo_records.specs.Walk.{after}
@@ -34,14 +34,15 @@ use Rattle.problem_model.specs.declared.edit.Edit.{Edit}
 use Rattle.problem_model.specs.declared.edit.Edit.TheVariants.{AddOffset, DeleteColumn}
 use Rattle.problem_model.specs.Allowed.{AreAllowed}
 use Rattle.problem_model.specs.Raised.{committed}
-use Rattle.problem_model.specs.NewNumbers.{IsSided, EditIsSided}
+use Rattle.lp_model.specs.Ends.{IsSided}
+use Rattle.problem_model.specs.NewNumbers.{EditIsSided}
 use Rattle.problem_model.specs.Offsets.{added_by}
 use Rattle.problem_model.specs.EditedPrograms.{programs_edited}
 use Rattle.edit_laws.proofs.Lists.{allowed_more, entries_first_none}
 use Rattle.edit_laws.proofs.Sweeps.{sweep, programs_more, added_more, sweep_matrix, sweep_allowed, sweep_added, sweep_flags, sweep_no_entries, sweep_sided, sweep_only, sweep_lower, sweep_upper}
 use Rattle.rule_words.specs.Owed.{RuleOwes}
 use Rattle.singleton_laws.specs.FixedColumn.{is_fixed_column, enabled, value_of, sides_less, column_out, edits, record_of}
-use Rattle.rule_words.proofs.Reducing.{by_edits}
+use Rattle.edit_laws.proofs.Reducing.{by_edits}
 use Rattle.rule_words.proofs.Named.{one_on, ids_on, two_sided}
 
 -- what the condition says: a live column whose bounds are v

@@ -3,7 +3,7 @@ use Rattle.std.proofs.Common.{◌≡◌, ℕ, Bool, true, false, ◌&&◌, List,
 use Rattle.std.specs.Prelude.{if◌then◌else◌}
 use Rattle.rational.specs.Number.{Number, zero_ℚ}
 use Rattle.lp_model.specs.declared.program.Sense.TheVariants.{Min}
-use Rattle.lp_theory.specs.Edits.{with_bounds}
+use Rattle.lp_model.specs.Edits.{with_bounds}
 use Rattle.lp_columns.specs.RoundBounds.{rounded_up, rounded_down, bounds_rounded}
 use Rattle.lp_columns.proofs.RoundBounds.{bounds_rounded_reduce}
 use Rattle.problem_model.specs.declared.edit.Edit.TheVariants.{SetBounds}
@@ -16,7 +16,7 @@ use Rattle.problem_laws.proofs.AtIds.{column_inside}
 use Rattle.rule_words.specs.Owed.{RuleOwes}
 use Rattle.rule_words.proofs.EndTestsSay.{not_true}
 use Rattle.rule_words.proofs.Named.{one_on, none_on, one_sided, nothing}
-use Rattle.rule_words.proofs.Reducing.{by_edits}
+use Rattle.edit_laws.proofs.Reducing.{by_edits}
 use Rattle.singleton_laws.specs.RoundBounds.{is_to_be_rounded, enabled, edits, record_of}
 
 -- what the condition says: a live column that must be whole

@@ -10,7 +10,7 @@ use Rattle.rational.proofs.Totals.{put-same, put-other}
 use Rattle.lp_model.specs.declared.program.Sense.TheVariants.{Min}
 use Rattle.lp_model.specs.declared.terms.Term.{Term}
 use Rattle.lp_model.specs.Sparse.{Ascends, dense}
-use Rattle.lp_theory.specs.Edits.{without_row, with_bounds}
+use Rattle.lp_model.specs.Edits.{without_row, with_bounds}
 use Rattle.lp_theory.specs.MetEnds.{lower_over, upper_over}
 use Rattle.lp_rows.specs.SingletonRow.{IsSingletonRow, singleton_row_met}
 use Rattle.lp_rows.specs.SingletonRow as rule
@@ -28,7 +28,7 @@ use Rattle.rule_words.specs.Owed.{RuleOwes}
 use Rattle.rule_words.proofs.Coefficients.{coefficient_in_row}
 use Rattle.rule_words.proofs.EndTestsSay.{not_true}
 use Rattle.rule_words.proofs.Named.{one_on, nothing_twice, two_sided}
-use Rattle.rule_words.proofs.Reducing.{by_edits}
+use Rattle.edit_laws.proofs.Reducing.{by_edits}
 use Rattle.singleton_laws.specs.SingletonRow.{is_singleton_row, enabled, sole_entry, met_lower, met_upper, edits, record_of}
 
 -- what the condition says: a live row with one live entry

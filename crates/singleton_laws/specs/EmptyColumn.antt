@@ -10,7 +10,7 @@ use Rattle.problem_model.specs.declared.part.Contents.{Contents}
 use Rattle.problem_model.specs.declared.part.Contents.TheVariants.{Gone, Entries, Sides, Column, Bounds}
 use Rattle.problem_model.specs.declared.part.Part.{Part}
 use Rattle.problem_model.specs.declared.part.Part.TheVariants as part
-use Rattle.problem_model.specs.EndTests.{is_apart, is_place}
+use Rattle.lp_model.specs.EndTests.{is_apart, is_place}
 use Rattle.problem_model.specs.Problems.{bounds_at, cost_at}
 use Rattle.problem_model.specs.Sparse.{Sparse}
 use Rattle.rule_words.specs.Entries.{has_none}

@@ -13,7 +13,7 @@ use Rattle.problem_model.specs.declared.part.Contents.{Contents}
 use Rattle.problem_model.specs.declared.part.Contents.TheVariants.{Gone, Entries, Sides, Column, Bounds}
 use Rattle.problem_model.specs.declared.part.Part.{Part}
 use Rattle.problem_model.specs.declared.part.Part.TheVariants as part
-use Rattle.problem_model.specs.EndTests.{is_fixed}
+use Rattle.lp_model.specs.EndTests.{is_fixed}
 use Rattle.problem_model.specs.Problems.{sides_at, bounds_at, cost_at, column_entries}
 use Rattle.problem_model.specs.Sparse.{Sparse}
 use Rattle.rule_words.specs.Reading.{found_on, no_more}

@@ -9,7 +9,7 @@ use Rattle.problem_model.specs.declared.part.Contents.{Contents}
 use Rattle.problem_model.specs.declared.part.Contents.TheVariants.{Gone, Entries, Sides, Column, Bounds}
 use Rattle.problem_model.specs.declared.part.Part.{Part}
 use Rattle.problem_model.specs.declared.part.Part.TheVariants as part
-use Rattle.problem_model.specs.EndTests.{is_in_order, is_broken}
+use Rattle.lp_model.specs.EndTests.{is_in_order, is_broken}
 use Rattle.problem_model.specs.Problems.{bounds_at}
 use Rattle.problem_model.specs.Sparse.{Sparse}
 use Rattle.rule_words.specs.Reading.{found_on, no_more}

@@ -3,7 +3,7 @@
 ghost use Rattle.std.specs.Prelude.{◌≡◌};
 ghost use Rattle.singleton_laws.specs.CrossedBounds.{enabled};
 
-use rule_words::ends::crossed;
+use lp_model::ends::crossed;
 use sparse_problem::Problem;
 
 /// Whether a column has crossed bounds.

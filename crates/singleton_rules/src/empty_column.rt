@@ -9,7 +9,7 @@ use fractions::ext::Ext;
 use fractions::frac::Frac;
 use problem_model::{Edit, Refusal};
 use rule_words::Change;
-use rule_words::ends::{apart, place};
+use lp_model::ends::{apart, place};
 use sparse_problem::Problem;
 use std::alloc::{AllocError, Global};
 use undo_records::Undo;

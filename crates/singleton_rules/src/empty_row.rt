@@ -6,7 +6,7 @@ ghost use Rattle.singleton_laws.specs.EmptyRow.{enabled, edits, record_of, Compu
 
 use problem_model::{Edit, Refusal};
 use rule_words::Change;
-use rule_words::ends::holds_zero;
+use lp_model::ends::holds_zero;
 use sparse_problem::Problem;
 use std::alloc::{AllocError, Global};
 use undo_records::Undo;

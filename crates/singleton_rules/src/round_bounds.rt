@@ -8,7 +8,7 @@ ghost use Rattle.singleton_laws.specs.RoundBounds.{enabled, edits, record_of, Co
 use fractions::ext::Ext;
 use problem_model::{Edit, Refusal};
 use rule_words::Change;
-use rule_words::ends::{broken, in_order};
+use lp_model::ends::{broken, in_order};
 use sparse_problem::Problem;
 use std::alloc::{AllocError, Global};
 use undo_records::Undo;

@@ -1,19 +1,17 @@
 //! Small problems for tests: a row with an upper side, in which the first of one or two columns stands.
 
 ghost use Rattle.std.specs.Prelude.{◌≡◌, ◌≢◌, ◌↔◌, All, length, IfOk, IfSome, IsTrue};
-ghost use Rattle.rational.specs.Decimal.{Decimal};
 ghost use Rattle.rational.specs.Number.{zero_ℚ};
-ghost use Rattle.rational.specs.Order.{◌<ℚ◌};
 ghost use Rattle.lp_model.specs.Sparse.{Ascends};
-ghost use Rattle.lp_model.specs.Writable.{EntriesAscend, IsNear, Writable, WritableBound, WritableColumn, WritableNumber, WritableRow};
+ghost use Rattle.lp_model.specs.Writable.{EntriesAscend, Writable, WritableBound, WritableColumn, WritableNumber, WritableRow};
 ghost use Rattle.problem_model.specs.Writing.{IsWritable};
 
 use fractions::Numbers;
 use fractions::ext::Ext;
 use fractions::frac::Frac;
 use fractions::whole::Whole;
+use lp_model::writing::{can_write, is_near};
 use lp_model::{ColumnDef, Name, Program, RowDef, Sense, Term, Terms, is_name, names_differ};
-use number_texts::is_decimal;
 use program_laws::laws::written_programs_can_be_written;
 use sparse_problem::Problem;
 use std::alloc::{AllocError, Global};
@@ -37,44 +35,11 @@ fn number(rt: &impl Abort, (over, under): Quotient) -> Frac {
     Frac::ratio_of(Whole::new(over), under)
 }
 
-/// Whether a number has at most 38 decimals.
-fn has_places(number: &Frac) -> bool
-    ensures { IsTrue result ↔ Decimal number.now }
-{
-    is_decimal(number)
-}
-
-/// Whether a number may be written.
-fn can_write(numbers: Numbers, number: &Frac) -> bool
-    ensures { IsTrue result ↔ WritableNumber numbers number.now }
-{
-    let _ = number.parts();
-    match numbers {
-        Numbers::Decimal => has_places(number),
-        Numbers::Fractions => true,
-    }
-}
-
 /// Whether a number can stand in a row.
 fn can_stand(value: &Frac) -> bool
     ensures { IsTrue result ↔ (value.now ≢ zero_ℚ) }
 {
     !value.is_zero()
-}
-
-/// Whether a number is below another.
-fn is_below(number: &Frac, limit: &Frac) -> bool
-    ensures { IsTrue result ↔ (number.now <ℚ limit.now) }
-{
-    number.lt(limit)
-}
-
-/// Whether a number's magnitude is below 10^20.
-fn is_near(number: &Frac) -> bool
-    ensures { IsTrue result ↔ IsNear number.now }
-{
-    let limit = Frac::whole(Whole::natural(100_000_000_000_000_000_000));
-    is_below(&limit.neg(), number) && is_below(number, &limit)
 }
 
 /// That a number may be written.

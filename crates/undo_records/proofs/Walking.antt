@@ -6,7 +6,8 @@ use Rattle.undo_records.specs.declared.undo.Undo.{Undo}
 use Rattle.rational.specs.Number.{Number}
 use Rattle.lp_model.specs.declared.program.Sense.{Sense}
 use Rattle.undo_records.specs.declared.label.Label.{Label}
-use Rattle.undo_records.specs.Walk.{Flags, is_on, rows_named, columns_named, AreSound, NamesLive, Walks, after}
+use Rattle.lp_model.specs.Flags.{Flags}
+use Rattle.undo_records.specs.Walk.{is_on, rows_named, columns_named, AreSound, NamesLive, Walks, after}
 
 -- past the last there is nothing to set
 pub set_past : (xs : List Bool) (k : ℕ) (b : Bool) → length xs ≤ k → slice_set xs k b ≡ xs

@@ -1,5 +1,6 @@
 -- Which rows and columns are live as reductions are applied, and what is asked of all records of a run.
 use Rattle.std.specs.Prelude.{◌≡◌, ℕ, Bool, true, false, List, [], ◌∷◌, map, length, replicate, slice_index_or, slice_set, All}
+use Rattle.lp_model.specs.Flags.{Flags}
 use Rattle.lp_model.specs.declared.terms.Term.{Term}
 use Rattle.undo_records.specs.declared.label.Label.{Label}
 use Rattle.undo_records.specs.declared.side.RowFate.{RowFate}
@@ -8,11 +9,6 @@ use Rattle.undo_records.specs.declared.undo.Undo.{Undo}
 use Rattle.undo_records.specs.declared.undo.Undo.TheVariants.{EmptyRow, SingletonRow, FixedColumn, RoundBounds, RedundantRow, RedundantSide, ForcingRow, TightenBound, TightenCoefficient, DualFix, Dominated, Doubleton, FreeSingleton, SlackSingleton, ParallelRows, ParallelColumns, EmptyColumn}
 use Rattle.undo_records.specs.Postsolve.{Postsolve}
 use Rattle.undo_records.specs.Sound.{IsSound}
-
--- which rows and columns are live
-pub record Flags : Type 0 where
-  pub rows : List Bool
-  pub columns : List Bool
 
 abbrev pub is_on : List Bool → ℕ → Bool
 is_on flags k = slice_index_or flags k false

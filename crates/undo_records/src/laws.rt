@@ -10,7 +10,8 @@ ghost use Rattle.lp_model.specs.Sparse.{sparse_total};
 ghost use Rattle.lp_model.specs.Vectors.{Vector};
 ghost use Rattle.undo_records.specs.Lift.{near, undone};
 ghost use Rattle.undo_records.specs.Sound.{CanUndo, IsSound};
-ghost use Rattle.undo_records.specs.Walk.{Flags, NamesLive, Walks, after};
+ghost use Rattle.lp_model.specs.Flags.{Flags};
+ghost use Rattle.undo_records.specs.Walk.{NamesLive, Walks, after};
 ghost use Rattle.undo_records.specs.declared.undo.Undo.{Undo};
 ghost use Rattle.undo_records.specs.declared.undo.Undo.TheVariants.{Doubleton, FreeSingleton, ParallelColumns};
 

@@ -19,7 +19,7 @@ pub struct Walk {
 }
 
 impl Model for Walk {
-    ghost use Rattle.undo_records.specs.Walk.{Flags};
+    ghost use Rattle.lp_model.specs.Flags.{Flags};
 
     ghost Value = { Flags };
 

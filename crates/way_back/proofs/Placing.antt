@@ -3,7 +3,7 @@ use Rattle.std.proofs.Common.{◌≡◌, ℕ, zero, suc, ◌+◌, ◌<◌, Bool,
 use Rattle.rational.specs.Number.{Number, zero_ℚ}
 use Rattle.rational.proofs.Totals.{put-same, put-other}
 use Rattle.lp_model.specs.Vectors.{Vector, vector_of}
-use Rattle.lp_theory.specs.Renumbering.{spread}
+use Rattle.lp_passages.specs.Renumbering.{spread}
 use Rattle.undo_records.specs.declared.label.Label.{Label}
 use Rattle.undo_records.specs.Lift.{placed}
 use Rattle.presolve_model.specs.Accounts.{live_labels_from}

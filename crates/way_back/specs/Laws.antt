@@ -5,7 +5,7 @@ use Rattle.lp_model.specs.LinearProgram.{Feasible}
 use Rattle.lp_model.specs.Meaning.{meaning}
 use Rattle.lp_model.specs.ProgramData.{ProgramData}
 use Rattle.lp_model.specs.Vectors.{Vector, vector_of}
-use Rattle.lp_theory.specs.Renumbering.{spread}
+use Rattle.lp_passages.specs.Renumbering.{spread}
 use Rattle.undo_records.specs.declared.label.Label.{Label}
 use Rattle.undo_records.specs.Lift.{placed}
 use Rattle.undo_records.specs.Postsolve.{Postsolve}

@@ -1,4 +1,4 @@
-use Rattle.rule_words.proofs.Widths.{width_written}
+use Rattle.lp_model.proofs.Widths.{width_written}
 use Rattle.instances.proofs.admit.can_write_width.Goals as goal
 
 pub returns-in-Ok : goal.returns-in-Ok

@@ -3,7 +3,7 @@ use Rattle.std.specs.List.{All}
 use Rattle.std.proofs.lemmas.List.Elements.{All-tail}
 use Rattle.lp_model.specs.Name.{IsName}
 use Rattle.lp_model.specs.Names.{names_of_columns, names_of_rows}
-use Rattle.lp_theory.specs.Turning.{signed}
+use Rattle.lp_model.specs.Turning.{signed}
 use Rattle.undo_records.specs.Postsolve.{Postsolve}
 use Rattle.problem_model.specs.Sparse.{Sparse}
 use Rattle.round_laws.specs.Telling.{are_live, IsToldOf}

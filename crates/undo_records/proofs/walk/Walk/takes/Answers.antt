@@ -1,5 +1,5 @@
 use Rattle.std.proofs.Common.{ap, ◌∙◌}
-use Rattle.undo_records.specs.Walk.{Flags}
+use Rattle.lp_model.specs.Flags.{Flags}
 use Rattle.undo_records.proofs.Walking.{names_live}
 use Rattle.undo_records.proofs.walk.Walk.takes.Goals as goal
 

@@ -32,3 +32,11 @@ with_bounds M j l u = record M { lower_bound = put M.lower_bound j l; upper_boun
 -- new sides of row i
 abbrev pub with_sides : LinearProgram → ℕ → Option Number → Option Number → LinearProgram
 with_sides M i l u = record M { lower_side = put M.lower_side i l; upper_side = put M.upper_side i u }
+
+-- the coefficient c at (i, j)
+abbrev pub with_coefficient : LinearProgram → ℕ → ℕ → Number → LinearProgram
+with_coefficient M i j c = record M { coefficient = put M.coefficient i (put (M.coefficient i) j c) }
+
+-- the cost c of column j
+abbrev pub with_cost : LinearProgram → ℕ → Number → LinearProgram
+with_cost M j c = record M { costs = put M.costs j c }

@@ -1,5 +1,5 @@
-use Rattle.lp_theory.proofs.Renumbered.{reduces_to_written, pairs_to_written, written_reduces_to, pairs_from_written}
-use Rattle.lp_theory.proofs.written_programs_keep_points.Goals as goal
+use Rattle.lp_passages.proofs.Renumbered.{reduces_to_written, pairs_to_written, written_reduces_to, pairs_from_written}
+use Rattle.lp_passages.proofs.written_programs_keep_points.Goals as goal
 
 pub returns-clause-points : goal.returns-clause-points
 returns-clause-points c = λ d M rows columns r. reduces_to_written M rows columns r d

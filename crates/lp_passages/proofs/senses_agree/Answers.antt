@@ -1,5 +1,5 @@
-use Rattle.lp_theory.proofs.Turns.{reduces_in, pairs_in, no_point_in, either_in}
-use Rattle.lp_theory.proofs.senses_agree.Goals as goal
+use Rattle.lp_passages.proofs.Turns.{reduces_in, pairs_in, no_point_in, either_in}
+use Rattle.lp_passages.proofs.senses_agree.Goals as goal
 
 pub returns-clause-points : goal.returns-clause-points
 returns-clause-points c = reduces_in

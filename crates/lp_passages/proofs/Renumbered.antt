@@ -13,8 +13,8 @@ use Rattle.lp_model.specs.LinearProgram.{LinearProgram, value_at, cost_at, Feasi
 use Rattle.lp_model.specs.Senses.{Sits}
 use Rattle.lp_model.specs.Optimality.{reduced_cost, Meets}
 use Rattle.lp_model.specs.Reductions.{Reduces, ReducesPairs}
-use Rattle.lp_theory.specs.Renumbering.{IsLeftOut, written, IsRest, gathered, spread, gathered_pair, spread_pair}
-use Rattle.lp_theory.proofs.Ids.{ids-at, each_id, spread-at, spread-off, total-ids}
+use Rattle.lp_passages.specs.Renumbering.{IsLeftOut, written, IsRest, gathered, spread, gathered_pair, spread_pair}
+use Rattle.lp_passages.proofs.Ids.{ids-at, each_id, spread-at, spread-off, total-ids}
 use Rattle.lp_theory.proofs.Pairs.{not_below}
 use Rattle.lp_theory.proofs.Steps.{no_worse_same, plus_zero}
 

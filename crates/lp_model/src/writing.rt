@@ -1,18 +1,15 @@
-//! Tests of what is to stand in a problem.
+//! Tests of numbers and ends that are to be written.
 
-ghost use Rattle.std.specs.Prelude.{◌≡◌, ◌↔◌, IsTrue, IfSome};
+ghost use Rattle.std.specs.Prelude.{◌≡◌, ◌↔◌, IsTrue, Some, IfSome, IfOk, IsOk};
 ghost use Rattle.rational.specs.Order.{◌<ℚ◌};
-ghost use Rattle.rational.specs.Decimal.{Decimal};
 ghost use Rattle.lp_model.specs.Writable.{IsNear, WritableNumber};
-ghost use Rattle.std.specs.Prelude.{Some, IfOk, IsOk};
-ghost use Rattle.problem_model.specs.NewNumbers.{AreNear, IsWritten, WidthFits};
-ghost use Rattle.rule_words.specs.Widths.{width};
+ghost use Rattle.lp_model.specs.Ends.{width, AreNear, IsWritten, WidthFits};
 
 use fractions::ext::Ext;
 use fractions::frac::Frac;
+use fractions::places::is_decimal;
 use fractions::whole::Whole;
 use fractions::{Numbers, Past};
-use number_texts::is_decimal;
 
 /// Whether a number is below another.
 fn is_below(number: &Frac, limit: &Frac) -> bool
@@ -22,7 +19,7 @@ fn is_below(number: &Frac, limit: &Frac) -> bool
 }
 
 /// Whether a number's magnitude is below 10^20.
-fn is_near(number: &Frac) -> bool
+pub fn is_near(number: &Frac) -> bool
     ensures { IsTrue result ↔ IsNear number.now }
 {
     let limit = Frac::whole(Whole::natural(100_000_000_000_000_000_000));
@@ -39,20 +36,13 @@ fn is_near_end(end: &Ext) -> bool
     }
 }
 
-/// Whether a number has at most 38 decimals.
-fn has_places(number: &Frac) -> bool
-    ensures { IsTrue result ↔ Decimal number.now }
-{
-    is_decimal(number)
-}
-
 /// Whether a number may be written.
 pub fn can_write(numbers: Numbers, number: &Frac) -> bool
     ensures { IsTrue result ↔ WritableNumber numbers number.now }
 {
     let _ = number.parts();
     match numbers {
-        Numbers::Decimal => has_places(number),
+        Numbers::Decimal => is_decimal(number),
         Numbers::Fractions => true,
     }
 }

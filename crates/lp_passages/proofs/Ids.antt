@@ -6,7 +6,7 @@ use Rattle.rational.specs.Number.{rational, zero_ℚ, ◌+ℚ◌, ◌-ℚ◌}
 use Rattle.rational.specs.Total.{total}
 use Rattle.rational.proofs.Totals.{put-same, put-other, total_same, total-zero, total-put}
 use Rattle.lp_model.specs.Vectors.{Vector}
-use Rattle.lp_theory.specs.Renumbering.{IdsFrom, IsLeftOut, gathered, spread}
+use Rattle.lp_passages.specs.Renumbering.{IdsFrom, IsLeftOut, gathered, spread}
 
 pub ids-at : (ids : List ℕ) (m n a : ℕ) → IdsFrom m n ids → a < length ids → (m ≤ slice_index ids a) × (slice_index ids a < n)
 ids-at [] m n a h l = absurd (omega arith)

@@ -6,8 +6,7 @@ use Rattle.rational.specs.Compare.{eq_ℚ}
 use Rattle.rational.proofs.Comparisons.{eq_ℚ-is}
 use Rattle.fractions.specs.declared.Numbers.{Numbers}
 use Rattle.lp_model.specs.Writable.{WritableNumber}
-use Rattle.problem_model.specs.NewNumbers.{WidthIsWritten}
-use Rattle.rule_words.specs.Widths.{width}
+use Rattle.lp_model.specs.Ends.{WidthIsWritten, width}
 
 written : (numbers : Numbers) (l u : Option Number) → IfSome (width l u) (WritableNumber numbers) ↔ WidthIsWritten numbers l u
 written numbers None u = (λ h. h, λ h. h)

@@ -9,8 +9,8 @@ use Rattle.lp_model.specs.Vectors.{Vector}
 use Rattle.rational.specs.Ends.{AtLeast, AtMost, Between}
 use Rattle.lp_model.specs.Reductions.{Priced}
 use Rattle.lp_theory.proofs.Carrying.{Carries, carries_of}
-use Rattle.lp_theory.specs.Turning.{negated}
-use Rattle.lp_theory.proofs.Turns.{cost-negated, feasible_turned, meets_turned}
+use Rattle.lp_model.specs.Turning.{negated}
+use Rattle.lp_passages.proofs.Turns.{cost-negated, feasible_turned, meets_turned}
 use Rattle.lp_model.specs.declared.program.Sense.{Sense}
 use Rattle.lp_model.specs.declared.program.Sense.TheVariants.{Min, Max}
 use Rattle.lp_model.specs.Senses.{NoWorse}

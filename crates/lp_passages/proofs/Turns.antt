@@ -13,7 +13,7 @@ use Rattle.lp_model.specs.Senses.{Sits}
 use Rattle.lp_model.specs.Optimality.{reduced_cost, Meets}
 use Rattle.lp_model.specs.Reductions.{Reduces, Priced, IsPriced, ReducesPairs}
 use Rattle.lp_model.specs.Verdicts.{NoPoint, Endless, NoPointOrEndless}
-use Rattle.lp_theory.specs.Turning.{negated, minimizing, signed, turned, in_sense}
+use Rattle.lp_model.specs.Turning.{negated, minimizing, signed, turned, in_sense}
 use Rattle.lp_theory.proofs.Pairs.{below_if_not}
 
 -- ---- signs

@@ -1,0 +1,4 @@
+pub mod Turns
+pub mod Ids
+pub mod Renumbered
+pub mod Optimal
