@@ -6,3 +6,7 @@ pub mod InverseSteps
 pub mod LowestTerms
 pub mod ShortProducts
 pub mod FiveTable
+pub mod Powers
+pub mod Placing
+pub mod Least
+pub mod DecimalLaws

@@ -2,3 +2,4 @@ pub mod FracWords
 pub mod FracFields
 pub mod EndWords
 pub mod Fives
+pub mod Places

@@ -10,6 +10,7 @@ pub mod ext;
 mod fives;
 pub mod frac;
 pub mod parts;
+pub mod places;
 pub mod whole;
 
 /// A number is out of range: its numerator or denominator passes 2^127 - 1.
@@ -44,6 +45,7 @@ mod tests {
     use ends::{greater_lower, less, lesser_upper, over};
     use ext::Ext;
     use frac::Frac;
+    use places::is_decimal;
     use whole::Whole;
 
     const MOST: i128 = i128::MAX;
@@ -157,6 +159,21 @@ mod tests {
         assert!(rt;
             Ext::none().number() == None && Ext::at(Frac::one()).number() == Some(Frac::one())
         );
+    }
+
+    #[test]
+    fn decimals(rt: HostRuntime) {
+        for (a, decimal) in [
+            (number(-1, 10), true),
+            (number(1, 3), false),
+            (number(1, 1 << 38), true),
+            (number(1, 1 << 39), false),
+            // 5 (2^127 - 1) has no room
+            (number(MOST, 1), true),
+            (number(MOST, 2), false),
+        ] {
+            assert!(rt; is_decimal(&a) == decimal);
+        }
     }
 
     #[test]

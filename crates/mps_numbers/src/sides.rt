@@ -7,9 +7,9 @@ ghost use Rattle.mps_numbers.specs.Ranges.{sum_in, raised, lowered, range_in};
 
 use fractions::ext::Ext;
 use fractions::frac::Frac;
+use fractions::places::is_decimal;
 use fractions::{Numbers, Past};
 use mps_profile::row_kinds::{Interval, RowKind};
-use number_texts::is_decimal;
 
 /// The magnitude.
 fn magnitude(range: &Frac) -> Frac

@@ -15,15 +15,16 @@ use Rattle.rational.specs.Compare.{le_ℚ}
 use Rattle.rational.proofs.Comparisons.{le_ℚ-is}
 use Rattle.fractions.specs.declared.Numbers.{Numbers}
 use Rattle.fractions.specs.declared.Numbers.TheVariants.{Decimal, Fractions}
+use Rattle.fractions.specs.Places.{place_of, is_decimal}
+use Rattle.fractions.proofs.DecimalLaws.{test-from_decimal}
 use Rattle.number_texts.specs.Form.{is_minus, has_sign, unsigned, terms_of}
-use Rattle.number_texts.specs.Written.{place_of, written}
-use Rattle.number_texts.specs.Read.{read_of, read_decimal, is_taken, is_decimal}
+use Rattle.number_texts.specs.Written.{written}
+use Rattle.number_texts.specs.Read.{read_of, read_decimal, is_taken}
 use Rattle.number_texts.specs.declared.reading.ReadNumber.{ReadNumber}
 use Rattle.number_texts.specs.declared.reading.ReadNumber.TheVariants.{NotNumber}
 use Rattle.number_texts.proofs.Cutting.{None_pass}
 use Rattle.number_texts.proofs.Marks.{IsMark, written-marks}
 use Rattle.number_texts.proofs.Again.{read-written, shown-is}
-use Rattle.number_texts.proofs.DecimalLaws.{test-from_decimal}
 use Rattle.mps_profile.specs.Texts.{Text}
 use Rattle.mps_profile.specs.Numerals.{number_on, limit_on, limit_by, is_far, is_far_form, infinity, is_infinity, lowered}
 use Rattle.mps_profile.specs.declared.bounds.Limit.{Limit}

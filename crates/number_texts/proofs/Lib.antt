@@ -1,5 +1,3 @@
-pub mod Powers
-pub mod Placing
 pub mod Digits
 pub mod MantissaLaws
 pub mod ScalingLaws
@@ -8,9 +6,8 @@ pub mod Cutting
 pub mod Again
 pub mod Marks
 pub mod GrammarLaws
-pub mod Least
 pub mod ShortLaws
-pub mod DecimalLaws
+pub mod TakenLaws
 pub mod TextLaws
 pub mod WritingLaws
 pub mod ReachLaws

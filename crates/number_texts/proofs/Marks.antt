@@ -5,10 +5,11 @@ use Rattle.std.specs.Char.{is_ascii_digit}
 use Rattle.std.specs.Fmt.{decimal}
 use Rattle.rational.specs.Number.{Number}
 use Rattle.rational.specs.Lowest.{over_of, under_of, Fits}
-use Rattle.number_texts.specs.Written.{place_of, last_digits, with_point, sign_of, size_text, written_by, written}
-use Rattle.number_texts.proofs.Powers.{power_positive}
+use Rattle.fractions.specs.Places.{place_of}
+use Rattle.number_texts.specs.Written.{last_digits, with_point, sign_of, size_text, written_by, written}
+use Rattle.fractions.proofs.Powers.{power_positive}
 use Rattle.number_texts.proofs.Cutting.{None_pass, None_pass-append, digits-none, decimal-digits, last_digits-digits}
-use Rattle.number_texts.proofs.Again.{place_of-room}
+use Rattle.fractions.proofs.Placing.{place_of-room}
 
 -- a mark that is no digit, no minus, no point and no slash
 pub record IsMark (p : ℕ → Bool) : Type 0 where

@@ -2,11 +2,12 @@
 
 ghost use Rattle.std.specs.Prelude.{◌≡◌, ◌^◌, ◌<◌, ◌≤◌, Some};
 ghost use Rattle.std.specs.Fmt.{WritesOnOk};
-ghost use Rattle.number_texts.specs.Written.{place_of, sign_of, size_text, with_point, written};
+ghost use Rattle.fractions.specs.Places.{place_of};
+ghost use Rattle.number_texts.specs.Written.{sign_of, size_text, with_point, written};
 
-use crate::places::{place, power};
 use crate::writing::decimals;
 use fractions::frac::Frac;
+use fractions::places::{place, power};
 use fractions::whole::Whole;
 use itoa::Buffer;
 use std::fmt;

@@ -1,17 +1,16 @@
 //! Laws of the definitions that the contracts cite. Each function is empty: its contract is the
 //! law.
 
-ghost use Rattle.std.specs.Prelude.{◌≡◌, ◌≢◌, ◌<◌, ◌≤◌, IsTrue, Bool, List, ℕ};
+ghost use Rattle.std.specs.Prelude.{◌≡◌, ◌≢◌, IsTrue, Bool, List, ℕ};
 ghost use Rattle.rational.specs.Number.{Number};
 ghost use Rattle.rational.specs.Lowest.{Fits};
 ghost use Rattle.fractions.specs.declared.Numbers.{Numbers};
 ghost use Rattle.fractions.specs.declared.Numbers.TheVariants.{Fractions};
 ghost use Rattle.number_texts.specs.declared.reading.ReadNumber.TheVariants.{NotNumber};
-ghost use Rattle.rational.specs.Decimal.{HasPlaces, Decimal};
 ghost use Rattle.number_texts.specs.Form.{Terms, terms_of};
 ghost use Rattle.number_texts.specs.Grammar.{IsDecimalForm, IsDecimalText, IsQuotientText, IsNumberText};
-ghost use Rattle.number_texts.specs.Read.{is_decimal, is_taken, read_of, read_decimal, read_quotient};
-ghost use Rattle.number_texts.specs.Written.{places_of, written};
+ghost use Rattle.number_texts.specs.Read.{is_taken, read_of, read_decimal, read_quotient};
+ghost use Rattle.number_texts.specs.Written.{written};
 
 /// What is written is read again.
 pub fn written_is_read()
@@ -42,18 +41,4 @@ pub fn text_has_value()
 pub fn form_has_parts()
     ensures read { (bytes : List ℕ) (t : Terms) → IsDecimalForm bytes t → terms_of bytes ≡ Some t }
     ensures only { (bytes : List ℕ) (t : Terms) → terms_of bytes ≡ Some t → IsDecimalForm bytes t }
-{}
-
-/// The test of decimal numbers, a search, holds of exactly the decimal numbers.
-pub fn test_finds_decimals()
-    ensures found { (q : Number) → IsTrue (is_decimal q) → Decimal q }
-    ensures all { (q : Number) → Decimal q → IsTrue (is_decimal q) }
-{}
-
-/// The number of decimals that is written is the least of 0 to 38 that the number has, and none is
-/// written where it has none of these.
-pub fn places_are_least()
-    ensures found { (q : Number) (k : ℕ) → places_of q ≡ Some k →
-        (k ≤ 38) × HasPlaces q k × ((i : ℕ) → i < k → ¬ (HasPlaces q i)) }
-    ensures missing { (q : Number) → places_of q ≡ None → (i : ℕ) → i ≤ 38 → ¬ (HasPlaces q i) }
 {}

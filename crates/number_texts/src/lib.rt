@@ -11,7 +11,6 @@ mod display;
 pub mod form;
 pub mod laws;
 mod mantissa;
-mod places;
 mod reach;
 mod reading;
 mod scaling;
@@ -22,7 +21,6 @@ mod writing;
 
 pub use display::Displayed;
 pub use fractions::Numbers;
-pub use places::is_decimal;
 pub use reach::reaches;
 pub use reading::{ReadNumber, read};
 pub use writing::{push, write};

@@ -11,11 +11,11 @@ ghost use Rattle.number_texts.specs.Read.{scaled, signed, fits, in_range, read_d
 use crate::decimal_form::{DecimalForm, split_decimal};
 use crate::form::{cut_slash, is_digits, number, sign};
 use crate::mantissa::without_zeros;
-use crate::places::is_decimal;
 use crate::scaling::{exact, scale, signed};
 use crate::short::{Short, short_form};
 use fractions::Numbers;
 use fractions::frac::Frac;
+use fractions::places::is_decimal;
 use fractions::whole::Whole;
 use thiserror::Error;
 

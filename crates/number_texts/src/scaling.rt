@@ -7,9 +7,9 @@ ghost use Rattle.number_texts.specs.Form.{number as number_of};
 ghost use Rattle.number_texts.specs.Read.{scaled, fits, signed};
 
 use crate::form::number;
-use crate::places::power;
 use fractions::Past;
 use fractions::frac::Frac;
+use fractions::places::power;
 use fractions::whole::Whole;
 
 /// The whole number of a size, below 0 or not.

@@ -2,10 +2,11 @@
 
 ghost use Rattle.std.specs.Prelude.{◌≡◌, ◌^◌, ◌<◌, ◌≤◌, ◌++◌, ◌∷◌, length, take, OnErr, OnOk, IfOk};
 ghost use Rattle.std.specs.Fmt.{decimal};
-ghost use Rattle.number_texts.specs.Written.{place_of, last_digits, with_point, sign_of, size_text, written};
+ghost use Rattle.fractions.specs.Places.{place_of};
+ghost use Rattle.number_texts.specs.Written.{last_digits, with_point, sign_of, size_text, written};
 
-use crate::places::{place, power};
 use fractions::frac::Frac;
+use fractions::places::{place, power};
 use fractions::whole::Whole;
 use itoa::Buffer;
 use std::alloc::{AllocError, Global};

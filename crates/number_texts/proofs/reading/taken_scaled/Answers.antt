@@ -1,7 +1,7 @@
 use Rattle.std.proofs.Common.{arith, ap, sym, ◌∙◌, Ok}
 use Rattle.rational.specs.Number.{Number}
 use Rattle.number_texts.specs.Read.{scaled}
-use Rattle.number_texts.proofs.DecimalLaws.{decimal-scaled, in_range-decimal}
+use Rattle.number_texts.proofs.TakenLaws.{decimal-scaled, in_range-decimal}
 use Rattle.number_texts.proofs.reading.taken_scaled.Goals as goal
 
 pub returns-then-saturating_sub-le38 : goal.returns-then-saturating_sub-le38

@@ -1,6 +1,6 @@
 use Rattle.std.proofs.Common.{sym, ◌∙◌}
-use Rattle.number_texts.proofs.Placing.{place_start, place_here, place_further, place_end, room_of}
-use Rattle.number_texts.proofs.places.place.Goals as goal
+use Rattle.fractions.proofs.Placing.{place_start, place_here, place_further, place_end, room_of}
+use Rattle.fractions.proofs.places.place.Goals as goal
 
 pub loop-k-init : goal.loop-k-init
 loop-k-init c = place_start c.args.over c.args.under

@@ -1,6 +1,6 @@
 use Rattle.std.proofs.Common.{arith}
-use Rattle.number_texts.proofs.Powers.{power_below, power_positive}
-use Rattle.number_texts.proofs.places.power.Goals as goal
+use Rattle.fractions.proofs.Powers.{power_below, power_positive}
+use Rattle.fractions.proofs.places.power.Goals as goal
 
 pub pow-requires : goal.pow-requires
 pow-requires c = omega (arith, power_below c.args.k c.requires)

@@ -1,8 +1,8 @@
 -- The place that is found is the least with room, and where none is found there is none.
 use Rattle.std.proofs.Common.{◌≡◌, ℕ, zero, suc, ◌+◌, ◌<◌, ◌≤◌, Bool, true, false, cond, Some, None, refl, subst, arith, inl, inr}
 use Rattle.std.proofs.lemmas.Bool.{cases_lt}
-use Rattle.number_texts.specs.Written.{has_room, place_from, place_of}
-use Rattle.number_texts.proofs.Again.{place_from-room}
+use Rattle.fractions.specs.Places.{has_room, place_from, place_of}
+use Rattle.fractions.proofs.Placing.{place_from-room}
 
 none_below : (m d j k : ℕ) → has_room m d j ≡ false → ((i : ℕ) → j + 1 ≤ i → i < k → has_room m d i ≡ false) → (i : ℕ) → j ≤ i → i < k → has_room m d i ≡ false
 none_below m d j k r f i p q = elim (cases_lt j i) [

@@ -1,10 +1,11 @@
 //! The number of decimals that shows a number exactly.
 
-ghost use Rattle.std.specs.Prelude.{◌≡◌, ◌^◌, ◌<◌, ◌≤◌, ◌*◌, ◌/◌, IfSome};
-ghost use Rattle.number_texts.specs.Written.{has_room, place_of};
-ghost use Rattle.number_texts.specs.Read.{is_decimal};
+ghost use Rattle.std.specs.Prelude.{◌≡◌, ℕ, ◌^◌, ◌<◌, ◌≤◌, ◌*◌, ◌/◌, IfSome, IsTrue, ◌↔◌};
+ghost use Rattle.rational.specs.Number.{Number};
+ghost use Rattle.rational.specs.Decimal.{HasPlaces, Decimal};
+ghost use Rattle.fractions.specs.Places.{has_room, place_of, places_of, is_decimal};
 
-use fractions::frac::Frac;
+use crate::frac::Frac;
 
 /// 10 to the power of `k`.
 pub fn power(k: u32) -> u128
@@ -17,7 +18,7 @@ pub fn power(k: u32) -> u128
 }
 
 /// Whether `over / under` is shown exactly by `places` decimals, and its digits stay below 2^127.
-#[tactic(auto, unfolding(crate::specs::Written::has_room))]
+#[tactic(auto, unfolding(crate::specs::Places::has_room))]
 fn has_room(over: u128, under: u128, places: u32) -> bool
     requires positive { 0 < under }
     requires small { places ≤ 38 }
@@ -49,10 +50,25 @@ pub fn place(over: u128, under: u128) -> Option<u32>
 }
 
 /// Whether some number of decimals from 0 to 38 shows a number exactly, with digits below 2^127.
-#[tactic(auto, unfolding(crate::specs::Read::is_decimal))]
+#[tactic(auto, unfolding(crate::specs::Places::is_decimal))]
 pub fn is_decimal(number: &Frac) -> bool
-    ensures { result ≡ is_decimal number.now }
+    ensures value { result ≡ is_decimal number.now }
+    ensures says { IsTrue result ↔ Decimal number.now }
 {
     let parts = number.parts();
     place(parts.num.size(), parts.den).is_some()
 }
+
+/// The test of decimal numbers, a search, holds of exactly the decimal numbers.
+pub fn test_finds_decimals()
+    ensures found { (q : Number) → IsTrue (is_decimal q) → Decimal q }
+    ensures all { (q : Number) → Decimal q → IsTrue (is_decimal q) }
+{}
+
+/// The number of decimals that is found is the least of 0 to 38 that the number has, and none is
+/// found where it has none of these.
+pub fn places_are_least()
+    ensures found { (q : Number) (k : ℕ) → places_of q ≡ Some k →
+        (k ≤ 38) × HasPlaces q k × ((i : ℕ) → i < k → ¬ (HasPlaces q i)) }
+    ensures missing { (q : Number) → places_of q ≡ None → (i : ℕ) → i ≤ 38 → ¬ (HasPlaces q i) }
+{}
