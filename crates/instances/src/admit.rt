@@ -1,8 +1,9 @@
 //! Edits committed, if their numbers may stand.
 
-ghost use Rattle.std.specs.Prelude.{◌↔◌, All, IsTrue};
+ghost use Rattle.std.specs.Prelude.{◌≡◌, ◌↔◌, All, IsTrue, OnErr, OnOk};
 ghost use Rattle.problem_model.specs.Allowed.{AreAllowed, EntriesFirst};
 ghost use Rattle.problem_model.specs.NewNumbers.{EditFits, EditIsWritten, EditsAreWritten};
+ghost use Rattle.problem_model.specs.Noted.{AreNoted};
 ghost use Rattle.problem_model.specs.Offsets.{OffsetFits};
 ghost use Rattle.lp_model.specs.Ends.{WidthFits, WidthIsWritten, IsWritten};
 ghost use Rattle.instances.specs.Made.{Makes};
@@ -10,9 +11,9 @@ ghost use Rattle.instances.specs.Made.{Makes};
 use fractions::ext::Ext;
 use fractions::frac::Frac;
 use fractions::{Numbers, Past};
-use problem_commits::commit;
-use problem_model::{Edit, Refusal};
 use lp_model::writing::{are_near, can_write, can_write_both, can_write_end, width_of};
+use problem_commits::commit;
+use problem_model::{Edit, Part, Refusal};
 use sparse_problem::Problem;
 use std::alloc::Global;
 
@@ -108,20 +109,23 @@ fn can_write_edits(numbers: Numbers, edits: &[Edit]) -> bool
     true
 }
 
-/// Commits edits, if their numbers may stand.
+/// Commits edits, if their numbers may stand, and tells the parts that they touch behind those that were told before.
 ///
 /// # Errors
 /// Past where a width or the offset is or a finite bound is 10^20 or more in magnitude; else NotDecimal where a number may not be written;
-/// and for want of memory. The problem is then as it was.
+/// and for want of memory. The problem, and what was told, is then as it was.
 pub fn make(
     problem: &mut Problem,
     alloc: Global,
     edits: &[Edit],
     numbers: Numbers,
+    changed: &mut Vec<Part>,
 ) -> Result<(), Refusal>
     requires allowed { AreAllowed problem.old edits.now }
     requires ordered { EntriesFirst edits.now }
-    ensures { Makes numbers edits.now problem.old result problem.new }
+    ensures made { Makes numbers edits.now problem.old result problem.new }
+    ensures noted { OnOk result (AreNoted problem.old problem.new changed.old.items changed.new.items) }
+    ensures untold { OnErr result (changed.new.items ≡ changed.old.items) }
 {
     if !all_fit(edits) || !offset_fits(problem.offset(), edits) {
         return Err(Refusal::Past);
@@ -129,7 +133,7 @@ pub fn make(
     if !can_write_edits(numbers, edits) {
         return Err(Refusal::NotDecimal);
     }
-    match commit(problem, alloc, edits) {
+    match commit(problem, alloc, edits, changed) {
         Ok(()) => Ok(()),
         Err(_) => Err(Refusal::NoMemory),
     }

@@ -8,11 +8,11 @@ ghost use Rattle.presolve_model.specs.Scans.{found_at, found_in, proposal_of};
 
 use crate::chunk::Chunk;
 use crate::enabled::is_enabled;
-use crate::listing::is_of_rows;
+use crate::listing::{instance_of, is_of_rows};
 use crate::proposal::Proposal;
 use crate::reads::reading_for;
 use crate::tally::Tally;
-use presolve_model::{Instance, Reduction, Rule, Verdict};
+use presolve_model::{Instance, Rule};
 use sparse_problem::Problem;
 use std::alloc::{AllocError, Global};
 
@@ -46,7 +46,7 @@ fn visit(
     Ok(())
 }
 
-/// Adds the instances of a rule with a first id that are enabled: a line a rule.
+/// Adds the instances of a rule with a first id that are enabled.
 fn visit_from(
     alloc: Global,
     problem: &Problem,
@@ -57,16 +57,7 @@ fn visit_from(
 ) -> Result<(), AllocError>
     ensures { OnOk result (found.new.items ≡ found.old.items ++ found_at problem.now version rule (id ∷ [])) }
 {
-    let instance = match rule {
-        Rule::CrossedBounds => Instance::Verdict(Verdict::CrossedBounds { column: id }),
-        Rule::CrossedSides => Instance::Verdict(Verdict::CrossedSides { row: id }),
-        Rule::EmptyRow => Instance::Reduction(Reduction::EmptyRow { row: id }),
-        Rule::SingletonRow => Instance::Reduction(Reduction::SingletonRow { row: id }),
-        Rule::FixedColumn => Instance::Reduction(Reduction::FixedColumn { column: id }),
-        Rule::RoundBounds => Instance::Reduction(Reduction::RoundBounds { column: id }),
-        Rule::EmptyColumn => Instance::Reduction(Reduction::EmptyColumn { column: id }),
-    };
-    visit(alloc, problem, version, instance, found)
+    visit(alloc, problem, version, instance_of(rule, id), found)
 }
 
 /// The enabled instances of a rule at these ids, in their order, each with its reading.

@@ -11,7 +11,8 @@ use Rattle.mps_written_lines.specs.Formats.{free_format}
 use Rattle.mps_profile.specs.Reading.{first_fault}
 use Rattle.mps_profile.specs.Program.{program_of}
 use Rattle.mps_round_trip.proofs.Round.{no_fault, again}
-use Rattle.presolve_model.specs.Conclusions.{CarriesNames, Concluded, HaveNames, live_names, names_in}
+use Rattle.presolve_model.specs.Conclusions.{CarriesNames, Concluded, HaveNames, live_names}
+use Rattle.presolve_model.specs.Telling.{names_in}
 use Rattle.presolve_model.specs.declared.conclusion.Options.{Options}
 use Rattle.record_round_trip.specs.Ranges.{HasRange}
 use Rattle.whole_way.specs.Laws.{TextsComeBack}

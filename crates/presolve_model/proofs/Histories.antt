@@ -15,9 +15,10 @@ use Rattle.presolve_model.specs.declared.instance.Reduction.{Reduction}
 use Rattle.presolve_model.specs.Changes.{changed}
 use Rattle.presolve_model.specs.Enabled.{reads, reading_of, enabled_on}
 use Rattle.presolve_model.specs.Replay.{replay, Replays, edits_along}
-use Rattle.presolve_model.specs.Tables.{heads, more, holds, edits}
+use Rattle.presolve_model.specs.Tables.{edits}
 use Rattle.presolve_model.proofs.ByCases.{reductions_owe}
-use Rattle.presolve_model.proofs.Lists.{map_same, all_left}
+use Rattle.presolve_model.proofs.Lists.{map_same}
+use Rattle.presolve_model.proofs.Readings.{enabled_same, reading_same}
 use Rattle.presolve_model.proofs.Tabled.{sound_changed}
 
 pub replay_is : (p : Sparse) (rs : List Reduction) → replay p rs ≡ all_committed p (edits_along p rs)
@@ -50,18 +51,11 @@ module _ (p q : Sparse) (e : Instance) (told : (a : Part) → IsTold p q a) (u :
   same : All (λ b. read_of q b ≡ read_of p b) (reads p e)
   same k d l t = let b : Part = get_or (reads p e) k d in record { part = b; changes = (u k d l).1 t; contents = told b (u k d l).0 (u k d l).1 t }
 
-  held : All (λ b. contents_of q b ≡ contents_of p b) (reads p e)
-  held k d l = ap (λ (r : Read). r.contents) (same k d l)
-
-  same_parts : reads q e ≡ reads p e
-  same_parts = ap (λ cs. heads e ++ more e cs) (map_same (contents_of q) (contents_of p) (heads e)
-      (all_left (λ b. contents_of q b ≡ contents_of p b) (heads e) (more e (map (contents_of p) (heads e))) held))
-
   pub reading_unmoved : reading_of q e ≡ reading_of p e
-  reading_unmoved = ap (map (read_of q)) same_parts ∙ map_same (read_of q) (read_of p) (reads p e) same
+  reading_unmoved = reading_same p q e (map_same (read_of q) (read_of p) (reads p e) same)
 
   pub enabled_unmoved : enabled_on q e ≡ enabled_on p e
-  enabled_unmoved = ap (holds e) (ap (map (contents_of q)) same_parts ∙ map_same (contents_of q) (contents_of p) (reads p e) held)
+  enabled_unmoved = enabled_same p q e (map_same (read_of q) (read_of p) (reads p e) same)
 
 pub numbers_decide : (numbers : Numbers) (p : Sparse) (rs : List Reduction) (e : Instance) → IsSparse p → Replays numbers p rs → All (Unmoved p (replay p rs)) (reads p e)
     → (reading_of (replay p rs) e ≡ reading_of p e) × (enabled_on (replay p rs) e ≡ enabled_on p e)

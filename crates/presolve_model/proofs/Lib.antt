@@ -1,4 +1,5 @@
 pub mod Lists
+pub mod Readings
 pub mod ByCases
 pub mod Tabled
 pub mod Listing

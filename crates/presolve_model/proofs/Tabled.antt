@@ -30,6 +30,7 @@ use Rattle.presolve_model.specs.Tables.{heads, more, holds, edits, record_of}
 use Rattle.presolve_model.specs.Changes.{changed, added, ChangeFits, ChangeIsWritten}
 use Rattle.presolve_model.specs.Enabled.{reads, enabled_on, Enabled}
 use Rattle.presolve_model.proofs.ByCases.{reductions_owe}
+use Rattle.presolve_model.proofs.Readings.{heads_taken}
 
 module _ (p : Sparse) (r : Reduction) where
   pub adds : (changed r p).offset ≡ p.offset +ℚ added r p
@@ -64,10 +65,6 @@ module _ (p : Sparse) (r : Reduction) where
     flags_after = flags_committed p (edits r p) ∙ owed.deletes
 
 -- ---- a reading that agrees
-heads_taken : (p : Sparse) (hs ms : List Part) → take (length hs) (map (contents_of p) (hs ++ ms)) ≡ map (contents_of p) hs
-heads_taken p [] ms = refl
-heads_taken p (h ∷ hs) ms = ap (λ cs. contents_of p h ∷ cs) (heads_taken p hs ms)
-
 pub enabled_by : (p : Sparse) (e : Instance) (rs : List Read) → Agrees p rs → Enabled e rs → enabled_on p e ≡ true
 enabled_by p e rs a h =
     let cs : List Contents = map (λ r. r.contents) rs in

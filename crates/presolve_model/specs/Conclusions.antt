@@ -1,5 +1,5 @@
 -- What presolve concludes of a program.
-use Rattle.std.specs.Prelude.{◌≡◌, ℕ, ◌<◌, ◌≤◌, true, List, [], ◌∷◌, length, map, if◌then◌else◌}
+use Rattle.std.specs.Prelude.{◌≡◌, ℕ, ◌<◌, ◌≤◌, true, List, [], ◌∷◌, length, Some, None, if◌then◌else◌}
 use Rattle.lp_model.specs.Meaning.{meaning}
 use Rattle.lp_model.specs.Names.{names_of_rows, names_of_columns, WellNamed}
 use Rattle.lp_model.specs.ProgramData.{ProgramData}
@@ -19,17 +19,16 @@ use Rattle.presolve_model.specs.Accounts.{ReducesTo, Walked}
 use Rattle.presolve_model.specs.Enabled.{enabled_on}
 use Rattle.presolve_model.specs.Meanings.{Meant}
 use Rattle.presolve_model.specs.Replay.{replay, Replays}
+use Rattle.presolve_model.specs.Ledger.{Ledger}
+use Rattle.presolve_model.specs.Ordered.{IsMadeInOrder, RunsTo}
 use Rattle.presolve_model.specs.Stuck.{IsUndecided, skipped_on, Stuck}
+use Rattle.presolve_model.specs.Telling.{names_in}
 
 -- So many reductions were applied, and p is what is left. At a fixpoint there is room for more, and none can be applied: those that are
 -- enabled are counted, and each has a number that is past or can't be written. At the limit there is no room, and no verdict is enabled.
 abbrev pub TellsEnd : End → Options → ℕ → Sparse → Type 0
 TellsEnd (Fixpoint skipped) options applied p = (applied < options.limit) × Stuck options.numbers p × (skipped ≡ skipped_on p)
 TellsEnd LimitReached options applied p = (applied ≡ options.limit) × IsUndecided p
-
--- the names that labels tell
-abbrev pub names_in : List Label → List (List ℕ)
-names_in labels = map (λ label. label.name) labels
 
 -- the names of those that are live, in the same order
 abbrev pub live_names : List Label → List (List ℕ)
@@ -51,8 +50,8 @@ pub record HaveNames (program reduced : ProgramData) (told : Postsolve) : Type 0
   pub left : WellNamed reduced.objective reduced.rows reduced.columns
   pub records : AreNamed told
 
--- A program was reduced: the records walk from it to the reduced one, which they reduce it to, and the end is told of what was left.
--- The reduced program can be written.
+-- A program was reduced: the records walk from it to the reduced one, which they reduce it to, and the end is told of what was left; all of
+-- that as the ordered run has it. The reduced program can be written.
 pub record Concluded (options : Options) (program reduced : ProgramData) (told : Postsolve) (ended : End) : Type 0 where
   pub walked : Walked options.numbers program reduced told
   pub reduces : ReducesTo program reduced told
@@ -61,9 +60,17 @@ pub record Concluded (options : Options) (program reduced : ProgramData) (told :
   pub named : HaveNames program reduced told
   pub ascends : EntriesAscend reduced
   pub writable : Writable options.numbers reduced
+  pub ordered : IsMadeInOrder options program reduced told ended
+
+-- the ordered run of the program ends with this verdict, after this history
+pub record IsDecidedInOrder (options : Options) (program : ProgramData) (history : List Reduction) (verdict : Verdict) : Type 0 where
+  pub book : Ledger
+  pub runs : RunsTo options program None book
+  pub applied : book.history ≡ history
+  pub closed : book.verdict ≡ Some verdict
 
 -- A program was decided: the reductions of the history can be applied one after the other, from the program's problem on, and the verdict
--- is enabled on what they leave. It means of the program what it says.
+-- is enabled on what they leave. It means of the program what it says. All of that as the ordered run has it.
 pub record Decided (options : Options) (program : ProgramData) (history : List Reduction) (verdict : Verdict) : Type 0 where
   pub start : Sparse
   pub opened : IsProblemOf program start
@@ -71,3 +78,4 @@ pub record Decided (options : Options) (program : ProgramData) (history : List R
   pub within : length history ≤ options.limit
   pub enabled : enabled_on (replay start history) (at.Verdict verdict) ≡ true
   pub means : Meant verdict program.sense (meaning program)
+  pub ordered : IsDecidedInOrder options program history verdict

@@ -16,3 +16,5 @@ pub mod Stuck
 pub mod Accounts
 pub mod Worlds
 pub mod Conclusions
+pub mod Telling
+pub mod Ordered

@@ -1,5 +1,5 @@
 -- What is concluded of a program whose book was closed.
-use Rattle.std.proofs.Common.{◌≡◌, ℕ, Bool, true, false, cond, List, [], ◌∷◌, length, Some, sym, refl, ap, ◌∙◌, subst, arith}
+use Rattle.std.proofs.Common.{◌≡◌, ℕ, Bool, true, false, cond, List, [], ◌∷◌, length, ◌≤◌, Option, Some, sym, refl, ap, ap₂, ◌∙◌, subst, arith}
 use Rattle.std.specs.Prelude.{drop, slice_index_or}
 use Rattle.fractions.specs.declared.Numbers.{Numbers}
 use Rattle.lp_model.specs.ProgramData.{ProgramData}
@@ -9,6 +9,8 @@ use Rattle.undo_records.specs.Postsolve.{Postsolve}
 use Rattle.undo_records.specs.Walk.{lives}
 use Rattle.presolve_model.specs.declared.instance.Reduction.{Reduction}
 use Rattle.problem_model.specs.declared.line.Line.{Line}
+use Rattle.problem_model.specs.declared.part.Part.{Part}
+use Rattle.problem_model.specs.Parts.{changes_of}
 use Rattle.presolve_model.specs.Changes.{changed}
 use Rattle.presolve_model.specs.Ledger.{Ledger, Stands}
 use Rattle.problem_model.specs.Problems.{IsSparse}
@@ -21,12 +23,16 @@ use Rattle.program_laws.proofs.Writing.{written_column_names, written_row_names}
 use Rattle.history_laws.proofs.Keeping.{sparse_replay}
 use Rattle.program_laws.specs.Shapes.{IsOf}
 use Rattle.history_laws.proofs.Walks.{walked_reduces}
-use Rattle.round_laws.specs.Telling.{are_live, IsToldOf}
+use Rattle.presolve_model.specs.Telling.{are_live, IsToldOf}
+use Rattle.round_laws.specs.Passing.{IsSameBook}
+use Rattle.round_laws.proofs.Numbers.{never_changed}
 use Rattle.round_laws.proofs.Telling.{problem_is_of, program_ascends, program_written, walked}
 use Rattle.presolve_model.specs.declared.conclusion.End.{End}
 use Rattle.presolve_model.specs.declared.conclusion.End.TheVariants.{Fixpoint, LimitReached}
 use Rattle.presolve_model.specs.declared.conclusion.Options.{Options}
-use Rattle.presolve_model.specs.Conclusions.{Concluded, HaveNames, live_names, names_in, TellsEnd}
+use Rattle.presolve_model.specs.Conclusions.{Concluded, HaveNames, live_names, TellsEnd}
+use Rattle.presolve_model.specs.Telling.{names_in}
+use Rattle.presolve_model.specs.Ordered.{Ordered, new_book, RunsTo}
 use Rattle.presolve_rounds.specs.Running.{EndsWith}
 
 -- ---- names
@@ -62,9 +68,9 @@ undecided_at LimitReached b h = h.1
 
 -- ---- all of it
 pub concluded : (program : ProgramData) (b : Ledger) (told : Postsolve) (e : End) → EntriesAscend program → Writable b.numbers program → IsProblemOf program b.start → Stands b → EndsWith (Some e) b → IsToldOf program b told
-    → HaveNames program (written_program program b.problem) told
+    → HaveNames program (written_program program b.problem) told → RunsTo (record { numbers = b.numbers; limit = b.limit }) program (Some e) b
     → Concluded (record { numbers = b.numbers; limit = b.limit }) program (written_program program b.problem) told e
-concluded program b told e ascends writes o s h t named =
+concluded program b told e ascends writes o s h t named runs =
     let is : IsOf program b.problem = problem_is_of program b o s in
     let sparse : IsSparse b.problem = subst IsSparse (sym s.problem) (sparse_replay b.numbers b.start b.history s.sound s.replays) in
     record {
@@ -82,8 +88,24 @@ concluded program b told e ascends writes o s h t named =
       named = named;
       ascends = program_ascends program b o s;
       writable = program_written program b writes o s (undecided_at e b h);
+      ordered = record { book = b; runs = runs; written = refl; tells = t };
     }
 
 -- options with these numbers and this limit
 abbrev pub options_with : Numbers → ℕ → Options
 options_with numbers limit = record { numbers = numbers; limit = limit }
+
+-- ---- the run of a program's problem
+pub counted_new : (program : ProgramData) (options : Options) (b : Ledger) → IsProblemOf program b.start → b ≡ new_book options b.start → (a : Part) → changes_of b.problem a ≤ length b.history
+counted_new program options b o e a = let n : changes_of b.problem a ≡ 0 = ap (λ (x : Ledger). changes_of x.problem a) e ∙ never_changed program b.start o a in omega (arith, n)
+
+pub runs_to : (program : ProgramData) (options : Options) (b c : Ledger) (o p : Option End) → IsProblemOf program b.start → b ≡ new_book options b.start → IsSameBook b c → o ≡ p → Ordered b o c → RunsTo (options_with c.numbers c.limit) program p c
+runs_to program options b c o p h e same f k = record {
+  start = b.start;
+  opened = h;
+  run = subst (λ (x : Options). Ordered (new_book x b.start) p c) (ap₂ options_with (sym (same.numbers ∙ ap (λ (x : Ledger). x.numbers) e)) (sym (same.limit ∙ ap (λ (x : Ledger). x.limit) e)))
+      (subst (λ (x : Ledger). Ordered x p c) e (subst (λ (x : Option End). Ordered b x c) f k));
+}
+
+pub same_options : (options : Options) (b c : Ledger) → b ≡ new_book options b.start → IsSameBook b c → options_with c.numbers c.limit ≡ options
+same_options options b c e same = ap₂ options_with (same.numbers ∙ ap (λ (x : Ledger). x.numbers) e) (same.limit ∙ ap (λ (x : Ledger). x.limit) e)

@@ -1,2 +1,4 @@
-pub mod Ending
 pub mod Concluding
+pub mod Sorting
+pub mod Restamping
+pub mod Running

@@ -4,8 +4,8 @@ ghost use Rattle.std.specs.Prelude.{◌≡◌, length, IfOk};
 ghost use Rattle.lp_model.specs.Names.{names_of_columns, names_of_rows};
 ghost use Rattle.undo_records.specs.Walk.{lives};
 ghost use Rattle.problem_model.specs.Programs.{IsProblemOf};
-ghost use Rattle.presolve_model.specs.Conclusions.{names_in};
-ghost use Rattle.round_laws.specs.Telling.{are_live, IsToldOf};
+ghost use Rattle.presolve_model.specs.Telling.{names_in};
+ghost use Rattle.presolve_model.specs.Telling.{are_live, IsToldOf};
 
 use lp_model::{ColumnDef, Program, RowDef};
 use presolve_model::Line;

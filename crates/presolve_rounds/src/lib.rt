@@ -1,13 +1,14 @@
-//! Presolve: rounds of scans and commits on a book, until nothing more can be done or the limit is reached.
+//! Presolve: rounds on a book, each a pass over the instances that may be enabled, until nothing more can be done or the limit is reached.
 #![tactic(auto)]
 
-mod commits;
+mod found;
 mod ids;
 mod labels;
-mod looks;
 mod outcome;
+mod pass;
 mod reduce;
 mod rounds;
+mod stamps;
 
 pub use outcome::{DecidedProgram, Presolved, ReducedProgram};
 pub use reduce::presolve;

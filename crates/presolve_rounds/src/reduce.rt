@@ -6,6 +6,7 @@ ghost use Rattle.lp_model.specs.Verdicts.{NoPoint};
 ghost use Rattle.lp_model.specs.Writable.{EntriesAscend, Writable};
 ghost use Rattle.problem_model.specs.Programs.{IsProblemOf};
 ghost use Rattle.presolve_model.specs.Conclusions.{Concluded, Decided};
+ghost use Rattle.presolve_model.specs.Ordered.{new_book, RunsTo};
 ghost use Rattle.presolve_rounds.specs.Conclusions.{Concludes};
 ghost use Rattle.presolve_rounds.specs.Running.{EndsWith};
 
@@ -25,8 +26,7 @@ fn opened(alloc: Global, program: &Program, options: &Options) -> Result<Book, A
     requires ascends { EntriesAscend program.now }
     requires writable { Writable options.now.numbers program.now }
     ensures start { IfOk result (λ book. IsProblemOf program.now book.start) }
-    ensures numbers { IfOk result (λ book. book.numbers ≡ options.now.numbers) }
-    ensures limit { IfOk result (λ book. book.limit ≡ options.now.limit) }
+    ensures new { IfOk result (λ book. book ≡ new_book options.now book.start) }
 {
     let problem = Problem::from_program(alloc, program)?;
     Ok(Book::open(alloc, problem, options.numbers, options.limit))
@@ -43,6 +43,7 @@ fn reduced(
     requires writable { Writable book.numbers program.now }
     requires start { IsProblemOf program.now book.start }
     requires end { EndsWith (Some end) book }
+    requires runs { RunsTo (record { numbers = book.numbers; limit = book.limit }) program.now (Some end) book }
     ensures { IfOk result (λ made. Concluded (record { numbers = book.numbers; limit = book.limit }) program.now made.program made.records made.end) }
 {
     book.stands();
@@ -62,6 +63,7 @@ fn reduced(
 fn decided(program: &Program, book: Book) -> DecidedProgram
     requires start { IsProblemOf program.now book.start }
     requires decided { book.verdict ≢ None }
+    requires runs { RunsTo (record { numbers = book.numbers; limit = book.limit }) program.now None book }
     ensures told { Decided (record { numbers = book.numbers; limit = book.limit }) program.now result.history.items result.verdict }
     ensures no_point { NoPoint (meaning program.now) }
 {

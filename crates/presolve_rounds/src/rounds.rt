@@ -1,127 +1,140 @@
 //! Rounds in order, on one thread.
 //!
-//! A round lists the enabled instances of the present problem in instance order: each rule's in turn, by ids. It then commits them in that
-//! order. What a round finds beyond the round before lies where something has changed, and what it finds again was refused. So a round
-//! looks at these rows and columns alone, and finds what a look at all would. Where it applies nothing, a round that does look at all of
-//! them decides whether the run is at its end.
+//! A round lists, by its meaning, the enabled instances of the present problem in instance order: each rule's in turn, by ids. It then
+//! commits them in that order. A pass does the same, at those rows and columns alone at which an instance can be enabled: where a part has
+//! changed in the round before, and where an instance was refused.
 
-ghost use Rattle.std.specs.Prelude.{◌≡◌, ◌<◌, ◌≤◌, ◌++◌, length, IfOk, OnOk};
-ghost use Rattle.round_laws.specs.Committing.{IsSameBook, Went};
-ghost use Rattle.presolve_model.specs.Ledger.{instance_count};
-ghost use Rattle.presolve_model.specs.Order.{reduction_order, verdict_order};
-ghost use Rattle.presolve_model.specs.Scans.{listed};
-ghost use Rattle.presolve_rounds.specs.Looking.{ids_of};
-ghost use Rattle.presolve_rounds.specs.Running.{EndsWith, Turned, TurnsTo};
+ghost use Rattle.std.specs.Prelude.{◌≡◌, ◌≢◌, ◌<◌, ◌≤◌, length, Some, None, IfOk, OnOk};
+ghost use Rattle.problem_model.specs.declared.part.Part.{Part};
+ghost use Rattle.problem_model.specs.Parts.{changes_of};
+ghost use Rattle.presolve_model.specs.Ordered.{Committed, Ordered, enabled_verdicts, round_list};
+ghost use Rattle.presolve_model.specs.Stuck.{skipped_on};
+ghost use Rattle.round_laws.specs.Choosing.{AreSorted, IsComplete};
+ghost use Rattle.round_laws.specs.Passing.{IsSameBook};
+ghost use Rattle.presolve_rounds.specs.Readiness.{IsReady};
+ghost use Rattle.presolve_rounds.specs.Running.{EndsWith, IsFirst};
 
-use crate::commits::commit_all;
+use crate::found::enabled_of;
 use crate::ids::Ids;
-use crate::looks::{enabled_reductions, enabled_verdicts};
-use presolve_model::End;
+use crate::pass::pass;
+use crate::stamps::Stamps;
+use instances::{reduction_rules, verdict_rules};
+use presolve_model::{End, Instance, Outcome};
+use sparse_problem::Problem;
 use std::alloc::{AllocError, Global};
+use std::snapshot::Snapshot;
 use txn_book::Book;
 
-/// What became of a turn.
-#[derive(Clone, Copy, Debug, PartialEq, Eq)]
-pub enum Turn {
-    /// Reductions were applied.
-    Applied,
-    /// A verdict was applied.
-    Decided,
-    /// Nothing can be applied. So many reductions are enabled.
-    Nothing { skipped: u64 },
-}
-
-/// One round at these rows and columns. Tells how many reductions it found.
-fn round(alloc: Global, book: &mut Book, ids: &Ids, next: &mut Ids) -> Result<usize, AllocError>
-    ensures went { OnOk result (Went book.old book.new (listed book.old.problem (instance_count book.old) (ids_of ids.now.rows.items ids.now.columns.items) verdict_order ++ listed book.old.problem (instance_count book.old) (ids_of ids.now.rows.items ids.now.columns.items) reduction_order)) }
-    ensures count { IfOk result (λ n. n ≡ length (listed book.old.problem (instance_count book.old) (ids_of ids.now.rows.items ids.now.columns.items) reduction_order)) }
-{
-    let mut proposals = enabled_verdicts(alloc, book, ids)?;
-    let mut reductions = enabled_reductions(alloc, book, ids)?;
-    let found = reductions.len();
-    proposals.append(&mut reductions)?;
-    commit_all(alloc, book, proposals.as_slice(), next)?;
-    Ok(found)
-}
-
-/// What a round made of a book that had so many reductions before it. None where it applied nothing.
-fn turned(book: &Book, applied: u64) -> Option<Turn>
-    requires { applied ≤ length book.now.history }
-    ensures { Turned applied result book.now }
-{
-    if book.verdict().is_some() {
-        return Some(Turn::Decided);
-    }
-    if book.applied() > applied {
-        return Some(Turn::Applied);
-    }
-    None
-}
-
-/// A round at all rows and columns.
-fn look_everywhere(alloc: Global, book: &mut Book, ids: &mut Ids) -> Result<Turn, AllocError>
-    requires { length book.old.history < book.old.limit }
+/// One round. Gives the rows and columns of the next.
+fn round(
+    alloc: Global,
+    book: &mut Book,
+    stamps: &mut Stamps,
+    ids: &mut Ids,
+) -> Result<(), AllocError>
+    requires ready { IsReady book.old stamps.old ids.old }
     ensures book { OnOk result (IsSameBook book.old book.new) }
-    ensures turn { IfOk result (λ turn. TurnsTo (length book.old.history) turn book.new) }
+    ensures committed { OnOk result (Committed book.old (round_list book.old) book.new) }
+    ensures ready { OnOk result (book.new.verdict ≡ None → length book.new.history < book.new.limit → IsReady book.new stamps.new ids.new) }
 {
-    let applied = book.applied();
-    let all = Ids::all_of(alloc, book.problem())?;
-    let mut next = Ids::none(alloc);
-    let found = round(alloc, book, &all, &mut next)?;
-    next.sort();
-    *ids = next;
-    match turned(book, applied) {
-        Some(turn) => Ok(turn),
-        None => Ok(Turn::Nothing {
-            skipped: found as u64,
-        }),
+    let frozen = Snapshot::of(book.problem());
+    let mut noted = Vec::new(alloc);
+    pass(alloc, book, &frozen, stamps, ids, &mut noted)?;
+    stamps.refresh(book.problem(), noted.as_slice());
+    *ids = Ids::of_parts(alloc, noted.as_slice())?;
+    Ok(())
+}
+
+/// How many instances these are.
+fn count(instances: &[Instance]) -> u64
+    ensures { result ≡ length instances.now }
+{
+    instances.len() as u64
+}
+
+/// How many reductions are enabled, all of them at these rows and columns.
+fn skipped(alloc: Global, problem: &Problem, ids: &Ids) -> Result<u64, AllocError>
+    requires sorted { AreSorted ids.now }
+    requires complete { IsComplete problem.now ids.now }
+    ensures { IfOk result (λ skipped. skipped ≡ skipped_on problem.now) }
+{
+    let found = enabled_of(alloc, problem, ids, &reduction_rules())?;
+    Ok(count(found.as_slice()))
+}
+
+/// The first of some instances.
+fn first_of(instances: &[Instance]) -> Option<Instance>
+    ensures { IsFirst instances.now result }
+{
+    match instances {
+        [first, ..] => Some(*first),
+        [] => None,
     }
 }
 
-/// A round at these rows and columns, and where it applies nothing, one at all of them. Gives those of the next round.
-fn take_turn(alloc: Global, book: &mut Book, ids: &mut Ids) -> Result<Turn, AllocError>
-    requires { length book.old.history < book.old.limit }
+/// The first verdict that is enabled, in instance order.
+fn first_verdict(alloc: Global, problem: &Problem) -> Result<Option<Instance>, AllocError>
+    ensures { IfOk result (IsFirst (enabled_verdicts problem.now)) }
+{
+    let all = Ids::all_of(alloc, problem)?;
+    let found = enabled_of(alloc, problem, &all, &verdict_rules())?;
+    Ok(first_of(found.as_slice()))
+}
+
+/// Applies the first verdict that is enabled to a book that is full.
+fn decide(alloc: Global, book: &mut Book, verdict: Instance) -> Result<(), AllocError>
+    requires undecided { book.old.verdict ≡ None }
+    requires full { book.old.limit ≤ length book.old.history }
+    requires first { IsFirst (enabled_verdicts book.old.problem) (Some verdict) }
     ensures book { OnOk result (IsSameBook book.old book.new) }
-    ensures turn { IfOk result (λ turn. TurnsTo (length book.old.history) turn book.new) }
+    ensures ordered { OnOk result (Ordered book.old None book.new) }
+    ensures decided { OnOk result (book.new.verdict ≢ None) }
 {
-    let applied = book.applied();
-    let mut next = Ids::none(alloc);
-    round(alloc, book, ids, &mut next)?;
-    next.sort();
-    *ids = next;
-    match turned(book, applied) {
-        Some(turn) => Ok(turn),
-        None => look_everywhere(alloc, book, ids),
+    match book.apply(alloc, verdict, &mut Vec::new(alloc)) {
+        Outcome::NoMemory => Err(AllocError),
+        _ => Ok(()),
     }
 }
 
-/// The end of a book that is full: a verdict, if one is enabled, is applied. None where the book is decided.
+/// The end of a book that is full: the first verdict that is enabled, if there is one, is applied. None where the book is decided.
 fn end_at_limit(alloc: Global, book: &mut Book) -> Result<Option<End>, AllocError>
-    requires { book.old.limit ≤ length book.old.history }
+    requires undecided { book.old.verdict ≡ None }
+    requires full { book.old.limit ≤ length book.old.history }
     ensures book { OnOk result (IsSameBook book.old book.new) }
+    ensures ordered { IfOk result (λ end. Ordered book.old end book.new) }
     ensures end { IfOk result (λ end. EndsWith end book.new) }
 {
-    let all = Ids::all_of(alloc, book.problem())?;
-    let verdicts = enabled_verdicts(alloc, book, &all)?;
-    commit_all(alloc, book, verdicts.as_slice(), &mut Ids::none(alloc))?;
     book.stands();
-    match book.verdict() {
-        Some(_) => Ok(None),
+    match first_verdict(alloc, book.problem())? {
         None => Ok(Some(End::LimitReached)),
+        Some(verdict) => {
+            decide(alloc, book, verdict)?;
+            Ok(None)
+        }
     }
 }
 
 /// Rounds until nothing can be applied, a verdict was, or the limit is reached. None where the book is decided.
 pub fn run(alloc: Global, book: &mut Book) -> Result<Option<End>, AllocError>
+    requires undecided { book.old.verdict ≡ None }
+    requires counted { (a : Part) → changes_of book.old.problem a ≤ length book.old.history }
     ensures book { OnOk result (IsSameBook book.old book.new) }
+    ensures ordered { IfOk result (λ end. Ordered book.old end book.new) }
     ensures end { IfOk result (λ end. EndsWith end book.new) }
 {
-    let mut ids = Ids::none(alloc);
-    while book.applied() < book.limit() {
-        match take_turn(alloc, book, &mut ids)? {
-            Turn::Applied => {}
-            Turn::Decided => return Ok(None),
-            Turn::Nothing { skipped } => return Ok(Some(End::Fixpoint { skipped })),
+    book.stands();
+    let limit = book.limit();
+    let mut stamps = Stamps::of(alloc, book.problem())?;
+    let mut ids = Ids::all_of(alloc, book.problem())?;
+    while book.applied() < limit {
+        let applied = book.applied();
+        round(alloc, book, &mut stamps, &mut ids)?;
+        if book.verdict().is_some() {
+            return Ok(None);
+        }
+        if book.applied() == applied {
+            let skipped = skipped(alloc, book.problem(), &ids)?;
+            return Ok(Some(End::Fixpoint { skipped }));
         }
     }
     end_at_limit(alloc, book)

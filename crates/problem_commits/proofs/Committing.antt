@@ -69,7 +69,7 @@ id_is k i h = by (cases_eq k i)
     by (inl e) = e
     by (inr n) = absurd (not_both h (ne_eqb k i n))
 
-same_part-is : (a b : Part) → same_part a b ≡ true → b ≡ a
+pub same_part-is : (a b : Part) → same_part a b ≡ true → b ≡ a
 same_part-is (part.Row i) (part.Row k) h = ap part.Row (id_is k i h)
 same_part-is (part.Row i) (part.Sides k) h = absurd (not_both h refl)
 same_part-is (part.Row i) (part.Col j) h = absurd (not_both h refl)

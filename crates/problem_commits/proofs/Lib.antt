@@ -3,3 +3,4 @@ pub mod Changed
 pub mod Noted
 pub mod Committing
 pub mod GivingBack
+pub mod Telling

@@ -1,5 +1,5 @@
 //! Commits of edits to a problem: edits are made one after the other, and then the number of each part that holds something else rises by
-//! one. What parts hold is read and compared here too.
+//! one; the parts that they touch are told. What parts hold is read and compared here too.
 #![tactic(auto)]
 
 mod commits;

@@ -4,6 +4,7 @@ pub mod Sparse
 pub mod Problems
 pub mod Parts
 pub mod Reading
+pub mod Noted
 pub mod Showing
 pub mod Programs
 pub mod Writing

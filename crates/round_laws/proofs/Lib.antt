@@ -1,3 +1,11 @@
-pub mod Commits
-pub mod Looks
 pub mod Telling
+pub mod Committing
+pub mod Tracking
+pub mod Turns
+pub mod Places
+pub mod Choosing
+pub mod Rounds
+pub mod Runs
+pub mod Numbers
+pub mod OneProblem
+pub mod Concluding

@@ -25,6 +25,7 @@ use Rattle.lp_model.specs.EndTests.{is_in_order}
 use Rattle.presolve_model.specs.Ledger.{Ledger, Stands}
 use Rattle.problem_model.specs.Problems.{IsSparse, row_at, sides_at}
 use Rattle.problem_model.specs.Programs.{IsProblemOf, written_program}
+use Rattle.presolve_model.specs.Ordered.{RunsTo}
 use Rattle.presolve_model.specs.Replay.{replay}
 use Rattle.problem_model.specs.Showing.{shown}
 use Rattle.problem_model.specs.Sparse.{Sparse}
@@ -37,7 +38,7 @@ use Rattle.program_laws.proofs.Writing.{problem_writable, written_writable}
 use Rattle.history_laws.proofs.Keeping.{sparse_replay, verdict_means, writable_replay}
 use Rattle.history_laws.proofs.Sizes.{replay_size}
 use Rattle.history_laws.proofs.Walks.{is_of, walked_sound}
-use Rattle.round_laws.specs.Telling.{IsToldOf, are_live}
+use Rattle.presolve_model.specs.Telling.{IsToldOf, are_live}
 
 -- ---- the walk
 abbrev pub walked : (program : ProgramData) (b : Ledger) (told : Postsolve) → IsProblemOf program b.start → Stands b → IsToldOf program b told → Walked b.numbers program (written_program program b.problem) told
@@ -93,8 +94,9 @@ verdict_says program b v o s e =
     meant_in v program.sense (meaning program) (subst (Meant v Min) (problem_shows_program program b.start o)
     (verdict_means b.numbers b.start b.history v s.sound s.replays (subst (λ (q : Sparse). enabled_on q (at.Verdict v) ≡ true) s.problem e)))
 
-pub decided : (program : ProgramData) (b : Ledger) (v : Verdict) → IsProblemOf program b.start → Stands b → b.verdict ≡ Some v → Decided (record { numbers = b.numbers; limit = b.limit }) program b.history v
-decided program b v o s h =
+pub decided : (program : ProgramData) (b : Ledger) (v : Verdict) → IsProblemOf program b.start → Stands b → b.verdict ≡ Some v → RunsTo (record { numbers = b.numbers; limit = b.limit }) program None b
+    → Decided (record { numbers = b.numbers; limit = b.limit }) program b.history v
+decided program b v o s h runs =
     let e : enabled_on b.problem (at.Verdict v) ≡ true = subst (λ (x : Option Verdict). IfSome x (λ w. enabled_on b.problem (at.Verdict w) ≡ true)) h s.verdict in
     record {
       start = b.start;
@@ -103,4 +105,5 @@ decided program b v o s h =
       within = s.within;
       enabled = subst (λ (q : Sparse). enabled_on q (at.Verdict v) ≡ true) s.problem e;
       means = verdict_says program b v o s e;
+      ordered = record { book = b; runs = runs; applied = refl; closed = h };
     }

@@ -1,2 +1,2 @@
-pub mod Committing
-pub mod Telling
+pub mod Choosing
+pub mod Passing

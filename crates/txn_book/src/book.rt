@@ -1,25 +1,30 @@
 //! Books.
 
-ghost use Rattle.std.specs.Prelude.{◌≡◌, ◌<◌, [], length, true, None, IfOk, IfSome};
+ghost use Rattle.std.specs.Prelude.{◌≡◌, ◌≢◌, ℕ, ◌<◌, [], length, true, None, IfOk, IfSome};
 ghost use Rattle.std.specs.Bool.{MatchBool};
 ghost use Rattle.rational.specs.Number.{◌-ℚ◌};
 ghost use Rattle.lp_model.specs.declared.program.Sense.TheVariants.{Min};
 ghost use Rattle.lp_model.specs.Reductions.{Reduces};
 ghost use Rattle.undo_records.specs.Lift.{lift};
 ghost use Rattle.presolve_model.specs.declared.instance.Instance.TheVariants as at;
+ghost use Rattle.presolve_model.specs.declared.outcome.Outcome.TheVariants.{NoMemory};
 ghost use Rattle.presolve_model.specs.Commits.{Allows, HasRoom, IsFull, left_by, next_place, with_instance};
 ghost use Rattle.presolve_model.specs.Enabled.{enabled_on};
+ghost use Rattle.presolve_model.specs.Given.{Proposed};
 ghost use Rattle.presolve_model.specs.Ledger.{instance_count, Stands};
 ghost use Rattle.presolve_model.specs.Meanings.{Meant};
-ghost use Rattle.problem_model.specs.Showing.{shown};
+ghost use Rattle.presolve_model.specs.Scans.{proposal_of};
 ghost use Rattle.presolve_model.specs.Worlds.{version_of};
+ghost use Rattle.problem_model.specs.Noted.{AreNoted};
+ghost use Rattle.problem_model.specs.Reading.{Agrees};
+ghost use Rattle.problem_model.specs.Showing.{shown};
 ghost use Rattle.problem_model.specs.Writing.{IsWritable};
 ghost use Rattle.txn_book.specs.Applying.{Applies, outcome_of};
 
 use crate::version::Version;
 use fractions::Numbers;
 use instances::{Proposal, after};
-use presolve_model::{Instance, Outcome, Reduction, Refusal, Verdict};
+use presolve_model::{Instance, Outcome, Part, Reduction, Refusal, Verdict};
 use sparse_problem::Problem;
 use std::alloc::{AllocError, Global};
 use std::marker::Model;
@@ -164,16 +169,23 @@ impl Book {
         }
     }
 
-    /// Applies a reduction, keeps its record, and gives its place in the history. All room is made before anything is changed.
-    fn apply(&mut self, alloc: Global, reduction: Reduction) -> Result<usize, Refusal>
+    /// Applies a reduction, keeps its record, gives its place in the history, and notes the parts that change. All room is made before
+    /// anything is changed.
+    fn apply_reduction(
+        &mut self,
+        alloc: Global,
+        reduction: Reduction,
+        changed: &mut Vec<Part>,
+    ) -> Result<usize, Refusal>
         requires undecided { self.old.verdict ≡ None }
         requires room { length self.old.history < self.old.limit }
         requires enabled { enabled_on self.old.problem (at.Reduction reduction) ≡ true }
-        ensures { Applies self.old reduction result self.new }
+        ensures applies { Applies self.old reduction result self.new }
+        ensures noted { AreNoted self.old.problem self.new.problem changed.old.items changed.new.items }
     {
         self.history.reserve(1)?;
         self.records.reserve(1)?;
-        let undo = match after(&mut self.problem, alloc, reduction, self.numbers) {
+        let undo = match after(&mut self.problem, alloc, reduction, self.numbers, changed) {
             Ok(undo) => undo,
             Err(refusal) => return Err(refusal),
         };
@@ -192,8 +204,45 @@ impl Book {
         self.history.len() + 1
     }
 
+    /// Applies an enabled instance where no verdict stands and there is room, and notes the parts that change.
+    fn apply_open(&mut self, alloc: Global, instance: Instance, changed: &mut Vec<Part>) -> Outcome
+        requires undecided { self.old.verdict ≡ None }
+        requires room { HasRoom self.old instance }
+        requires enabled { enabled_on self.old.problem instance ≡ true }
+        ensures outcome { (p : Proposed) → p.instance ≡ instance → Agrees self.old.problem p.reading → Allows self.old p result }
+        ensures left { (p : Proposed) → p.instance ≡ instance → self.new ≡ left_by self.old p result }
+        ensures noted { AreNoted self.old.problem self.new.problem changed.old.items changed.new.items }
+    {
+        match instance {
+            Instance::Reduction(reduction) => {
+                outcome_of(self.apply_reduction(alloc, reduction, changed))
+            }
+            Instance::Verdict(verdict) => Outcome::Applied {
+                place: self.decide(verdict),
+            },
+        }
+    }
+
+    /// Applies an enabled instance to the present problem, as a commit of its reading of that problem would, and notes the parts that
+    /// change. Anything but `Applied` leaves the book as it is.
+    pub fn apply(&mut self, alloc: Global, instance: Instance, changed: &mut Vec<Part>) -> Outcome
+        requires enabled { enabled_on self.old.problem instance ≡ true }
+        ensures outcome { (version : ℕ) → Allows self.old (proposal_of self.old.problem version instance) result }
+        ensures left { (version : ℕ) → self.new ≡ left_by self.old (proposal_of self.old.problem version instance) result }
+        ensures noted { result ≢ NoMemory → AreNoted self.old.problem self.new.problem changed.old.items changed.new.items }
+    {
+        if let Some(verdict) = self.verdict {
+            return Outcome::Closed { verdict };
+        }
+        if self.is_full(instance) {
+            return Outcome::Full;
+        }
+        self.apply_open(alloc, instance, changed)
+    }
+
     /// Commits a proposal: applies its instance if no verdict stands, there is room, and each part stands as it was read. Anything else
     /// leaves the book as it is. Whoever commits is named, and makes no difference.
+    #[tactic(auto, using(presolve_model::proofs::Tabled::enabled_by))]
     pub fn commit(&mut self, alloc: Global, by: u32, proposal: &Proposal) -> Outcome
         ensures outcome { Allows self.old proposal.now result }
         ensures left { self.new ≡ left_by self.old proposal.now result }
@@ -211,12 +260,8 @@ impl Book {
                 place: differs.place,
             };
         }
-        match instance {
-            Instance::Reduction(reduction) => outcome_of(self.apply(alloc, reduction)),
-            Instance::Verdict(verdict) => Outcome::Applied {
-                place: self.decide(verdict),
-            },
-        }
+        let mut changed = Vec::new(alloc);
+        self.apply_open(alloc, instance, &mut changed)
     }
 
     /// Closes the book for good: its problem, its history, its verdict and its records.

@@ -1,4 +1,5 @@
-//! The book of a run of presolve: the present problem, what was applied to it, and the one way in which a proposal is committed.
+//! The book of a run of presolve: the present problem, what was applied to it, and the two ways in which that grows: a proposal is
+//! committed, or an enabled instance is applied to the present problem.
 #![tactic(auto)]
 
 mod book;

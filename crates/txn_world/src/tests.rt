@@ -1,10 +1,10 @@
-//! Two workers on one book.
+//! Two workers on one book, and a book with none.
 
 use crate::models::{Model, problem};
 use crate::{Event, World};
 use fractions::Numbers;
-use instances::{Chunk, Tally, scan};
-use presolve_model::{Outcome, Rule, Verdict};
+use instances::{Chunk, Tally, is_enabled, scan};
+use presolve_model::{Instance, Outcome, Part, Reduction, Rule, Verdict};
 use sparse_problem::Problem;
 use std::alloc::{AllocError, Global};
 use std::process::Abort;
@@ -285,5 +285,25 @@ fn two_workers(rt: HostRuntime) -> Result<(), Fail> {
         world.stands();
         assert_eq!(rt; world.book().limit(), story.limit);
     }
+    Ok(())
+}
+
+#[test]
+fn applied_at_once(rt: HostRuntime) -> Result<(), Fail> {
+    let alloc = rt.alloc();
+    let plain = problem(&rt, alloc, Numbers::Fractions, &PLAIN)?;
+    let mut book = Book::open(alloc, plain, Numbers::Fractions, 1);
+    let mut changed = Vec::new(alloc);
+    let row = Instance::Reduction(Reduction::SingletonRow { row: 0 });
+    assert!(rt; is_enabled(book.problem(), row));
+    let outcome = book.apply(alloc, row, &mut changed);
+    assert_eq!(rt; outcome, Outcome::Applied { place: 1 });
+    for part in [Part::Row(0), Part::Sides(0), Part::Col(0), Part::Bounds(0)] {
+        assert!(rt; changed.contains(&part));
+    }
+    let column = Instance::Reduction(Reduction::EmptyColumn { column: 0 });
+    assert!(rt; is_enabled(book.problem(), column));
+    let outcome = book.apply(alloc, column, &mut changed);
+    assert_eq!(rt; outcome, Outcome::Full);
     Ok(())
 }

@@ -7,7 +7,7 @@ use Rattle.undo_records.specs.declared.label.Label.{Label}
 use Rattle.undo_records.specs.Postsolve.{Postsolve}
 use Rattle.mps_round_trip.specs.Plain.{CanNameRow, HasNoReturn, Plain}
 use Rattle.record_reader.specs.Matching as matching
-use Rattle.presolve_model.specs.Conclusions.{names_in}
+use Rattle.presolve_model.specs.Telling.{names_in}
 use Rattle.presolve_model.specs.Conclusions.{CarriesNames, live_names}
 
 abbrev Names : Type 0

@@ -17,7 +17,7 @@ use Rattle.mps_round_trip.proofs.Naming.{words_of}
 use Rattle.point_text.specs.PlainNames as solutions
 use Rattle.point_text.specs.Reading as solutions_read
 use Rattle.point_text.specs.SolutionText.{solution_text}
-use Rattle.presolve_model.specs.Conclusions.{names_in}
+use Rattle.presolve_model.specs.Telling.{names_in}
 use Rattle.presolve_model.specs.Conclusions.{Concluded}
 use Rattle.presolve_model.specs.declared.conclusion.End.{End}
 use Rattle.presolve_model.specs.declared.conclusion.Options.{Options}

@@ -17,7 +17,7 @@ use Rattle.record_file.specs.RecordText as files
 use Rattle.record_reader.specs.Matching.{Matches}
 use Rattle.record_reader.specs.Reading as records
 use Rattle.record_round_trip.specs.Ranges.{HasRange}
-use Rattle.presolve_model.specs.Conclusions.{names_in}
+use Rattle.presolve_model.specs.Telling.{names_in}
 use Rattle.presolve_model.specs.Conclusions.{Concluded}
 use Rattle.presolve_model.specs.declared.conclusion.End.{End}
 use Rattle.presolve_model.specs.declared.conclusion.Options.{Options}

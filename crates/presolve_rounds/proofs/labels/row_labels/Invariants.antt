@@ -1,8 +1,8 @@
 use Rattle.std.proofs.Common.{◌≡◌, take}
 use Rattle.lp_model.specs.Names.{names_of_rows}
 use Rattle.undo_records.specs.Walk.{lives}
-use Rattle.presolve_model.specs.Conclusions.{names_in}
-use Rattle.round_laws.specs.Telling.{are_live}
+use Rattle.presolve_model.specs.Telling.{names_in}
+use Rattle.presolve_model.specs.Telling.{are_live}
 use Rattle.presolve_rounds.proofs.labels.row_labels.Given as goal
 
 -- the labels so far

@@ -10,9 +10,9 @@ use Rattle.presolve_rounds.proofs.reduce.decided.Goals as goal
 pub returns-clause-told : goal.returns-clause-told
 returns-clause-told c =
     subst (λ (rs : List Reduction). Decided (options_with c.args.book.numbers c.args.book.limit) c.args.program.now rs c.in-Some.verdict) (sym c.close-ended.ensures.history)
-    (decided c.args.program.now c.args.book c.in-Some.verdict c.requires.start c.stands.ensures.stands (sym c.close-ended.ensures.verdict ∙ c.in-Some.is))
+    (decided c.args.program.now c.args.book c.in-Some.verdict c.requires.start c.stands.ensures.stands (sym c.close-ended.ensures.verdict ∙ c.in-Some.is) c.requires.runs)
 
 pub returns-clause-no_point : goal.returns-clause-no_point
 returns-clause-no_point c =
     meant_no_point c.in-Some.verdict c.args.program.now.sense (meaning c.args.program.now)
-    (decided c.args.program.now c.args.book c.in-Some.verdict c.requires.start c.stands.ensures.stands (sym c.close-ended.ensures.verdict ∙ c.in-Some.is)).means
+    (decided c.args.program.now c.args.book c.in-Some.verdict c.requires.start c.stands.ensures.stands (sym c.close-ended.ensures.verdict ∙ c.in-Some.is) c.requires.runs).means

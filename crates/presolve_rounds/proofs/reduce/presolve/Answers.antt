@@ -1,17 +1,28 @@
-use Rattle.std.proofs.Common.{Option, sym, ap₂, ◌∙◌, subst}
+use Rattle.std.proofs.Common.{Option, Some, None, sym, ap, ◌∙◌, subst}
 use Rattle.problem_model.specs.Programs.{IsProblemOf}
 use Rattle.presolve_model.specs.declared.conclusion.End.{End}
 use Rattle.presolve_model.specs.declared.conclusion.Options.{Options}
 use Rattle.presolve_model.specs.Conclusions.{Concluded, Decided}
+use Rattle.presolve_model.specs.Ledger.{Ledger}
 use Rattle.presolve_rounds.specs.Running.{EndsWith}
-use Rattle.presolve_rounds.proofs.Concluding.{options_with}
+use Rattle.presolve_rounds.proofs.Concluding.{counted_new, runs_to, same_options}
 use Rattle.presolve_rounds.proofs.reduce.presolve.Goals as goal
+
+pub run-requires-clause-undecided : goal.run-requires-clause-undecided
+run-requires-clause-undecided c = ap (λ (b : Ledger). b.verdict) c.in_ok-book.ensures.new
+
+pub run-requires-clause-counted : goal.run-requires-clause-counted
+run-requires-clause-counted c = counted_new c.args.program c.args.options.now c.in_ok-book.book c.in_ok-book.ensures.start c.in_ok-book.ensures.new
+
+pub reduced-requires-clause-runs : goal.reduced-requires-clause-runs
+reduced-requires-clause-runs c =
+    runs_to c.args.program c.args.options.now c.in_ok-book.book c.run.new.book c.in_ok-end.end (Some c.in-Some.end) c.in_ok-book.ensures.start c.in_ok-book.ensures.new c.in_ok-end.ensures.book c.in-Some.is c.in_ok-end.ensures.ordered
 
 pub returns-in-Some : goal.returns-in-Some
 returns-in-Some c =
     let made = c.in_ok-reduced-in-Some.field-0 in
     subst (λ (o : Options). Concluded o c.args.program made.program made.records made.end)
-    (ap₂ options_with (c.in_ok-end.ensures.book.numbers ∙ c.in_ok-book.ensures.numbers) (c.in_ok-end.ensures.book.limit ∙ c.in_ok-book.ensures.limit))
+    (same_options c.args.options.now c.in_ok-book.book c.run.new.book c.in_ok-book.ensures.new c.in_ok-end.ensures.book)
     c.in_ok-reduced-in-Some.ensures
 
 pub decided-requires-clause-start : goal.decided-requires-clause-start
@@ -20,10 +31,14 @@ decided-requires-clause-start c = subst (IsProblemOf c.args.program) (sym c.in_o
 pub decided-requires-clause-decided : goal.decided-requires-clause-decided
 decided-requires-clause-decided c = subst (λ (o : Option End). EndsWith o c.run.new.book) c.in-None.is c.in_ok-end.ensures.end
 
+pub decided-requires-clause-runs : goal.decided-requires-clause-runs
+decided-requires-clause-runs c =
+    runs_to c.args.program c.args.options.now c.in_ok-book.book c.run.new.book c.in_ok-end.end None c.in_ok-book.ensures.start c.in_ok-book.ensures.new c.in_ok-end.ensures.book c.in-None.is c.in_ok-end.ensures.ordered
+
 pub returns : goal.returns
 returns c = (
   subst (λ (o : Options). Decided o c.args.program c.decided.result.history.items c.decided.result.verdict)
-      (ap₂ options_with (c.in_ok-end.ensures.book.numbers ∙ c.in_ok-book.ensures.numbers) (c.in_ok-end.ensures.book.limit ∙ c.in_ok-book.ensures.limit))
+      (same_options c.args.options.now c.in_ok-book.book c.run.new.book c.in_ok-book.ensures.new c.in_ok-end.ensures.book)
       c.decided.ensures.told,
   c.decided.ensures.no_point,
 )

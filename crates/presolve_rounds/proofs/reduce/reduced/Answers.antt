@@ -26,4 +26,4 @@ returns c =
     } in
     subst (λ (p : ProgramData). Concluded (options_with c.args.book.numbers c.args.book.limit) c.args.program.now p c.in_ok-records.records c.args.end)
     (sym written)
-    (concluded c.args.program.now c.args.book c.in_ok-records.records c.args.end c.requires.ascends c.requires.writable c.requires.start c.stands.ensures.stands c.requires.end c.in_ok-records.ensures named)
+    (concluded c.args.program.now c.args.book c.in_ok-records.records c.args.end c.requires.ascends c.requires.writable c.requires.start c.stands.ensures.stands c.requires.end c.in_ok-records.ensures named c.requires.runs)

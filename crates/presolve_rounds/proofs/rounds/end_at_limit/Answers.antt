@@ -1,10 +1,12 @@
-use Rattle.std.proofs.Common.{sym, ap, ◌∙◌}
-use Rattle.presolve_rounds.specs.Looking.{all_columns, all_rows}
-use Rattle.presolve_rounds.proofs.Ending.{at_limit}
+use Rattle.std.proofs.Common.{◌≡◌, [], List, Option, sym, ap, ◌∙◌, subst}
+use Rattle.problem_model.specs.Sparse.{Sparse}
+use Rattle.presolve_model.specs.declared.instance.Instance.{Instance}
+use Rattle.presolve_model.specs.Ordered.{enabled_verdicts}
+use Rattle.presolve_rounds.specs.Running.{IsFirst}
+use Rattle.presolve_rounds.proofs.Running.{full_undecided}
 use Rattle.presolve_rounds.proofs.rounds.end_at_limit.Goals as goal
 
-pub returns-clause-end : goal.returns-clause-end
-returns-clause-end c =
-    at_limit c.args.book.now c.commit_all.new.book _ c.in_ok-all.all.rows.items c.in_ok-all.all.columns.items c.as_slice.result.now c.requires
-    (c.in_ok-all.ensures.rows ∙ ap all_rows c.problem.ensures) (c.in_ok-all.ensures.columns ∙ ap all_columns c.problem.ensures)
-    (c.as_slice.ensures.value ∙ c.in_ok-verdicts.ensures) c.stands.ensures.stands c.in_ok-commit_all.ensures (sym c.verdict.ensures ∙ c.in-None.is)
+pub returns-in-None-clause-end : goal.returns-in-None-clause-end
+returns-in-None-clause-end c =
+    let none : enabled_verdicts c.problem.result.now ≡ [] = subst (IsFirst (enabled_verdicts c.problem.result.now)) c.in-None.is c.in_ok-first_verdict.ensures in
+    (full_undecided c.args.book.now (ap (λ (p : Sparse). enabled_verdicts p) (sym c.problem.ensures) ∙ none) c.requires.full c.stands.ensures.stands.within).1

@@ -1,0 +1,26 @@
+use Rattle.std.proofs.Common.{◌≡◌, false, sym, ap, ◌∙◌}
+use Rattle.problem_model.specs.Sparse.{Sparse}
+use Rattle.problem_laws.proofs.Terms.{not_both}
+use Rattle.presolve_model.specs.Enabled.{enabled_on, reads}
+use Rattle.round_laws.specs.Passing.{are_unchanged}
+use Rattle.round_laws.proofs.Numbers.{changed_stale, unchanged_fresh}
+use Rattle.round_laws.proofs.Turns.{met_over}
+use Rattle.presolve_rounds.specs.Stamping.{stamp_at}
+use Rattle.presolve_rounds.proofs.pass.visit.Goals as goal
+
+pub returns-then-not-is_enabled : goal.returns-then-not-is_enabled
+returns-then-not-is_enabled c =
+    let off : enabled_on c.args.book.now.problem c.args.instance ≡ false = ap (λ (p : Sparse). enabled_on p c.args.instance) (sym c.problem.ensures) ∙ sym c.is_enabled.ensures ∙ c.if-not-is_enabled.true in
+    met_over c.args.frozen.now.value c.args.instance c.args.noted.now.items c.args.book.now c.requires.follows (λ on fresh. not_both on off)
+
+pub returns-then-not-stand_for : goal.returns-then-not-stand_for
+returns-then-not-stand_for c =
+    let moved : are_unchanged (stamp_at c.args.stamps.now) c.args.book.now.problem (reads c.args.book.now.problem c.args.instance) ≡ false =
+    ap (λ (p : Sparse). are_unchanged (stamp_at c.args.stamps.now) p (reads p c.args.instance)) (sym c.problem-2.ensures) ∙ sym c.stand_for.ensures ∙ c.if-not-stand_for.true in
+    met_over c.args.frozen.now.value c.args.instance c.args.noted.now.items c.args.book.now c.requires.follows
+    (λ on. changed_stale (stamp_at c.args.stamps.now) c.args.frozen.now.value c.args.book.now.problem c.requires.follows.later c.requires.stamps.tell c.args.instance moved)
+
+pub meet-requires-clause-fresh : goal.meet-requires-clause-fresh
+meet-requires-clause-fresh c =
+    unchanged_fresh (stamp_at c.args.stamps.now) c.args.frozen.now.value c.args.book.now.problem c.requires.follows.later c.requires.stamps.tell c.args.instance
+    (ap (λ (p : Sparse). are_unchanged (stamp_at c.args.stamps.now) p (reads p c.args.instance)) (sym c.problem-2.ensures) ∙ sym c.stand_for.ensures ∙ c.if-not-stand_for.false)

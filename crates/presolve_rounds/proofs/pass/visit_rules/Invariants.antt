@@ -1,0 +1,8 @@
+use Rattle.std.proofs.Common.{take}
+use Rattle.round_laws.specs.Choosing.{instances_of}
+use Rattle.round_laws.specs.Passing.{Passed}
+use Rattle.presolve_rounds.proofs.pass.visit_rules.Given as goal
+
+-- those so far
+abbrev pub invariant-loop-rule : goal.invariant-loop-rule
+invariant-loop-rule l = Passed l.frozen.value (instances_of l.frozen.value l.ids (take l.rule-index l.rules)) l.initial.noted.items l.initial.book l.noted.items l.book

@@ -1,0 +1,47 @@
+use Rattle.std.proofs.Common.{◌<◌, length, sym, refl, ap, ◌∙◌, arith}
+use Rattle.presolve_model.specs.Stuck.{skipped_on}
+use Rattle.round_laws.specs.Choosing.{all_places}
+use Rattle.round_laws.proofs.Runs.{run_more}
+use Rattle.presolve_rounds.specs.Stamping.{stamps_of}
+use Rattle.presolve_rounds.proofs.Running.{at_fixpoint, more_applied, none_of, ready_first, same_twice}
+use Rattle.presolve_rounds.proofs.rounds.run.Goals as goal
+
+pub loop-book-init : goal.loop-book-init
+loop-book-init c = record {
+  same = record { start = refl; numbers = refl; limit = refl };
+  limit = c.limit-limit.ensures;
+  undecided = c.requires.undecided;
+  ready = λ room. ready_first c.args.book.now c.in_ok-stamps.stamps c.in_ok-ids.ids c.stands.ensures.stands c.requires.counted (omega (arith, c.limit-limit.ensures, c.limit-limit.type_inv))
+      (c.in_ok-stamps.ensures ∙ ap stamps_of c.problem.ensures) (c.in_ok-ids.ensures ∙ ap all_places c.problem-2.ensures);
+  ordered = λ e d h. h;
+}
+
+pub loop-book-smaller : goal.loop-book-smaller
+loop-book-smaller c =
+    let more : length c.loop-book.book.history < length c.round.new.book.history =
+    more_applied c.loop-book.book c.round.new.book c.in_ok-round.ensures.committed (λ e. c.if-applied.false (c.applied-in-loop-book.ensures ∙ e ∙ sym c.applied-applied.ensures)) in
+    omega (arith, more, c.loop-book-test.true, c.applied.ensures)
+
+pub loop-book-preserved : goal.loop-book-preserved
+loop-book-preserved c =
+    let b = c.loop-book.book in
+    let d = c.round.new.book in
+    let room : length b.history < b.limit = omega (arith, c.loop-book-test.true, c.applied.ensures, c.loop-book.invariant.limit) in
+    let none = none_of c.verdict.result d.verdict c.verdict.ensures c.if-is_some.ensures in
+    let more : length b.history < length d.history =
+    more_applied b d c.in_ok-round.ensures.committed (λ e. c.if-applied.false (c.applied-in-loop-book.ensures ∙ e ∙ sym c.applied-applied.ensures)) in
+    record {
+      same = same_twice c.args.book.now b d c.loop-book.invariant.same c.in_ok-round.ensures.book;
+      limit = c.loop-book.invariant.limit ∙ sym c.in_ok-round.ensures.book.limit;
+      undecided = none;
+      ready = c.in_ok-round.ensures.ready none;
+      ordered = λ e x h. c.loop-book.invariant.ordered e x (run_more b d x e room c.in_ok-round.ensures.committed none more h);
+    }
+
+pub returns-then-applied-clause-end : goal.returns-then-applied-clause-end
+returns-then-applied-clause-end c =
+    let b = c.loop-book.book in
+    let d = c.round.new.book in
+    at_fixpoint b d c.in_ok-skipped.skipped c.loop-book.invariant.undecided (omega (arith, c.loop-book-test.true, c.applied.ensures, c.loop-book.invariant.limit)) c.in_ok-round.ensures.committed
+    (none_of c.verdict.result d.verdict c.verdict.ensures c.if-is_some.ensures) (sym c.applied-in-loop-book.ensures ∙ c.if-applied.true ∙ c.applied-applied.ensures)
+    (c.in_ok-skipped.ensures ∙ ap skipped_on c.problem-then-applied.ensures)

@@ -1,0 +1,162 @@
+//! A pass: instances in order, each looked at on the present problem when its turn comes.
+//!
+//! What a round lists is never held. An instance whose parts have not changed since the round began is enabled on the present problem
+//! exactly where it was when the round began, and is then applied at once. One that reads a part which has changed would be stale, and is
+//! left to the next round.
+
+ghost use Rattle.std.specs.Prelude.{◌≡◌, true, ◌∷◌, [], OnOk};
+ghost use Rattle.presolve_model.specs.Enabled.{enabled_on};
+ghost use Rattle.presolve_model.specs.Instances.{instances_from};
+ghost use Rattle.presolve_model.specs.Order.{reduction_order, verdict_order};
+ghost use Rattle.presolve_model.specs.Scans.{instances_at};
+ghost use Rattle.round_laws.specs.Choosing.{ids_of, instances_of, visited};
+ghost use Rattle.round_laws.specs.Passing.{Follows, IsFresh, Passed};
+ghost use Rattle.presolve_rounds.specs.Stamping.{AreStampsOf};
+
+use crate::ids::Ids;
+use crate::stamps::Stamps;
+use instances::{head, instance_of, is_enabled, reduction_rules, verdict_rules};
+use presolve_model::{Instance, Outcome, Part, Rule};
+use sparse_problem::Problem;
+use std::alloc::{AllocError, Global};
+use std::snapshot::Snapshot;
+use txn_book::Book;
+
+/// Applies an instance that is enabled, its parts as they stood when the round began, and notes what changes, and a part that it reads.
+fn meet(
+    alloc: Global,
+    book: &mut Book,
+    frozen: &Snapshot<Problem>,
+    instance: Instance,
+    noted: &mut Vec<Part>,
+) -> Result<(), AllocError>
+    requires follows { Follows frozen.now.value book.old }
+    requires enabled { enabled_on book.old.problem instance ≡ true }
+    requires fresh { IsFresh frozen.now.value book.old.problem instance }
+    ensures { OnOk result (Passed frozen.now.value (instance ∷ []) noted.old.items book.old noted.new.items book.new) }
+{
+    let _ = frozen;
+    match book.apply(alloc, instance, noted) {
+        Outcome::NoMemory => return Err(AllocError),
+        _ => {}
+    }
+    noted.push(head(instance))?;
+    Ok(())
+}
+
+/// An instance at its turn.
+fn visit(
+    alloc: Global,
+    book: &mut Book,
+    frozen: &Snapshot<Problem>,
+    stamps: &Stamps,
+    instance: Instance,
+    noted: &mut Vec<Part>,
+) -> Result<(), AllocError>
+    requires follows { Follows frozen.now.value book.old }
+    requires stamps { AreStampsOf stamps.now frozen.now.value }
+    ensures { OnOk result (Passed frozen.now.value (instance ∷ []) noted.old.items book.old noted.new.items book.new) }
+{
+    if !is_enabled(book.problem(), instance) {
+        return Ok(());
+    }
+    if !stamps.stand_for(book.problem(), instance) {
+        return Ok(());
+    }
+    meet(alloc, book, frozen, instance, noted)?;
+    Ok(())
+}
+
+/// The instances of a rule with a first id.
+fn visit_at(
+    alloc: Global,
+    book: &mut Book,
+    frozen: &Snapshot<Problem>,
+    stamps: &Stamps,
+    rule: Rule,
+    id: u32,
+    noted: &mut Vec<Part>,
+) -> Result<(), AllocError>
+    requires follows { Follows frozen.now.value book.old }
+    requires stamps { AreStampsOf stamps.now frozen.now.value }
+    ensures { OnOk result (Passed frozen.now.value (instances_from frozen.now.value rule id) noted.old.items book.old noted.new.items book.new) }
+{
+    visit(alloc, book, frozen, stamps, instance_of(rule, id), noted)?;
+    Ok(())
+}
+
+/// The instances of a rule at these ids.
+fn visit_each(
+    alloc: Global,
+    book: &mut Book,
+    frozen: &Snapshot<Problem>,
+    stamps: &Stamps,
+    rule: Rule,
+    ids: &[u32],
+    noted: &mut Vec<Part>,
+) -> Result<(), AllocError>
+    requires follows { Follows frozen.now.value book.old }
+    requires stamps { AreStampsOf stamps.now frozen.now.value }
+    ensures { OnOk result (Passed frozen.now.value (instances_at frozen.now.value rule ids.now) noted.old.items book.old noted.new.items book.new) }
+{
+    for id in ids {
+        visit_at(alloc, book, frozen, stamps, rule, *id, noted)?;
+    }
+    Ok(())
+}
+
+/// The instances of a rule at these rows and columns.
+fn visit_rule(
+    alloc: Global,
+    book: &mut Book,
+    frozen: &Snapshot<Problem>,
+    stamps: &Stamps,
+    rule: Rule,
+    ids: &Ids,
+    noted: &mut Vec<Part>,
+) -> Result<(), AllocError>
+    requires follows { Follows frozen.now.value book.old }
+    requires stamps { AreStampsOf stamps.now frozen.now.value }
+    ensures { OnOk result (Passed frozen.now.value (instances_at frozen.now.value rule (ids_of ids.now rule)) noted.old.items book.old noted.new.items book.new) }
+{
+    visit_each(alloc, book, frozen, stamps, rule, ids.of(rule), noted)?;
+    Ok(())
+}
+
+/// The instances of rules at these rows and columns, each rule's in turn.
+fn visit_rules(
+    alloc: Global,
+    book: &mut Book,
+    frozen: &Snapshot<Problem>,
+    stamps: &Stamps,
+    rules: &[Rule],
+    ids: &Ids,
+    noted: &mut Vec<Part>,
+) -> Result<(), AllocError>
+    requires follows { Follows frozen.now.value book.old }
+    requires stamps { AreStampsOf stamps.now frozen.now.value }
+    ensures { OnOk result (Passed frozen.now.value (instances_of frozen.now.value ids.now rules.now) noted.old.items book.old noted.new.items book.new) }
+{
+    for rule in rules {
+        visit_rule(alloc, book, frozen, stamps, *rule, ids, noted)?;
+    }
+    Ok(())
+}
+
+/// All instances at these rows and columns, in instance order. Notes what changes, and a part of what was refused.
+pub fn pass(
+    alloc: Global,
+    book: &mut Book,
+    frozen: &Snapshot<Problem>,
+    stamps: &Stamps,
+    ids: &Ids,
+    noted: &mut Vec<Part>,
+) -> Result<(), AllocError>
+    requires follows { Follows frozen.now.value book.old }
+    requires stamps { AreStampsOf stamps.now frozen.now.value }
+    ensures { OnOk result (Passed frozen.now.value (visited frozen.now.value ids.now) noted.old.items book.old noted.new.items book.new) }
+{
+    visit_rules(alloc, book, frozen, stamps, &verdict_rules(), ids, noted)?;
+    visit_rules(alloc, book, frozen, stamps, &reduction_rules(), ids, noted)?;
+    Ok(())
+}

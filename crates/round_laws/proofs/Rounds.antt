@@ -1,0 +1,154 @@
+-- A pass is a round; and what a round that applied nothing says.
+use Rattle.std.proofs.Common.{◌≡◌, ◌≢◌, ◌⊎◌, inl, inr, ℕ, zero, suc, ◌+◌, ◌<◌, ◌≤◌, Bool, true, false, List, [], ◌∷◌, ◌++◌, length, map, Some, None, sym, refl, ap, ap₂, ◌∙◌, subst, arith, length-append}
+use Rattle.std.specs.Prelude.{if◌then◌else◌}
+use Rattle.std.specs.List.{Contains, filter}
+use Rattle.std.proofs.lemmas.List.{append-nil}
+use Rattle.std.proofs.lemmas.List.Elements.{Contains-append_left, Contains-append_right}
+use Rattle.std.proofs.lemmas.Option.{none-some}
+use Rattle.problem_model.specs.declared.part.Part.{Part}
+use Rattle.problem_model.specs.Sparse.{Sparse}
+use Rattle.presolve_model.specs.declared.instance.Instance.{Instance}
+use Rattle.presolve_model.specs.declared.instance.Instance.TheVariants as at
+use Rattle.presolve_model.specs.declared.instance.Reduction.{Reduction}
+use Rattle.presolve_model.specs.declared.instance.Rule.{Rule}
+use Rattle.presolve_model.specs.declared.instance.Verdict.{Verdict}
+use Rattle.presolve_model.specs.declared.outcome.Outcome.{Outcome}
+use Rattle.presolve_model.specs.Commits.{CanWrite, Fits, IsOpen, left_by, with_instance}
+use Rattle.presolve_model.specs.Enabled.{enabled_on}
+use Rattle.presolve_model.specs.Given.{Proposed}
+use Rattle.presolve_model.specs.Ledger.{instance_count, Ledger}
+use Rattle.presolve_model.specs.Order.{reduction_order, verdict_order}
+use Rattle.presolve_model.specs.Ordered.{Committed, enabled_verdicts, round_list}
+use Rattle.presolve_model.specs.Replay.{CanApply}
+use Rattle.presolve_model.specs.Scans.{all_ids, all_of, listed, proposal_of}
+use Rattle.presolve_model.specs.Stuck.{IsUndecided, Stuck}
+use Rattle.presolve_model.proofs.ByCases.{reductions_ordered, verdicts_listed, verdicts_ordered}
+use Rattle.presolve_model.proofs.Listing.{among_all, reduction_listed, verdict_listed}
+use Rattle.presolve_model.proofs.Readings.{reading_agrees}
+use Rattle.round_laws.specs.Choosing.{AreSorted, instances_of, IsComplete, Places, proposals, visited}
+use Rattle.round_laws.specs.Passing.{IsFresh, IsNoted, Passed, Tracks}
+use Rattle.round_laws.proofs.Choosing.{among_there, listed_there}
+use Rattle.round_laws.proofs.Committing.{left_how, left_open, proposals_append, same_reads}
+
+-- ---- a pass over rows and columns where each enabled instance is is a round
+pub passed_round : (b c : Ledger) (n : Places) (noted m : List Part) → AreSorted n → IsComplete b.problem n → Passed b.problem (visited b.problem n) noted b m c → Committed b (round_list b) c
+passed_round b c n noted m sorted complete h =
+    let v : ℕ = instance_count b in
+    let p : Sparse = b.problem in
+    let same : proposals p v (visited p n) ≡ round_list b =
+    proposals_append p v (instances_of p n verdict_order) (instances_of p n reduction_order)
+    ∙ ap₂ (λ (xs ys : List Proposed). xs ++ ys) (listed_there p n sorted complete v verdict_order) (listed_there p n sorted complete v reduction_order) in
+    subst (λ (ps : List Proposed). Committed b ps c) same (h.committed v)
+
+visited_there : (p : Sparse) (n : Places) → AreSorted n → IsComplete p n → (e : Instance) → enabled_on p e ≡ true → Contains (visited p n) e
+visited_there p n sorted complete (at.Verdict v) on = Contains-append_left (instances_of p n verdict_order) (instances_of p n reduction_order) (at.Verdict v) (among_there p n sorted complete verdict_order (at.Verdict v) on (verdicts_ordered v))
+visited_there p n sorted complete (at.Reduction r) on = Contains-append_right (instances_of p n verdict_order) (instances_of p n reduction_order) (at.Reduction r) (among_there p n sorted complete reduction_order (at.Reduction r) on (reductions_ordered r))
+
+-- and what it notes is read by each enabled instance, if the run goes on
+pub passed_noted : (b c : Ledger) (n : Places) (m : List Part) → AreSorted n → IsComplete b.problem n → Passed b.problem (visited b.problem n) [] b m c → c.verdict ≡ None → length c.history < c.limit
+    → (e : Instance) → enabled_on c.problem e ≡ true → IsNoted c.problem m e
+passed_noted b c n m sorted complete h none room e on = by (h.tracks [] start none room e on)
+  where
+    start : Tracks b.problem [] (visited b.problem n ++ []) b
+    start none' room' x on' = inr (subst (λ (es : List Instance). Contains es x) (sym (append-nil (visited b.problem n))) (visited_there b.problem n sorted complete x on'), same_reads b.problem b.problem x refl)
+
+    by : IsNoted c.problem m e ⊎ (Contains [] e × IsFresh b.problem c.problem e) → IsNoted c.problem m e
+    by (inl x) = x
+    by (inr (x, y)) = absurd (omega (arith, x.1))
+
+-- ---- commits that applied nothing were refused, each of them
+abbrev CanCommit : Ledger → Proposed → Type 0
+CanCommit b p = IsOpen b p × Fits p.instance b.problem × CanWrite b p.instance
+
+-- an instance more is one more in the history, or a verdict
+with_more : (b : Ledger) (e : Instance) → (length b.history < length (with_instance b e).history) ⊎ ((v : Verdict) × ((with_instance b e).verdict ≡ Some v))
+with_more b (at.Reduction r) = let n : length (b.history ++ r ∷ []) ≡ length b.history + 1 = length-append b.history (r ∷ []) in inl (omega (arith, n))
+with_more b (at.Verdict v) = inr (v, refl)
+
+with_grows : (b : Ledger) (e : Instance) → length b.history ≤ length (with_instance b e).history
+with_grows b (at.Reduction r) = let n : length (b.history ++ r ∷ []) ≡ length b.history + 1 = length-append b.history (r ∷ []) in omega (arith, n)
+with_grows b (at.Verdict v) = omega arith
+
+module _ (b : Ledger) (p : Proposed) (o : Outcome) where
+  left_grows : (left_by b p o ≡ b) ⊎ (left_by b p o ≡ with_instance b p.instance) → length b.history ≤ length (left_by b p o).history
+  left_grows (inl e) = let n : length (left_by b p o).history ≡ length b.history = ap (λ (x : Ledger). length x.history) e in omega (arith, n)
+  left_grows (inr e) = let n : length (left_by b p o).history ≡ length (with_instance b p.instance).history = ap (λ (x : Ledger). length x.history) e in omega (arith, n, with_grows b p.instance)
+
+pub committed_grows : (b c : Ledger) (ps : List Proposed) → Committed b ps c → length b.history ≤ length c.history
+committed_grows b c [] h = let n : length c.history ≡ length b.history = ap (λ (x : Ledger). length x.history) h in omega (arith, n)
+committed_grows b c (p ∷ ps) (o, n, a, h) = by (left_how b p o a) (committed_grows (left_by b p o) c ps h)
+  where
+    by : (left_by b p o ≡ b) ⊎ CanCommit b p → length (left_by b p o).history ≤ length c.history → length b.history ≤ length c.history
+    by (inl e) l = let g = left_grows b p o (inl e) in omega (arith, g, l)
+    by (inr k) l = let g = left_grows b p o (inr (left_open b p o n a k.0 k.1 k.2)) in omega (arith, g, l)
+
+committed_closed : (b c : Ledger) (ps : List Proposed) (v : Verdict) → Committed b ps c → b.verdict ≡ Some v → c.verdict ≡ Some v
+committed_closed b c [] v h e = ap (λ (x : Ledger). x.verdict) h ∙ e
+committed_closed b c (p ∷ ps) v (o, n, a, h) e = by (left_how b p o a) (committed_closed (left_by b p o) c ps v h)
+  where
+    by : (left_by b p o ≡ b) ⊎ CanCommit b p → ((left_by b p o).verdict ≡ Some v → c.verdict ≡ Some v) → c.verdict ≡ Some v
+    by (inl s) rest = rest (ap (λ (x : Ledger). x.verdict) s ∙ e)
+    by (inr k) rest = absurd (none-some v (sym k.0.undecided ∙ e))
+
+pub committed_still : (b c : Ledger) (ps : List Proposed) → Committed b ps c → c.verdict ≡ None → length c.history ≡ length b.history → (c ≡ b) × ((p : Proposed) → Contains ps p → CanCommit b p → ⊥)
+committed_still b c [] h none long = (h, λ p k can. omega (arith, k.1))
+committed_still b c (p ∷ ps) (o, n, a, h) none long = by (left_how b p o a) (committed_still (left_by b p o) c ps h none)
+  where
+    -- the first is not applied
+    applied : CanCommit b p → ⊥
+    applied k = more (with_more b p.instance)
+      where
+        left : left_by b p o ≡ with_instance b p.instance
+        left = left_open b p o n a k.0 k.1 k.2
+
+        rest : length (left_by b p o).history ≤ length c.history
+        rest = committed_grows (left_by b p o) c ps h
+
+        more : (length b.history < length (with_instance b p.instance).history) ⊎ ((v : Verdict) × ((with_instance b p.instance).verdict ≡ Some v)) → ⊥
+        more (inl l) = let m : length (left_by b p o).history ≡ length (with_instance b p.instance).history = ap (λ (x : Ledger). length x.history) left in omega (arith, l, m, rest, long)
+        more (inr (v, e)) = none-some v (sym none ∙ committed_closed (left_by b p o) c ps v h (ap (λ (x : Ledger). x.verdict) left ∙ e))
+
+    stays : left_by b p o ≡ b → (c ≡ left_by b p o) × ((q : Proposed) → Contains ps q → CanCommit (left_by b p o) q → ⊥) → (c ≡ b) × ((q : Proposed) → Contains (p ∷ ps) q → CanCommit b q → ⊥)
+    stays e k = (k.0 ∙ e, each)
+      where
+        each : (q : Proposed) → Contains (p ∷ ps) q → CanCommit b q → ⊥
+        each q (zero, l, f) can = applied (subst (CanCommit b) (sym f) can)
+        each q (suc i, l, f) can = k.1 q (i, omega (arith, l), f) (subst (λ (x : Ledger). CanCommit x q) (sym e) can)
+
+    by : (left_by b p o ≡ b) ⊎ CanCommit b p → (length c.history ≡ length (left_by b p o).history → (c ≡ left_by b p o) × ((q : Proposed) → Contains ps q → CanCommit (left_by b p o) q → ⊥))
+        → (c ≡ b) × ((q : Proposed) → Contains (p ∷ ps) q → CanCommit b q → ⊥)
+    by (inl e) rest = stays e (rest (long ∙ ap (λ (x : Ledger). length x.history) (sym e)))
+    by (inr k) rest = absurd (applied k)
+
+not_enabled : (b : Bool) → (b ≡ true → ⊥) → b ≡ false
+not_enabled true h = absurd (h refl)
+not_enabled false h = refl
+
+-- a round that applied nothing leaves the book as it was, and nothing can be applied there
+pub round_stuck : (b c : Ledger) → b.verdict ≡ None → length b.history < b.limit → Committed b (round_list b) c → c.verdict ≡ None → length c.history ≡ length b.history → (c ≡ b) × Stuck b.numbers b.problem
+round_stuck b c before room h none long =
+    let k = committed_still b c (round_list b) h none long in
+    let v : ℕ = instance_count b in
+    let vs : List Proposed = listed b.problem v (all_ids b.problem) verdict_order in
+    let rs : List Proposed = listed b.problem v (all_ids b.problem) reduction_order in (
+      k.0,
+      record {
+        undecided = λ w. not_enabled _ (λ on. k.1 (proposal_of b.problem v (at.Verdict w)) (Contains-append_left vs rs _ (verdict_listed b.problem v w on))
+          (record { undecided = before; room = tt; agrees = reading_agrees b.problem (at.Verdict w) }, tt, tt));
+        reductions = λ r can. k.1 (proposal_of b.problem v (at.Reduction r)) (Contains-append_right vs rs _ (reduction_listed b.problem v r can.enabled))
+          (record { undecided = before; room = room; agrees = reading_agrees b.problem (at.Reduction r) }, can.fits, can.written);
+      },
+    )
+
+-- no verdict is enabled where none is found
+none_found : (P : Instance → Bool) (es : List Instance) (e : Instance) → filter P es ≡ [] → Contains es e → P e ≡ true → ⊥
+none_found P [] e h c on = omega (arith, c.1)
+none_found P (x ∷ es) e h c on = by (P x) refl h c (λ g k. none_found P es e g k on)
+  where
+    by : (b : Bool) → P x ≡ b → (if b then x ∷ filter P es else filter P es) ≡ [] → Contains (x ∷ es) e → (filter P es ≡ [] → Contains es e → ⊥) → ⊥
+    by true t g k rest = cc
+    by false t g (zero, l, f) rest = let d = sym t ∙ ap P f ∙ on in cc
+    by false t g (suc i, l, f) rest = rest g (i, omega (arith, l), f)
+
+pub undecided_none : (p : Sparse) → enabled_verdicts p ≡ [] → IsUndecided p
+undecided_none p h v = not_enabled _ (λ on. none_found (enabled_on p) (all_of p verdict_order) (at.Verdict v) h (among_all p verdict_order (at.Verdict v) (verdicts_ordered v) (verdicts_listed p v on)) on)

@@ -1,0 +1,107 @@
+-- What is enabled reads a part that is noted, or comes to its turn.
+use Rattle.std.proofs.Common.{◌≡◌, ◌⊎◌, inl, inr, ℕ, zero, suc, ◌<◌, true, List, [], ◌∷◌, ◌++◌, length, map, get_or, None, sym, refl, ap₂, ◌∙◌, subst, append_assoc, arith}
+use Rattle.std.specs.List.{Contains}
+use Rattle.problem_model.specs.declared.part.Part.{Part}
+use Rattle.problem_model.specs.declared.part.Read.{Read}
+use Rattle.problem_model.specs.Noted.{AreNoted}
+use Rattle.problem_model.specs.Parts.{changes_of}
+use Rattle.problem_model.specs.Reading.{read_of}
+use Rattle.problem_model.specs.Sparse.{Sparse}
+use Rattle.presolve_model.specs.declared.instance.Instance.{Instance}
+use Rattle.presolve_model.specs.Enabled.{enabled_on, reads}
+use Rattle.presolve_model.specs.Ledger.{Ledger}
+use Rattle.presolve_model.specs.Ordered.{Committed}
+use Rattle.presolve_model.proofs.Readings.{enabled_same, parts_same, reading_same}
+use Rattle.round_laws.specs.Choosing.{proposals}
+use Rattle.round_laws.specs.Passing.{Follows, IsFresh, IsNoted, Passed, Tracks}
+use Rattle.round_laws.proofs.Committing.{committed_append, fresh_reads, proposals_append, same_reads}
+
+-- ---- the first of a list, or behind it
+pub first_or_behind : {X : Type 0} (e : X) (es : List X) (x : X) → Contains (e ∷ es) x → (e ≡ x) ⊎ Contains es x
+first_or_behind e es x (zero, l, h) = inl h
+first_or_behind e es x (suc k, l, h) = inr (k, omega (arith, l), h)
+
+module _ (f : Sparse) (noted : List Part) (e : Instance) (es : List Instance) (b : Ledger) (t : Tracks f noted (e ∷ es) b) where
+  -- the first one is passed over: it is stale, or not enabled
+  pub tracks_over : (enabled_on b.problem e ≡ true → IsFresh f b.problem e → ⊥) → Tracks f noted es b
+  tracks_over h none room x on = by (t none room x on)
+    where
+      first : (e ≡ x) ⊎ Contains es x → IsFresh f b.problem x → IsNoted b.problem noted x ⊎ (Contains es x × IsFresh f b.problem x)
+      first (inl same) fresh = absurd (h (subst (λ (y : Instance). enabled_on b.problem y ≡ true) (sym same) on) (subst (λ (y : Instance). IsFresh f b.problem y) (sym same) fresh))
+      first (inr among) fresh = inr (among, fresh)
+
+      by : IsNoted b.problem noted x ⊎ (Contains (e ∷ es) x × IsFresh f b.problem x) → IsNoted b.problem noted x ⊎ (Contains es x × IsFresh f b.problem x)
+      by (inl n) = inl n
+      by (inr (among, fresh)) = first (first_or_behind e es x among) fresh
+
+  -- the first one is noted
+  pub tracks_noted : IsNoted b.problem noted e → Tracks f noted es b
+  tracks_noted h none room x on = by (t none room x on)
+    where
+      first : (e ≡ x) ⊎ Contains es x → IsFresh f b.problem x → IsNoted b.problem noted x ⊎ (Contains es x × IsFresh f b.problem x)
+      first (inl same) fresh = inl (subst (IsNoted b.problem noted) same h)
+      first (inr among) fresh = inr (among, fresh)
+
+      by : IsNoted b.problem noted x ⊎ (Contains (e ∷ es) x × IsFresh f b.problem x) → IsNoted b.problem noted x ⊎ (Contains es x × IsFresh f b.problem x)
+      by (inl n) = inl n
+      by (inr (among, fresh)) = first (first_or_behind e es x among) fresh
+
+-- ---- the problem changes, and what changes is noted
+abbrev ReadsNoted : List Part → List Part → Type 0
+ReadsNoted noted ps = (a : Part) × Contains ps a × Contains noted a
+
+behind : (a : Part) (ps noted : List Part) → ReadsNoted noted ps → ReadsNoted noted (a ∷ ps)
+behind a ps noted (x, (k, l, h), c) = (x, (suc k, omega (arith, l), h), c)
+
+parts_kept : (p q : Sparse) (n m : List Part) → AreNoted p q n m → (ps : List Part) → ReadsNoted m ps ⊎ (map (read_of p) ps ≡ map (read_of q) ps)
+parts_kept p q n m h [] = inr refl
+parts_kept p q n m h (a ∷ ps) = by (h.changed a) (parts_kept p q n m h ps)
+  where
+    by : (read_of q a ≡ read_of p a) ⊎ Contains m a → ReadsNoted m ps ⊎ (map (read_of p) ps ≡ map (read_of q) ps) → ReadsNoted m (a ∷ ps) ⊎ (map (read_of p) (a ∷ ps) ≡ map (read_of q) (a ∷ ps))
+    by (inr c) k = inl (a, (0, omega arith, refl), c)
+    by (inl e) (inl x) = inl (behind a ps m x)
+    by (inl e) (inr g) = inr (ap₂ (λ (x : Read) (xs : List Read). x ∷ xs) (sym e) g)
+
+module _ (f : Sparse) (n m : List Part) (es : List Instance) (b c : Ledger) (h : AreNoted b.problem c.problem n m) where
+  -- an instance that reads what it read
+  stays : (x : Instance) → map (read_of b.problem) (reads c.problem x) ≡ map (read_of c.problem) (reads c.problem x) → IsNoted b.problem n x ⊎ (Contains es x × IsFresh f b.problem x)
+      → IsNoted c.problem m x ⊎ (Contains es x × IsFresh f c.problem x)
+  stays x same (inl (a, r, k)) = inl (a, subst (λ (ps : List Part). Contains ps a) (parts_same c.problem b.problem x same) r, h.kept a k)
+  stays x same (inr (among, fresh)) = inr (among, same_reads f c.problem x (sym (reading_same c.problem b.problem x same) ∙ fresh_reads f b.problem x fresh))
+
+  pub tracks_changed : b.verdict ≡ None → length b.history < b.limit → Tracks f n es b → Tracks f m es c
+  tracks_changed none room t none' room' x on = by (parts_kept b.problem c.problem n m h (reads c.problem x))
+    where
+      by : ReadsNoted m (reads c.problem x) ⊎ (map (read_of b.problem) (reads c.problem x) ≡ map (read_of c.problem) (reads c.problem x)) → IsNoted c.problem m x ⊎ (Contains es x × IsFresh f c.problem x)
+      by (inl k) = inl k
+      by (inr same) = stays x same (t none room x (enabled_same c.problem b.problem x same ∙ on))
+
+-- more is noted
+pub noted_more : (p : Sparse) (n m : List Part) (e : Instance) → ((a : Part) → Contains n a → Contains m a) → IsNoted p n e → IsNoted p m e
+noted_more p n m e h (a, r, k) = (a, r, h a k)
+
+pub tracks_more : (f : Sparse) (n m : List Part) (es : List Instance) (b : Ledger) → ((a : Part) → Contains n a → Contains m a) → Tracks f n es b → Tracks f m es b
+tracks_more f n m es b h t none room x on = by (t none room x on)
+  where
+    by : IsNoted b.problem n x ⊎ (Contains es x × IsFresh f b.problem x) → IsNoted b.problem m x ⊎ (Contains es x × IsFresh f b.problem x)
+    by (inl k) = inl (noted_more b.problem n m x h k)
+    by (inr k) = inr k
+
+-- ---- one pass after another
+pub passed_on : (f : Sparse) (es fs : List Instance) (n m k : List Part) (b c d : Ledger) → Passed f es n b m c → Passed f fs m c k d → Passed f (es ++ fs) n b k d
+passed_on f es fs n m k b c d x y = record {
+  book = record { start = y.book.start ∙ x.book.start; numbers = y.book.numbers ∙ x.book.numbers; limit = y.book.limit ∙ x.book.limit };
+  committed = λ v. subst (λ ps. Committed b ps d) (sym (proposals_append f v es fs)) (committed_append b c d (proposals f v es) (proposals f v fs) (x.committed v) (y.committed v));
+  follows = y.follows;
+  tracks = λ rest t. y.tracks rest (x.tracks (fs ++ rest) (subst (λ (gs : List Instance). Tracks f n gs b) (append_assoc es fs rest) t));
+  moved = λ a. both_moved a (x.moved a) (y.moved a);
+  grows = λ a h. y.grows a (x.grows a h);
+}
+  where
+    both_moved : (a : Part) → (changes_of c.problem a ≡ changes_of b.problem a) ⊎ Contains m a → (changes_of d.problem a ≡ changes_of c.problem a) ⊎ Contains k a → (changes_of d.problem a ≡ changes_of b.problem a) ⊎ Contains k a
+    both_moved a (inl e) (inl g) = inl (g ∙ e)
+    both_moved a (inl e) (inr h) = inr h
+    both_moved a (inr h) z = inr (y.grows a h)
+
+pub passed_none : (f : Sparse) (n : List Part) (b : Ledger) → Follows f b → Passed f [] n b n b
+passed_none f n b h = record { book = record { start = refl; numbers = refl; limit = refl }; committed = λ v. refl; follows = h; tracks = λ rest t. t; moved = λ a. inl refl; grows = λ a x. x }

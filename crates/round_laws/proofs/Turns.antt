@@ -1,0 +1,164 @@
+-- An instance at its turn: what it leaves of the book, and what is noted.
+use Rattle.std.proofs.Common.{◌≡◌, ◌≢◌, ◌⊎◌, inl, inr, ℕ, ◌+◌, ◌-◌, ◌^◌, ◌<◌, ◌≤◌, Bool, true, false, List, [], ◌∷◌, ◌++◌, length, None, sym, refl, ap, ap₂, ◌∙◌, subst, arith, length-append}
+use Rattle.std.specs.List.{Contains}
+use Rattle.std.proofs.lemmas.List.Elements.{Contains-append_left}
+use Rattle.std.proofs.lemmas.Option.{none-some}
+use Rattle.problem_model.specs.declared.part.Contents.{Contents}
+use Rattle.problem_model.specs.declared.part.Part.{Part}
+use Rattle.problem_model.specs.declared.part.Read.{Read}
+use Rattle.problem_model.specs.Noted.{AreNoted}
+use Rattle.problem_model.specs.Parts.{changes_of, contents_of}
+use Rattle.problem_model.specs.Problems.{IsSparse}
+use Rattle.problem_model.specs.Raised.{risen, same_contents}
+use Rattle.problem_model.specs.Reading.{read_of}
+use Rattle.problem_model.specs.Sparse.{Sparse}
+use Rattle.edit_laws.specs.Sizes.{SameSize}
+use Rattle.edit_laws.specs.Telling.{IsCounted}
+use Rattle.edit_laws.proofs.SameContents.{is-same_contents, same_contents-is}
+use Rattle.presolve_model.specs.declared.instance.Instance.{Instance}
+use Rattle.presolve_model.specs.declared.instance.Instance.TheVariants as at
+use Rattle.presolve_model.specs.declared.instance.Reduction.{Reduction}
+use Rattle.presolve_model.specs.declared.instance.Verdict.{Verdict}
+use Rattle.presolve_model.specs.declared.outcome.Outcome.{Outcome}
+use Rattle.presolve_model.specs.declared.outcome.Outcome.TheVariants.{Closed, Full, Stale, Past, NotDecimal, Applied, NoMemory}
+use Rattle.presolve_model.specs.Changes.{changed}
+use Rattle.presolve_model.specs.Commits.{Allows, left_by, with_instance}
+use Rattle.presolve_model.specs.Enabled.{enabled_on, reads}
+use Rattle.presolve_model.specs.Ledger.{Ledger}
+use Rattle.presolve_model.specs.Ordered.{Committed}
+use Rattle.presolve_model.specs.Scans.{proposal_of}
+use Rattle.presolve_model.specs.Tables.{heads, more}
+use Rattle.presolve_model.proofs.Tabled.{counted_changed, same_size, sound_changed}
+use Rattle.round_laws.specs.Choosing.{proposals}
+use Rattle.round_laws.specs.Passing.{Follows, IsFresh, IsLaterAt, IsNoted, IsSameBook, Passed}
+use Rattle.round_laws.proofs.Committing.{passed_at, passed_over}
+use Rattle.round_laws.proofs.Tracking.{tracks_changed, tracks_more, tracks_noted, tracks_over}
+
+-- ---- a part stands, or has changed once more
+abbrev Moved : Sparse → Sparse → Part → Type 0
+Moved p q a = (read_of q a ≡ read_of p a) ⊎ (changes_of q a ≡ risen (changes_of p a))
+
+same_read : (p q : Sparse) (a : Part) → changes_of q a ≡ changes_of p a → contents_of q a ≡ contents_of p a → read_of q a ≡ read_of p a
+same_read p q a e f = ap₂ (λ (n : ℕ) (c : Contents). let r : Read = record { part = a; changes = n; contents = c } in r) e f
+
+moved : (p q : Sparse) (a : Part) → IsCounted p q a → Moved p q a
+moved p q a h = by (same_contents (contents_of q a) (contents_of p a)) refl
+  where
+    by : (b : Bool) → same_contents (contents_of q a) (contents_of p a) ≡ b → Moved p q a
+    by true e = let same = same_contents-is (contents_of q a) (contents_of p a) e in inl (same_read p q a (h.same same) same)
+    by false e = inr (h.other (λ f. let g = sym (is-same_contents (contents_of q a) (contents_of p a) f) ∙ e in cc))
+
+-- ---- the book's problem comes after f
+same_size_here : (p : Sparse) → SameSize p p
+same_size_here p = record { rows = refl; columns = refl; constant = refl }
+
+pub follows_start : (b : Ledger) → ((a : Part) → changes_of b.problem a ≤ length b.history) → b.limit < 2 ^ 64 → IsSparse b.problem → Follows b.problem b
+follows_start b counted short sparse = record { later = λ a. inl refl; counted = counted; short = short; sparse = sparse; size = same_size_here b.problem }
+
+-- from one round to the next
+pub follows_next : (f : Sparse) (b : Ledger) → Follows f b → Follows b.problem b
+follows_next f b h = record { later = λ a. inl refl; counted = h.counted; short = h.short; sparse = h.sparse; size = same_size_here b.problem }
+
+later_then : (f p q : Sparse) (a : Part) (h : ℕ) → changes_of p a ≤ h → h < 2 ^ 64 - 1 → IsLaterAt f p a → Moved p q a → IsLaterAt f q a
+later_then f p q a h few low (inl e) (inl g) = inl (g ∙ e)
+later_then f p q a h few low (inr l) (inl g) = let m : changes_of q a ≡ changes_of p a = ap (λ (r : Read). r.changes) g in inr (omega (arith, l, m))
+later_then f p q a h few low (inl e) (inr g) = let m : changes_of p a ≡ changes_of f a = ap (λ (r : Read). r.changes) e in inr (omega (arith, m, g, few, low))
+later_then f p q a h few low (inr l) (inr g) = inr (omega (arith, l, g, few, low))
+
+counted_then : (p q : Sparse) (a : Part) (h k : ℕ) → k ≡ h + 1 → changes_of p a ≤ h → Moved p q a → changes_of q a ≤ k
+counted_then p q a h k e few (inl g) = let m : changes_of q a ≡ changes_of p a = ap (λ (r : Read). r.changes) g in omega (arith, m, few, e)
+counted_then p q a h k e few (inr g) = omega (arith, g, few, e)
+
+follows_applied : (f : Sparse) (b : Ledger) (r : Reduction) → Follows f b → enabled_on b.problem (at.Reduction r) ≡ true → length b.history < b.limit → Follows f (with_instance b (at.Reduction r))
+follows_applied f b r h on room =
+    let moves : (a : Part) → Moved b.problem (changed r b.problem) a = λ a. moved b.problem (changed r b.problem) a (counted_changed b.problem r h.sparse on a) in
+    let long : length (b.history ++ r ∷ []) ≡ length b.history + 1 = length-append b.history (r ∷ []) in
+    let size : SameSize b.problem (changed r b.problem) = same_size b.problem r in
+    record {
+      later = λ a. later_then f b.problem (changed r b.problem) a (length b.history) (h.counted a) (omega (arith, room, h.short)) (h.later a) (moves a);
+      counted = λ a. counted_then b.problem (changed r b.problem) a (length b.history) (length (b.history ++ r ∷ [])) long (h.counted a) (moves a);
+      short = h.short;
+      sparse = sound_changed b.problem r h.sparse on;
+      size = record { rows = size.rows ∙ h.size.rows; columns = size.columns ∙ h.size.columns; constant = size.constant ∙ h.size.constant };
+    }
+
+-- ---- an instance at its turn
+same_book : (b : Ledger) → IsSameBook b b
+same_book b = record { start = refl; numbers = refl; limit = refl }
+
+-- it is stale, or isn't enabled
+pub met_over : (f : Sparse) (e : Instance) (n : List Part) (b : Ledger) → Follows f b → (enabled_on b.problem e ≡ true → IsFresh f b.problem e → ⊥) → Passed f (e ∷ []) n b n b
+met_over f e n b h skip = record {
+  book = same_book b;
+  committed = λ v. passed_over f b v e h.later skip;
+  follows = h;
+  tracks = λ rest t. tracks_over f n e rest b t skip;
+  moved = λ a. inl refl;
+  grows = λ a x. x;
+}
+
+-- a head of an instance is noted
+pub noted_head : (p : Sparse) (m : List Part) (e : Instance) (a : Part) → Contains (heads e) a → Contains m a → IsNoted p m e
+noted_head p m e a h c = (a, Contains-append_left (heads e) (more e _) a h, c)
+
+module _ (f : Sparse) (n m : List Part) (b : Ledger) (h : Follows f b) (kept : (a : Part) → Contains n a → Contains m a) where
+  -- the book stays
+  met_still : (e : Instance) → IsNoted b.problem m e → ((v : ℕ) → Committed b (proposals f v (e ∷ [])) b) → Passed f (e ∷ []) n b m b
+  met_still e noted k = record {
+    book = same_book b;
+    committed = k;
+    follows = h;
+    tracks = λ rest t. tracks_noted f m e rest b (tracks_more f n m (e ∷ rest) b kept t) noted;
+    moved = λ a. inl refl;
+    grows = kept;
+  }
+
+  -- a reduction is applied
+  met_applied : (r : Reduction) → enabled_on b.problem (at.Reduction r) ≡ true → b.verdict ≡ None → length b.history < b.limit → AreNoted b.problem (changed r b.problem) n m → IsNoted (changed r b.problem) m (at.Reduction r)
+      → ((v : ℕ) → Committed b (proposals f v (at.Reduction r ∷ [])) (with_instance b (at.Reduction r))) → Passed f (at.Reduction r ∷ []) n b m (with_instance b (at.Reduction r))
+  met_applied r on none room noted own k = record {
+    book = record { start = refl; numbers = refl; limit = refl };
+    committed = k;
+    follows = follows_applied f b r h on room;
+    tracks = λ rest t. tracks_noted f m (at.Reduction r) rest (with_instance b (at.Reduction r)) (tracks_changed f n m (at.Reduction r ∷ rest) b (with_instance b (at.Reduction r)) noted none room t) own;
+    moved = λ a. by a (noted.changed a);
+    grows = kept;
+  }
+    where
+      by : (a : Part) → (read_of (changed r b.problem) a ≡ read_of b.problem a) ⊎ Contains m a → (changes_of (changed r b.problem) a ≡ changes_of b.problem a) ⊎ Contains m a
+      by a (inl e) = inl (ap (λ (x : Read). x.changes) e)
+      by a (inr c) = inr c
+
+  -- a verdict is applied
+  met_verdict : (x : Verdict) → ((v : ℕ) → Committed b (proposals f v (at.Verdict x ∷ [])) (with_instance b (at.Verdict x))) → Passed f (at.Verdict x ∷ []) n b m (with_instance b (at.Verdict x))
+  met_verdict x k = record {
+    book = record { start = refl; numbers = refl; limit = refl };
+    committed = k;
+    follows = record { later = h.later; counted = h.counted; short = h.short; sparse = h.sparse; size = h.size };
+    tracks = λ rest t none room. absurd (none-some x (sym none));
+    moved = λ a. inl refl;
+    grows = kept;
+  }
+
+-- it is enabled and its parts stand: whatever the answer is
+module _ (f : Sparse) (w : ℕ) (n m : List Part) (b : Ledger) (h : Follows f b) (e : Instance) (fresh : IsFresh f b.problem e) (on : enabled_on b.problem e ≡ true) where
+  met_by : (o : Outcome) → o ≢ NoMemory → Allows b (proposal_of b.problem w e) o → AreNoted b.problem (left_by b (proposal_of b.problem w e) o).problem n m → (a : Part) → Contains (heads e) a → Contains m a
+      → Passed f (e ∷ []) n b m (left_by b (proposal_of b.problem w e) o)
+  met_by (Closed x) mem ok noted a own c = met_still f n m b h noted.kept e (noted_head b.problem m e a own c) (λ v. passed_at f b v w e (Closed x) fresh on mem ok)
+  met_by Full mem ok noted a own c = met_still f n m b h noted.kept e (noted_head b.problem m e a own c) (λ v. passed_at f b v w e Full fresh on mem ok)
+  met_by (Stale k) mem ok noted a own c = met_still f n m b h noted.kept e (noted_head b.problem m e a own c) (λ v. passed_at f b v w e (Stale k) fresh on mem ok)
+  met_by Past mem ok noted a own c = met_still f n m b h noted.kept e (noted_head b.problem m e a own c) (λ v. passed_at f b v w e Past fresh on mem ok)
+  met_by NotDecimal mem ok noted a own c = met_still f n m b h noted.kept e (noted_head b.problem m e a own c) (λ v. passed_at f b v w e NotDecimal fresh on mem ok)
+  met_by (Applied k) mem ok noted a own c = by e fresh on ok noted own
+    where
+      by : (e : Instance) → IsFresh f b.problem e → enabled_on b.problem e ≡ true → Allows b (proposal_of b.problem w e) (Applied k) → AreNoted b.problem (with_instance b e).problem n m → Contains (heads e) a
+          → Passed f (e ∷ []) n b m (with_instance b e)
+      by (at.Reduction r) fresh on ok noted own = met_applied f n m b h noted.kept r on ok.0.undecided ok.0.room noted (noted_head (changed r b.problem) m (at.Reduction r) a own c) (λ v. passed_at f b v w (at.Reduction r) (Applied k) fresh on mem ok)
+      by (at.Verdict x) fresh on ok noted own = met_verdict f n m b h noted.kept x (λ v. passed_at f b v w (at.Verdict x) (Applied k) fresh on mem ok)
+  met_by NoMemory mem ok noted a own c = absurd (mem refl)
+
+pub met : (f : Sparse) (w : ℕ) (n m : List Part) (b c : Ledger) (e : Instance) (o : Outcome) (a : Part) → Follows f b → IsFresh f b.problem e → enabled_on b.problem e ≡ true → o ≢ NoMemory → Allows b (proposal_of b.problem w e) o
+    → c ≡ left_by b (proposal_of b.problem w e) o → AreNoted b.problem c.problem n m → Contains (heads e) a → Contains m a → Passed f (e ∷ []) n b m c
+met f w n m b c e o a h fresh on mem ok left noted own there =
+    subst (λ (x : Ledger). Passed f (e ∷ []) n b m x) (sym left)
+    (met_by f w n m b h e fresh on o mem ok (subst (λ (x : Ledger). AreNoted b.problem x.problem n m) left noted) a own there)

@@ -1,0 +1,12 @@
+use Rattle.round_laws.proofs.Turns.{met, met_over}
+use Rattle.round_laws.proofs.Tracking.{passed_on}
+use Rattle.round_laws.proofs.passes.turns_pass.Goals as goal
+
+pub returns-clause-over : goal.returns-clause-over
+returns-clause-over c = met_over
+
+pub returns-clause-met : goal.returns-clause-met
+returns-clause-met c = met
+
+pub returns-clause-more : goal.returns-clause-more
+returns-clause-more c = passed_on

@@ -1,0 +1,59 @@
+-- A pass over instances in order, each looked at on the present problem when its turn comes.
+use Rattle.std.specs.Prelude.{◌≡◌, ◌⊎◌, ℕ, ◌<◌, ◌≤◌, ◌^◌, Bool, true, ◌&&◌, nat_eq, List, [], ◌∷◌, ◌++◌, length, None}
+use Rattle.std.specs.List.{Contains}
+use Rattle.problem_model.specs.declared.part.Part.{Part}
+use Rattle.problem_model.specs.Parts.{changes_of}
+use Rattle.problem_model.specs.Problems.{IsSparse}
+use Rattle.problem_model.specs.Reading.{Agrees, read_of}
+use Rattle.problem_model.specs.Sparse.{Sparse}
+use Rattle.edit_laws.specs.Sizes.{SameSize}
+use Rattle.presolve_model.specs.declared.instance.Instance.{Instance}
+use Rattle.presolve_model.specs.Enabled.{enabled_on, reading_of, reads}
+use Rattle.presolve_model.specs.Ledger.{Ledger}
+use Rattle.presolve_model.specs.Ordered.{Committed}
+use Rattle.round_laws.specs.Choosing.{proposals}
+
+-- the book was opened alike
+pub record IsSameBook (b c : Ledger) : Type 0 where
+  pub start : c.start ≡ b.start
+  pub numbers : c.numbers ≡ b.numbers
+  pub limit : c.limit ≡ b.limit
+
+-- the parts that an instance reads stand on p as they stood on f
+abbrev pub IsFresh : Sparse → Sparse → Instance → Type 0
+IsFresh f p e = Agrees p (reading_of f e)
+
+-- a part of p stands as it stood on f, or has changed more often
+abbrev pub IsLaterAt : Sparse → Sparse → Part → Type 0
+IsLaterAt f p a = (read_of p a ≡ read_of f a) ⊎ (changes_of f a < changes_of p a)
+
+-- The book's problem comes after f. No part has changed more often than reductions were applied, so that no number stands at its end.
+pub record Follows (f : Sparse) (b : Ledger) : Type 0 where
+  pub later : (a : Part) → IsLaterAt f b.problem a
+  pub counted : (a : Part) → changes_of b.problem a ≤ length b.history
+  pub short : b.limit < 2 ^ 64
+  pub sparse : IsSparse b.problem
+  pub size : SameSize f b.problem
+
+-- an instance reads a part that is noted
+abbrev pub IsNoted : Sparse → List Part → Instance → Type 0
+IsNoted p noted e = (a : Part) × Contains (reads p e) a × Contains noted a
+
+-- Where the run goes on: what is enabled reads a part that is noted, or its turn is still to come, its parts as they stood on f.
+abbrev pub Tracks : Sparse → List Part → List Instance → Ledger → Type 0
+Tracks f noted es b = b.verdict ≡ None → length b.history < b.limit → (e : Instance) → enabled_on b.problem e ≡ true → IsNoted b.problem noted e ⊎ (Contains es e × IsFresh f b.problem e)
+
+-- The book c after a pass, with the parts m noted where n were before: those of the instances that are enabled on f were committed; what is
+-- enabled is tracked, whatever comes after them; and each part that has changed is noted.
+pub record Passed (f : Sparse) (es : List Instance) (n : List Part) (b : Ledger) (m : List Part) (c : Ledger) : Type 0 where
+  pub book : IsSameBook b c
+  pub committed : (version : ℕ) → Committed b (proposals f version es) c
+  pub follows : Follows f c
+  pub tracks : (rest : List Instance) → Tracks f n (es ++ rest) b → Tracks f m rest c
+  pub moved : (a : Part) → (changes_of c.problem a ≡ changes_of b.problem a) ⊎ Contains m a
+  pub grows : (a : Part) → Contains n a → Contains m a
+
+-- the parts have changed as often as s says
+abbrev pub are_unchanged : (Part → ℕ) → Sparse → List Part → Bool
+are_unchanged s p [] = true
+are_unchanged s p (a ∷ ps) = nat_eq (changes_of p a) (s a) && are_unchanged s p ps
