@@ -1,0 +1,274 @@
+-- What the rules say at other ids, by cases: one line a rule, and what a rule reads and computes in a lemma of its own.
+use Rattle.std.proofs.Common.{◌≡◌, ◌↔◌, ℕ, true, ◌&&◌, List, [], ◌∷◌, ◌++◌, get_or, map, Option, unwrap_or, refl, sym, ap, ap₂, ◌∙◌, subst}
+use Rattle.std.specs.List.{All}
+use Rattle.std.proofs.lemmas.List.{map-append}
+use Rattle.std.proofs.lemmas.List.Elements.{All-head, All-nil, All-tail}
+use Rattle.rational.specs.Number.{Number, zero_ℚ, ◌*ℚ◌}
+use Rattle.rational.specs.Ends.{less, meet_low, meet_high}
+use Rattle.rational.specs.Lowest.{Fits}
+use Rattle.fractions.specs.EndWords.{LessFits, OverFits}
+use Rattle.lp_model.specs.declared.terms.Term.{Term}
+use Rattle.lp_model.specs.EndTests.{holds_zero, is_apart, is_in_order, is_place}
+use Rattle.lp_theory.specs.MetEnds.{lower_over, upper_over}
+use Rattle.lp_columns.specs.EmptyColumn.{resting_place}
+use Rattle.lp_columns.specs.RoundBounds.{rounded_up, rounded_down}
+use Rattle.problem_model.specs.declared.edit.Edit.{Edit}
+use Rattle.problem_model.specs.declared.edit.Edit.TheVariants.{DeleteRow, SetBounds, SetSides}
+use Rattle.problem_model.specs.declared.part.Contents.{Contents}
+use Rattle.problem_model.specs.declared.part.Contents.TheVariants as holding
+use Rattle.problem_model.specs.declared.part.Part.{Part}
+use Rattle.problem_model.specs.declared.part.Part.TheVariants.{Row, Sides, Col, Bounds}
+use Rattle.problem_model.specs.Matrices.{line_at}
+use Rattle.problem_model.specs.Parts.{contents_of}
+use Rattle.problem_model.specs.Problems.{column_at, column_entries, cost_at, first_of, row_at, row_entries, sides_at}
+use Rattle.problem_model.specs.Programs.{rank}
+use Rattle.problem_model.specs.Sparse.{Sparse}
+use Rattle.problem_laws.proofs.Entries.{column_entries-live, row_entries-live}
+use Rattle.rule_words.specs.Reading.{found_on}
+use Rattle.singleton_laws.specs.EmptyRow.{is_empty_row}
+use Rattle.singleton_laws.specs.SingletonRow.{edits_by, is_singleton_row, sole_entry}
+use Rattle.singleton_laws.specs.FixedColumn.{TermComputes, column_out, is_fixed_column, sides_less, value_of}
+use Rattle.singleton_laws.specs.RoundBounds.{is_to_be_rounded}
+use Rattle.singleton_laws.specs.EmptyColumn.{is_empty_column, place_of}
+use Rattle.singleton_laws.specs.CrossedBounds as bounds_crossed
+use Rattle.singleton_laws.specs.CrossedSides as sides_crossed
+use Rattle.singleton_laws.proofs.EmptyRow as empty_row
+use Rattle.singleton_laws.proofs.SingletonRow as singleton_row
+use Rattle.singleton_laws.proofs.FixedColumn as fixed_column
+use Rattle.singleton_laws.proofs.RoundBounds as round_bounds
+use Rattle.singleton_laws.proofs.EmptyColumn as empty_column
+use Rattle.singleton_laws.proofs.CrossedBounds as crossed_bounds
+use Rattle.singleton_laws.proofs.CrossedSides as crossed_sides
+use Rattle.presolve_model.specs.declared.instance.Instance.{Instance}
+use Rattle.presolve_model.specs.declared.instance.Instance.TheVariants as at
+use Rattle.presolve_model.specs.declared.instance.Reduction.{Reduction}
+use Rattle.presolve_model.specs.declared.instance.Reduction.TheVariants.{EmptyRow, SingletonRow, FixedColumn, RoundBounds, EmptyColumn}
+use Rattle.presolve_model.specs.declared.instance.Rule.{Rule}
+use Rattle.presolve_model.specs.declared.instance.Rule.TheVariants as rule
+use Rattle.presolve_model.specs.declared.instance.Verdict.{Verdict}
+use Rattle.presolve_model.specs.declared.instance.Verdict.TheVariants.{CrossedBounds, CrossedSides}
+use Rattle.presolve_model.specs.Enabled.{enabled_on}
+use Rattle.presolve_model.specs.Instances.{instances_from}
+use Rattle.presolve_model.specs.Tables.{Computes, edits, heads, heads_of, holds_by, holds_of, looked_at_by, more_by, more_of}
+use Rattle.written_laws.proofs.Lists.{all_both, all_one, all_two, both_by, both_then}
+use Rattle.written_laws.proofs.NewIds.{Ids, contents_at, edit_at, id_of, lines_of, new_ids, none_at, one_at, part_at, term_at, terms_at}
+use Rattle.written_laws.proofs.Standing.{AreThere, IsThere, LinesStand, one_part, two_parts}
+
+-- ---- instances at other ids
+abbrev pub reduction_at : Ids → Reduction → Reduction
+reduction_at n (EmptyRow i) = EmptyRow (n.row i)
+reduction_at n (SingletonRow i) = SingletonRow (n.row i)
+reduction_at n (FixedColumn j) = FixedColumn (n.column j)
+reduction_at n (RoundBounds j) = RoundBounds (n.column j)
+reduction_at n (EmptyColumn j) = EmptyColumn (n.column j)
+
+abbrev pub verdict_at : Ids → Verdict → Verdict
+verdict_at n (CrossedBounds j) = CrossedBounds (n.column j)
+verdict_at n (CrossedSides i) = CrossedSides (n.row i)
+
+abbrev pub instance_at : Ids → Instance → Instance
+instance_at n (at.Reduction r) = at.Reduction (reduction_at n r)
+instance_at n (at.Verdict v) = at.Verdict (verdict_at n v)
+
+-- ---- what is read
+pub reduction_heads : (n : Ids) (r : Reduction) → heads_of (reduction_at n r) ≡ map (part_at n) (heads_of r)
+reduction_heads n (EmptyRow i) = refl
+reduction_heads n (SingletonRow i) = refl
+reduction_heads n (FixedColumn j) = refl
+reduction_heads n (RoundBounds j) = refl
+reduction_heads n (EmptyColumn j) = refl
+
+pub verdict_heads : (n : Ids) (v : Verdict) → looked_at_by (verdict_at n v) ≡ map (part_at n) (looked_at_by v)
+verdict_heads n (CrossedBounds j) = refl
+verdict_heads n (CrossedSides i) = refl
+
+pub reduction_more : (n : Ids) (r : Reduction) (cs : List Contents) → more_of (reduction_at n r) (map (contents_at n) cs) ≡ map (part_at n) (more_of r cs)
+reduction_more n (EmptyRow i) cs = refl
+reduction_more n (SingletonRow i) cs = refl
+reduction_more n (FixedColumn j) cs = refl
+reduction_more n (RoundBounds j) cs = refl
+reduction_more n (EmptyColumn j) cs = refl
+
+pub verdict_more : (n : Ids) (v : Verdict) (cs : List Contents) → more_by (verdict_at n v) (map (contents_at n) cs) ≡ map (part_at n) (more_by v cs)
+verdict_more n (CrossedBounds j) cs = refl
+verdict_more n (CrossedSides i) cs = refl
+
+-- what the heads name is live
+pub reduction_names : (p : Sparse) (r : Reduction) → All (IsThere p) (more_of r (map (contents_of p) (heads_of r)))
+reduction_names p (EmptyRow i) = All-nil (IsThere p)
+reduction_names p (SingletonRow i) = All-nil (IsThere p)
+reduction_names p (FixedColumn j) = All-nil (IsThere p)
+reduction_names p (RoundBounds j) = All-nil (IsThere p)
+reduction_names p (EmptyColumn j) = All-nil (IsThere p)
+
+pub verdict_names : (p : Sparse) (v : Verdict) → All (IsThere p) (more_by v (map (contents_of p) (looked_at_by v)))
+verdict_names p (CrossedBounds j) = All-nil (IsThere p)
+verdict_names p (CrossedSides i) = All-nil (IsThere p)
+
+-- ---- the conditions look at no id
+empty_row_alike : (n : Ids) (a b : Contents) → is_empty_row (contents_at n a) (contents_at n b) ≡ is_empty_row a b
+empty_row_alike n (holding.Entries ts) (holding.Sides l u) = ap (λ y. y && holds_zero l u) (none_at n.column ts)
+empty_row_alike n a b = refl
+
+singleton_row_alike : (n : Ids) (a b : Contents) → is_singleton_row (contents_at n a) (contents_at n b) ≡ is_singleton_row a b
+singleton_row_alike n (holding.Entries ts) (holding.Sides l u) = ap (λ y. y && is_in_order l u) (one_at n.column ts)
+singleton_row_alike n a b = refl
+
+fixed_column_alike : (n : Ids) (a b : Contents) → is_fixed_column (contents_at n a) (contents_at n b) ≡ is_fixed_column a b
+fixed_column_alike n (holding.Column ts c) (holding.Bounds l u w) = refl
+fixed_column_alike n a b = refl
+
+round_bounds_alike : (n : Ids) (a : Contents) → is_to_be_rounded (contents_at n a) ≡ is_to_be_rounded a
+round_bounds_alike n (holding.Bounds l u w) = refl
+round_bounds_alike n a = refl
+
+empty_column_alike : (n : Ids) (a b : Contents) → is_empty_column (contents_at n a) (contents_at n b) ≡ is_empty_column a b
+empty_column_alike n (holding.Column ts c) (holding.Bounds l u w) = ap (λ y. y && is_apart l u && is_place (resting_place c l u) w) (none_at n.row ts)
+empty_column_alike n a b = refl
+
+crossed_bounds_alike : (n : Ids) (a : Contents) → bounds_crossed.are_crossed (contents_at n a) ≡ bounds_crossed.are_crossed a
+crossed_bounds_alike n (holding.Bounds l u w) = refl
+crossed_bounds_alike n a = refl
+
+crossed_sides_alike : (n : Ids) (a : Contents) → sides_crossed.are_crossed (contents_at n a) ≡ sides_crossed.are_crossed a
+crossed_sides_alike n (holding.Sides l u) = refl
+crossed_sides_alike n a = refl
+
+pub reduction_holds : (n : Ids) (p : Sparse) (r : Reduction)
+    → holds_of (reduction_at n r) (map (contents_at n) (found_on (heads_of r) (more_of r) p)) ≡ holds_of r (found_on (heads_of r) (more_of r) p)
+reduction_holds n p (EmptyRow i) = empty_row_alike n (contents_of p (Row i)) (contents_of p (Sides i))
+reduction_holds n p (SingletonRow i) = singleton_row_alike n (contents_of p (Row i)) (contents_of p (Sides i))
+reduction_holds n p (FixedColumn j) = fixed_column_alike n (contents_of p (Col j)) (contents_of p (Bounds j))
+reduction_holds n p (RoundBounds j) = round_bounds_alike n (contents_of p (Bounds j))
+reduction_holds n p (EmptyColumn j) = empty_column_alike n (contents_of p (Col j)) (contents_of p (Bounds j))
+
+pub verdict_holds : (n : Ids) (p : Sparse) (v : Verdict)
+    → holds_by (verdict_at n v) (map (contents_at n) (found_on (looked_at_by v) (more_by v) p)) ≡ holds_by v (found_on (looked_at_by v) (more_by v) p)
+verdict_holds n p (CrossedBounds j) = crossed_bounds_alike n (contents_of p (Bounds j))
+verdict_holds n p (CrossedSides i) = crossed_sides_alike n (contents_of p (Sides i))
+
+-- ---- nothing is enabled at what is not live
+pub reduction_there : (p : Sparse) (r : Reduction) → enabled_on p (at.Reduction r) ≡ true → All (IsThere p) (heads_of r)
+reduction_there p (EmptyRow i) e = let on = (empty_row.said p i e).live in all_two (IsThere p) (Row i) (Sides i) on on
+reduction_there p (SingletonRow i) e = let on = (singleton_row.said p i e).live in all_two (IsThere p) (Row i) (Sides i) on on
+reduction_there p (FixedColumn j) e = let on = (fixed_column.said p j e).live in all_two (IsThere p) (Col j) (Bounds j) on on
+reduction_there p (RoundBounds j) e = all_one (IsThere p) (Bounds j) (round_bounds.said p j e).live
+reduction_there p (EmptyColumn j) e = let on = (empty_column.said p j e).live in all_two (IsThere p) (Col j) (Bounds j) on on
+
+pub verdict_there : (p : Sparse) (v : Verdict) → enabled_on p (at.Verdict v) ≡ true → All (IsThere p) (looked_at_by v)
+verdict_there p (CrossedBounds j) e = all_one (IsThere p) (Bounds j) (crossed_bounds.said p j e).live
+verdict_there p (CrossedSides i) e = all_one (IsThere p) (Sides i) (crossed_sides.said p i e).live
+
+-- ---- ids that come back
+abbrev pub ComesBack : Ids → Ids → Part → Type 0
+ComesBack n m a = id_of (part_at n (part_at m a)) ≡ id_of a
+
+pub reduction_back : (n m : Ids) (r : Reduction) → All (ComesBack n m) (heads_of r) → reduction_at n (reduction_at m r) ≡ r
+reduction_back n m (EmptyRow i) h = ap (λ k. EmptyRow k) (All-head (ComesBack n m) (Row i) (Sides i ∷ []) h)
+reduction_back n m (SingletonRow i) h = ap (λ k. SingletonRow k) (All-head (ComesBack n m) (Row i) (Sides i ∷ []) h)
+reduction_back n m (FixedColumn j) h = ap (λ k. FixedColumn k) (All-head (ComesBack n m) (Col j) (Bounds j ∷ []) h)
+reduction_back n m (RoundBounds j) h = ap (λ k. RoundBounds k) (All-head (ComesBack n m) (Bounds j) [] h)
+reduction_back n m (EmptyColumn j) h = ap (λ k. EmptyColumn k) (All-head (ComesBack n m) (Col j) (Bounds j ∷ []) h)
+
+pub verdict_back : (n m : Ids) (v : Verdict) → All (ComesBack n m) (looked_at_by v) → verdict_at n (verdict_at m v) ≡ v
+verdict_back n m (CrossedBounds j) h = ap (λ k. CrossedBounds k) (All-head (ComesBack n m) (Bounds j) [] h)
+verdict_back n m (CrossedSides i) h = ap (λ k. CrossedSides k) (All-head (ComesBack n m) (Sides i) [] h)
+
+-- ---- edits, and the numbers that are computed
+module _ (n : Ids) (p q : Sparse) (s : LinesStand n p q) where
+  module _ (i : ℕ) (o : singleton_row.Said (row_at p i).live (row_entries p i)) where
+    abbrev sole : Term
+    sole = sole_entry p i
+
+    sole_live : (column_at p sole.id).live ≡ true
+    sole_live = All-head (λ (t : Term). (column_at p t.id).live ≡ true) sole [] (subst (All (λ (t : Term). (column_at p t.id).live ≡ true)) o.one (row_entries-live p i))
+
+    sole_same : sole_entry q (n.row i) ≡ term_at n.column sole
+    sole_same = ap first_of ((s.row i o.live).entries ∙ ap (terms_at n.column) o.one)
+
+    singleton_row_edits : edits_by q (n.row i) (sole_entry q (n.row i)) ≡ map (edit_at n) (edits_by p i sole)
+    singleton_row_edits = let r = s.row i o.live in let c = s.column sole.id sole_live in
+        ap (edits_by q (n.row i)) sole_same
+        ∙ (λ t. SetBounds (n.column sole.id) (meet_low (c.lower t) (lower_over sole.value (r.lower t) (r.upper t))) (meet_high (c.upper t) (upper_over sole.value (r.lower t) (r.upper t)))
+        ∷ DeleteRow (n.row i) ∷ [])
+
+    singleton_row_computes : (OverFits (sides_at p i).lower sole.value × OverFits (sides_at p i).upper sole.value)
+        ↔ (OverFits (sides_at q (n.row i)).lower (sole_entry q (n.row i)).value × OverFits (sides_at q (n.row i)).upper (sole_entry q (n.row i)).value)
+    singleton_row_computes = let r = s.row i o.live in
+        both_by (λ (x : Option Number × Option Number × Number). OverFits x.0 x.2 × OverFits x.1 x.2) ((sides_at p i).lower, (sides_at p i).upper, sole.value)
+        ((sides_at q (n.row i)).lower, (sides_at q (n.row i)).upper, (sole_entry q (n.row i)).value) (sym (λ t. (r.lower t, r.upper t, (sole_same t).value)))
+
+  sides_less_same : (w : Number) (ts : List Term) → All (λ t. (row_at p t.id).live ≡ true) ts → map (sides_less q w) (terms_at n.row ts) ≡ map (edit_at n) (map (sides_less p w) ts)
+  sides_less_same w [] h = refl
+  sides_less_same w (t ∷ ts) h = let r = s.row t.id (All-head (λ t. (row_at p t.id).live ≡ true) t ts h) in
+      ap₂ ◌∷◌ (λ x. SetSides (n.row t.id) (less (r.lower x) (t.value *ℚ w)) (less (r.upper x) (t.value *ℚ w))) (sides_less_same w ts (All-tail (λ t. (row_at p t.id).live ≡ true) t ts h))
+
+  term_computes : (w : Number) (t : Term) → (row_at p t.id).live ≡ true → TermComputes p w t ↔ TermComputes q w (term_at n.row t)
+  term_computes w t h = let r = s.row t.id h in let fits = λ (o : Option Number). LessFits o (t.value *ℚ w) in (
+    λ c. record { product = c.product; lower = subst fits (sym r.lower) c.lower; upper = subst fits (sym r.upper) c.upper },
+    λ c. record { product = c.product; lower = subst fits r.lower c.lower; upper = subst fits r.upper c.upper },
+  )
+
+  module _ (j : ℕ) (on : (column_at p j).live ≡ true) where
+    abbrev w : Number
+    w = value_of p j
+
+    value_same : value_of q (n.column j) ≡ w
+    value_same = ap (λ (o : Option Number). unwrap_or o zero_ℚ) (s.column j on).lower
+
+    fixed_column_edits : map (sides_less q (value_of q (n.column j))) (column_entries q (n.column j)) ++ column_out (n.column j) (cost_at q (n.column j) *ℚ value_of q (n.column j))
+        ≡ map (edit_at n) (map (sides_less p w) (column_entries p j) ++ column_out j (cost_at p j *ℚ w))
+    fixed_column_edits = let c = s.column j on in
+        (λ t. map (sides_less q (value_same t)) (c.entries t) ++ column_out (n.column j) (c.cost t *ℚ value_same t))
+        ∙ ap (λ (es : List Edit). es ++ column_out (n.column j) (cost_at p j *ℚ w)) (sides_less_same w (column_entries p j) (column_entries-live p j))
+        ∙ sym (map-append (edit_at n) (map (sides_less p w) (column_entries p j)) (column_out j (cost_at p j *ℚ w)))
+
+    fixed_column_computes : (All (TermComputes p w) (column_entries p j) × Fits (cost_at p j *ℚ w))
+        ↔ (All (TermComputes q (value_of q (n.column j))) (column_entries q (n.column j)) × Fits (cost_at q (n.column j) *ℚ value_of q (n.column j)))
+    fixed_column_computes = let c = s.column j on in
+        let terms = all_both (TermComputes p w) (TermComputes q w) (term_at n.row) (column_entries p j) (λ k d l. term_computes w (get_or (column_entries p j) k d) (column_entries-live p j k d l)) in
+        both_then (λ h. (terms.0 h.0, h.1), λ h. (terms.1 h.0, h.1))
+        (both_by (λ (x : List Term × Number × Number). All (TermComputes q x.2) x.0 × Fits (x.1 *ℚ x.2)) (terms_at n.row (column_entries p j), cost_at p j, w)
+        (column_entries q (n.column j), cost_at q (n.column j), value_of q (n.column j)) (sym (λ t. (c.entries t, c.cost t, value_same t))))
+
+    place_same : place_of q (n.column j) ≡ place_of p j
+    place_same = let c = s.column j on in λ t. resting_place (c.cost t) (c.lower t) (c.upper t)
+
+  pub edits_stand : (r : Reduction) → enabled_on p (at.Reduction r) ≡ true → edits (reduction_at n r) q ≡ map (edit_at n) (edits r p)
+  unfolding edits
+  edits_stand (EmptyRow i) e = refl
+  edits_stand (SingletonRow i) e = singleton_row_edits i (singleton_row.said p i e)
+  edits_stand (FixedColumn j) e = fixed_column_edits j (fixed_column.said p j e).live
+  edits_stand (RoundBounds j) e = let c = s.column j (round_bounds.said p j e).live in λ t. SetBounds (n.column j) (rounded_up (c.lower t)) (rounded_down (c.upper t)) ∷ []
+  edits_stand (EmptyColumn j) e = ap (λ (o : Option Number). SetBounds (n.column j) o o ∷ []) (place_same j (empty_column.said p j e).live)
+
+  pub computes_stand : (r : Reduction) → enabled_on p (at.Reduction r) ≡ true → Computes r p ↔ Computes (reduction_at n r) q
+  unfolding Computes
+  computes_stand (EmptyRow i) e = (λ h. h, λ h. h)
+  computes_stand (SingletonRow i) e = singleton_row_computes i (singleton_row.said p i e)
+  computes_stand (FixedColumn j) e = fixed_column_computes j (fixed_column.said p j e).live
+  computes_stand (RoundBounds j) e = (λ h. h, λ h. h)
+  computes_stand (EmptyColumn j) e = (λ h. h, λ h. h)
+
+-- ---- the instances at a line: as many at its new id, each there exactly where the line is live
+pub instances_stand : (p q : Sparse) → LinesStand (new_ids p) p q → (kind : Rule) (k : ℕ) → (line_at (lines_of p kind) k).live ≡ true
+    → instances_from q kind (rank (lines_of p kind) k) ≡ map (instance_at (new_ids p)) (instances_from p kind k)
+instances_stand p q s rule.CrossedBounds k on = refl
+instances_stand p q s rule.CrossedSides k on = refl
+instances_stand p q s rule.EmptyRow k on = refl
+instances_stand p q s rule.SingletonRow k on = refl
+instances_stand p q s rule.FixedColumn k on = refl
+instances_stand p q s rule.RoundBounds k on = refl
+instances_stand p q s rule.EmptyColumn k on = refl
+
+abbrev pub IsAtLine : Sparse → Rule → ℕ → Instance → Type 0
+IsAtLine p kind k e = ((line_at (lines_of p kind) k).live ≡ true) ↔ AreThere p (heads e)
+
+pub instances_at_line : (p : Sparse) (kind : Rule) (k : ℕ) → All (IsAtLine p kind k) (instances_from p kind k)
+instances_at_line p rule.CrossedBounds k = all_one (IsAtLine p rule.CrossedBounds k) (at.Verdict (CrossedBounds k)) (one_part p (Bounds k))
+instances_at_line p rule.CrossedSides k = all_one (IsAtLine p rule.CrossedSides k) (at.Verdict (CrossedSides k)) (one_part p (Sides k))
+instances_at_line p rule.EmptyRow k = all_one (IsAtLine p rule.EmptyRow k) (at.Reduction (EmptyRow k)) (two_parts p (Row k) (Sides k) (λ h. h))
+instances_at_line p rule.SingletonRow k = all_one (IsAtLine p rule.SingletonRow k) (at.Reduction (SingletonRow k)) (two_parts p (Row k) (Sides k) (λ h. h))
+instances_at_line p rule.FixedColumn k = all_one (IsAtLine p rule.FixedColumn k) (at.Reduction (FixedColumn k)) (two_parts p (Col k) (Bounds k) (λ h. h))
+instances_at_line p rule.RoundBounds k = all_one (IsAtLine p rule.RoundBounds k) (at.Reduction (RoundBounds k)) (one_part p (Bounds k))
+instances_at_line p rule.EmptyColumn k = all_one (IsAtLine p rule.EmptyColumn k) (at.Reduction (EmptyColumn k)) (two_parts p (Col k) (Bounds k) (λ h. h))

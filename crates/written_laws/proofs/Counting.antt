@@ -1,0 +1,127 @@
+-- As many instances are enabled without what was deleted: one induction over lines, and one over rules.
+use Rattle.std.proofs.Common.{◌≡◌, ℕ, suc, ◌+◌, Bool, true, false, cond, List, [], ◌∷◌, ◌++◌, get_or, length, map, refl, sym, ap, ap₂, ◌∙◌, arith}
+use Rattle.std.specs.Prelude.{if◌then◌else◌}
+use Rattle.std.specs.List.{All, filter, flat_map, range_with_len}
+use Rattle.std.proofs.lemmas.List.{length-append}
+use Rattle.std.proofs.lemmas.List.Elements.{All-head, All-tail, filter-append}
+use Rattle.problem_model.specs.declared.line.Line.{Line}
+use Rattle.problem_model.specs.Matrices.{line_at}
+use Rattle.problem_model.specs.Programs.{live_ids, live_ids_from, rank}
+use Rattle.problem_model.specs.Sparse.{Sparse}
+use Rattle.problem_laws.proofs.Terms.{not_both}
+use Rattle.program_laws.proofs.Ranks.{id_if, rank-dead, rank-live, rank-zero}
+use Rattle.presolve_model.specs.declared.instance.Instance.{Instance}
+use Rattle.presolve_model.specs.declared.instance.Rule.{Rule}
+use Rattle.presolve_model.specs.Enabled.{enabled_on}
+use Rattle.presolve_model.specs.Instances.{id_count, instances_from, is_of_rows}
+use Rattle.presolve_model.specs.Order.{reduction_order}
+use Rattle.presolve_model.specs.Scans.{all_ids, all_of, instances_at}
+use Rattle.presolve_model.specs.Stuck.{skipped_on}
+use Rattle.written_laws.proofs.ByCases.{instance_at, instances_at_line, instances_stand}
+use Rattle.written_laws.proofs.NewIds.{lines_of, new_ids}
+use Rattle.written_laws.proofs.Standing.{IsLeft}
+use Rattle.written_laws.proofs.Tabled.{enabled_stands, there_where_enabled}
+
+-- how many pass a test
+abbrev pub passing : (Instance → Bool) → List Instance → ℕ
+passing t es = length (filter t es)
+
+passing_more : (t : Instance → Bool) (es fs : List Instance) → passing t (es ++ fs) ≡ passing t es + passing t fs
+passing_more t es fs = ap length (filter-append t es fs) ∙ length-append (filter t es) (filter t fs)
+
+passing_alike : (t u : Instance → Bool) (f : Instance → Instance) (es : List Instance) → All (λ e. u (f e) ≡ t e) es → passing u (map f es) ≡ passing t es
+passing_alike t u f [] h = refl
+passing_alike t u f (e ∷ es) h = by (u (f e)) (t e) (All-head (λ e. u (f e) ≡ t e) e es h) (passing_alike t u f es (All-tail (λ e. u (f e) ≡ t e) e es h))
+  where
+    by : (b c : Bool) → b ≡ c → passing u (map f es) ≡ passing t es → length (cond b (f e ∷ filter u (map f es)) (filter u (map f es))) ≡ length (cond c (e ∷ filter t es) (filter t es))
+    by true true g ih = ap suc ih
+    by false false g ih = ih
+    by true false g ih = absurd (not_both (sym g) refl)
+    by false true g ih = absurd (not_both g refl)
+
+passing_none : (t : Instance → Bool) (es : List Instance) → All (λ e. t e ≡ false) es → passing t es ≡ 0
+passing_none t [] h = refl
+passing_none t (e ∷ es) h = rw (All-head (λ e. t e ≡ false) e es h) (passing_none t es (All-tail (λ e. t e ≡ false) e es h))
+
+-- ---- over lines
+-- line i stands for the items at k + i of one list, and if it is live for those at its rank, from b on, of the other
+record AreAlike (f g : ℕ → ℕ) (k b : ℕ) (ls : List Line) : Type 0 where
+  live : (i j a : ℕ) → (line_at ls i).live ≡ true → j ≡ k + i → a ≡ b + rank ls i → g a ≡ f j
+  dead : (i j : ℕ) → (line_at ls i).live ≡ false → j ≡ k + i → f j ≡ 0
+
+after_live : (f g : ℕ → ℕ) (k b : ℕ) (y : Line) (ls : List Line) → y.live ≡ true → AreAlike f g k b (y ∷ ls) → AreAlike f g (k + 1) (b + 1) ls
+after_live f g k b y ls on h = record {
+  live = λ i j a l e d. h.live (suc i) j a l (omega (arith, e)) (let r = rank-live y ls i on in omega (arith, d, r));
+  dead = λ i j l e. h.dead (suc i) j l (omega (arith, e));
+}
+
+after_dead : (f g : ℕ → ℕ) (k b : ℕ) (y : Line) (ls : List Line) → y.live ≡ false → AreAlike f g k b (y ∷ ls) → AreAlike f g (k + 1) b ls
+after_dead f g k b y ls off h = record {
+  live = λ i j a l e d. h.live (suc i) j a l (omega (arith, e)) (let r = rank-dead y ls i off in omega (arith, d, r));
+  dead = λ i j l e. h.dead (suc i) j l (omega (arith, e));
+}
+
+module _ (t u : Instance → Bool) (f g : ℕ → List Instance) where
+  abbrev Alike : ℕ → ℕ → List Line → Type 0
+  Alike k b ls = AreAlike (λ i. passing t (f i)) (λ a. passing u (g a)) k b ls
+
+  over_lines : (k b : ℕ) (ls : List Line) → Alike k b ls → passing u (flat_map g (range_with_len b (length (live_ids_from k ls)))) ≡ passing t (flat_map f (range_with_len k (length ls)))
+  over_lines k b [] h = refl
+  over_lines k b (y ∷ ls) h = by y.live refl (λ c. over_lines (k + 1) c ls) ∙ sym (passing_more t (f k) (flat_map f (range_with_len (k + 1) (length ls))))
+    where
+      by : (on : Bool) → y.live ≡ on
+          → ((c : ℕ) → Alike (k + 1) c ls → passing u (flat_map g (range_with_len c (length (live_ids_from (k + 1) ls)))) ≡ passing t (flat_map f (range_with_len (k + 1) (length ls))))
+          → passing u (flat_map g (range_with_len b (length (id_if on k (live_ids_from (k + 1) ls))))) ≡ passing t (f k) + passing t (flat_map f (range_with_len (k + 1) (length ls)))
+      by true e ih = passing_more u (g b) (flat_map g (range_with_len (b + 1) (length (live_ids_from (k + 1) ls))))
+          ∙ ap₂ ◌+◌ (let r = rank-zero (y ∷ ls) in h.live 0 k b e (omega arith) (omega (arith, r))) (ih (b + 1) (after_live (λ i. passing t (f i)) (λ a. passing u (g a)) k b y ls e h))
+      by false e ih = let none = h.dead 0 k e (omega arith) in let rest = ih b (after_dead (λ i. passing t (f i)) (λ a. passing u (g a)) k b y ls e h) in omega (arith, none, rest)
+
+-- ---- over rules
+module _ (p q : Sparse) (l : IsLeft p q) where
+  at_live : (kind : Rule) (i : ℕ) → (line_at (lines_of p kind) i).live ≡ true → passing (enabled_on q) (instances_from q kind (rank (lines_of p kind) i)) ≡ passing (enabled_on p) (instances_from p kind i)
+  at_live kind i h = ap (passing (enabled_on q)) (instances_stand p q l.stands kind i h)
+      ∙ passing_alike (enabled_on p) (enabled_on q) (instance_at (new_ids p)) (instances_from p kind i)
+      (λ k d m. let e = get_or (instances_from p kind i) k d in enabled_stands (new_ids p) p q l.stands e ((instances_at_line p kind i k d m).0 h))
+
+  not_enabled : (e : Instance) → (enabled_on p e ≡ true → ⊥) → enabled_on p e ≡ false
+  not_enabled e none = by (enabled_on p e) refl
+    where
+      by : (b : Bool) → enabled_on p e ≡ b → b ≡ false
+      by true on = absurd (none on)
+      by false on = refl
+
+  at_dead : (kind : Rule) (i : ℕ) → (line_at (lines_of p kind) i).live ≡ false → passing (enabled_on p) (instances_from p kind i) ≡ 0
+  at_dead kind i h = passing_none (enabled_on p) (instances_from p kind i)
+      (λ k d m. let e = get_or (instances_from p kind i) k d in not_enabled e (λ on. not_both ((instances_at_line p kind i k d m).1 (there_where_enabled p e on)) h))
+
+  ids_left : (kind : Rule) → id_count q kind ≡ length (live_ids (lines_of p kind))
+  ids_left kind = by (is_of_rows kind)
+    where
+      by : (b : Bool) → (if b then length q.matrix.rows else length q.matrix.columns) ≡ length (live_ids (if b then p.matrix.rows else p.matrix.columns))
+      by true = l.rows
+      by false = l.columns
+
+  ids_all : (kind : Rule) → length (lines_of p kind) ≡ id_count p kind
+  ids_all kind = by (is_of_rows kind)
+    where
+      by : (b : Bool) → length (if b then p.matrix.rows else p.matrix.columns) ≡ (if b then length p.matrix.rows else length p.matrix.columns)
+      by true = refl
+      by false = refl
+
+  of_rule : (kind : Rule) → passing (enabled_on q) (instances_at q kind (all_ids q kind)) ≡ passing (enabled_on p) (instances_at p kind (all_ids p kind))
+  of_rule kind =
+      ap (λ (n : ℕ). passing (enabled_on q) (instances_at q kind (range_with_len 0 n))) (ids_left kind)
+      ∙ over_lines (enabled_on p) (enabled_on q) (instances_from p kind) (instances_from q kind) 0 0 (lines_of p kind) (record {
+        live = λ i j a h e d. ap (λ x. passing (enabled_on q) (instances_from q kind x)) (omega (arith, d)) ∙ at_live kind i h ∙ ap (λ x. passing (enabled_on p) (instances_from p kind x)) (omega (arith, e));
+        dead = λ i j h e. ap (λ x. passing (enabled_on p) (instances_from p kind x)) (omega (arith, e)) ∙ at_dead kind i h;
+      })
+      ∙ ap (λ (n : ℕ). passing (enabled_on p) (instances_at p kind (range_with_len 0 n))) (ids_all kind)
+
+  of_rules : (rules : List Rule) → passing (enabled_on q) (all_of q rules) ≡ passing (enabled_on p) (all_of p rules)
+  of_rules [] = refl
+  of_rules (kind ∷ rules) = passing_more (enabled_on q) (instances_at q kind (all_ids q kind)) (all_of q rules)
+      ∙ ap₂ ◌+◌ (of_rule kind) (of_rules rules)
+      ∙ sym (passing_more (enabled_on p) (instances_at p kind (all_ids p kind)) (all_of p rules))
+
+  pub skipped_same : skipped_on q ≡ skipped_on p
+  skipped_same = of_rules reduction_order

@@ -1,0 +1,12 @@
+pub mod AllLive
+pub mod ComingBack
+pub mod SameTerms
+pub mod NewIds
+pub mod Standing
+pub mod WrittenStand
+pub mod Lists
+pub mod EditsAtIds
+pub mod ByCases
+pub mod Tabled
+pub mod Counting
+pub mod SameLeft

@@ -1,0 +1,66 @@
+-- What is left to be done is the same without what was deleted.
+use Rattle.std.proofs.Common.{◌≡◌, ◌↔◌, Bool, true, false, refl, sym, ap, ◌∙◌, subst}
+use Rattle.fractions.specs.declared.Numbers.{Numbers}
+use Rattle.lp_model.specs.ProgramData.{ProgramData}
+use Rattle.problem_model.specs.Edits.{offset_set}
+use Rattle.problem_model.specs.Problems.{IsSparse}
+use Rattle.problem_model.specs.Programs.{IsProblemOf, written_program}
+use Rattle.problem_model.specs.Sparse.{Sparse}
+use Rattle.problem_laws.proofs.Terms.{not_both}
+use Rattle.edit_laws.specs.Sizes.{SameSize}
+use Rattle.presolve_model.specs.declared.instance.Instance.{Instance}
+use Rattle.presolve_model.specs.declared.instance.Instance.TheVariants as at
+use Rattle.presolve_model.specs.declared.instance.Reduction.{Reduction}
+use Rattle.presolve_model.specs.Enabled.{enabled_on}
+use Rattle.presolve_model.specs.Replay.{CanApply}
+use Rattle.presolve_model.specs.Stuck.{IsUndecided, Stuck}
+use Rattle.presolve_model.specs.Tables.{heads, heads_of}
+use Rattle.written_laws.specs.Left.{HaveSameLeft}
+use Rattle.written_laws.proofs.ByCases.{instance_at, reduction_at, verdict_at}
+use Rattle.written_laws.proofs.Counting.{skipped_same}
+use Rattle.written_laws.proofs.NewIds.{new_ids, old_ids}
+use Rattle.written_laws.proofs.Standing.{AreThere, IsLeft}
+use Rattle.written_laws.proofs.Tabled.{applies_stand, enabled_stands, heads_back, instances_back, reductions_back, there_where_enabled}
+use Rattle.written_laws.proofs.WrittenStand.{still_of, written_left}
+
+no_true : (b : Bool) → (b ≡ true → ⊥) → b ≡ false
+no_true true h = absurd (h refl)
+no_true false h = refl
+
+module _ (p q : Sparse) (l : IsLeft p q) where
+  enabled_there : (e : Instance) → enabled_on p e ≡ true → enabled_on q (instance_at (new_ids p) e) ≡ true
+  enabled_there e on = enabled_stands (new_ids p) p q l.stands e (there_where_enabled p e on) ∙ on
+
+  enabled_back : (e : Instance) → enabled_on q e ≡ true → enabled_on p (instance_at (old_ids p) e) ≡ true
+  enabled_back e on =
+      let h : AreThere q (heads e) = there_where_enabled q e on in
+      sym (enabled_stands (new_ids p) p q l.stands (instance_at (old_ids p) e) (heads_back p q l e h)) ∙ ap (enabled_on q) (instances_back p q l e h) ∙ on
+
+  undecided_same : IsUndecided p ↔ IsUndecided q
+  undecided_same = (
+    λ u v. no_true (enabled_on q (at.Verdict v)) (λ on. not_both (enabled_back (at.Verdict v) on) (u (verdict_at (old_ids p) v))),
+    λ u v. no_true (enabled_on p (at.Verdict v)) (λ on. not_both (enabled_there (at.Verdict v) on) (u (verdict_at (new_ids p) v))),
+  )
+
+  module _ (numbers : Numbers) where
+    applies_there : (r : Reduction) → CanApply numbers p r → CanApply numbers q (reduction_at (new_ids p) r)
+    applies_there r c = (applies_stand (new_ids p) p q l.stands numbers r l.offset (there_where_enabled p (at.Reduction r) c.enabled)).0 c
+
+    applies_back : (r : Reduction) → CanApply numbers q r → CanApply numbers p (reduction_at (old_ids p) r)
+    applies_back r c =
+        let h : AreThere q (heads_of r) = there_where_enabled q (at.Reduction r) c.enabled in
+        (applies_stand (new_ids p) p q l.stands numbers (reduction_at (old_ids p) r) l.offset (heads_back p q l (at.Reduction r) h)).1
+        (subst (CanApply numbers q) (sym (reductions_back p q l r h)) c)
+
+    stuck_same : Stuck numbers p ↔ Stuck numbers q
+    stuck_same = (
+      λ s. record { undecided = undecided_same.0 s.undecided; reductions = λ r c. s.reductions (reduction_at (old_ids p) r) (applies_back r c) },
+      λ s. record { undecided = undecided_same.1 s.undecided; reductions = λ r c. s.reductions (reduction_at (new_ids p) r) (applies_there r c) },
+    )
+
+    pub same_left : HaveSameLeft numbers p q
+    same_left = record { undecided = undecided_same; stuck = stuck_same; skipped = skipped_same p q l }
+
+pub written_same_left : (numbers : Numbers) (program : ProgramData) (start p q : Sparse) → IsProblemOf program start → SameSize start p → IsSparse p → IsProblemOf (written_program program p) q
+    → HaveSameLeft numbers p (offset_set q p.offset)
+written_same_left numbers program start p q h z s w = same_left p (offset_set q p.offset) (written_left program p q s (still_of program start p h z) w) numbers
