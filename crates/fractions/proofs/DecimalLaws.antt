@@ -1,5 +1,5 @@
 -- The test of decimal numbers finds exactly them.
-use Rattle.std.proofs.Common.{◌≡◌, ℕ, ◌+◌, ◌*◌, ◌/◌, ◌%◌, ◌^◌, ◌<◌, ◌≤◌, Bool, true, false, eqb, ltb, Option, Some, None, nat_abs, ◌↔◌, arith, sym, ◌∙◌, refl, subst, div-add-mod'}
+use Rattle.std.proofs.Common.{◌≡◌, ℕ, ◌*◌, ◌/◌, ◌%◌, ◌^◌, ◌<◌, ◌≤◌, Bool, true, false, eqb, ltb, Option, Some, None, nat_abs, ◌↔◌, arith, sym, ◌∙◌, refl, subst, div-add-mod'}
 use Prim.Native.Nat.{◌∣◌}
 use Rattle.std.specs.Prelude.{is_some, ◌&&◌}
 use Rattle.std.proofs.lemmas.Bool.{eqb-true, false≢true, lt-ltb, and_parts}
@@ -35,7 +35,7 @@ has_places-room q k p =
 pub no_room-no_places : (q : Number) (k : ℕ) → has_room (nat_abs (over_of q)) (under_of q) k ≡ false → HasPlaces q k → ⊥
 no_room-no_places q k e p = false≢true (sym e ∙ has_places-room q k p)
 
--- ---- the place that is written is the least
+-- ---- the place that is found is the least
 pub least_places : (q : Number) (k : ℕ) → places_of q ≡ Some k → (k ≤ 38) × HasPlaces q k × ((i : ℕ) → i < k → HasPlaces q i → ⊥)
 least_places q k e =
     let h = least_place (nat_abs (over_of q)) (under_of q) k e in
@@ -61,5 +61,6 @@ test-from_decimal q d = by (places_of q) refl
     by (Some k) e = refl
     by None e = absurd (no_places q e d.places d.few d.written)
 
-pub test_says : (b : Bool) (q : Number) → b ≡ is_decimal q → (b ≡ true) ↔ Decimal q
+pub test_says : (b : Bool) (q : Number) → b ≡ is_some (places_of q) → (b ≡ true) ↔ Decimal q
+unfolding is_decimal
 test_says b q e = (λ t. decimal-from_test q (sym e ∙ t), λ d. e ∙ test-from_decimal q d)

@@ -10,3 +10,4 @@ pub mod Powers
 pub mod Placing
 pub mod Least
 pub mod DecimalLaws
+pub mod ScalingLaws

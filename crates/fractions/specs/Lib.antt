@@ -3,3 +3,4 @@ pub mod FracFields
 pub mod EndWords
 pub mod Fives
 pub mod Places
+pub mod Scaled

@@ -11,6 +11,7 @@ mod fives;
 pub mod frac;
 pub mod parts;
 pub mod places;
+pub mod scaling;
 pub mod whole;
 
 /// A number is out of range: its numerator or denominator passes 2^127 - 1.

@@ -49,21 +49,14 @@ pub fn place(over: u128, under: u128) -> Option<u32>
     None
 }
 
-/// Whether a search finds some number of decimals from 0 to 38 that shows a number exactly, with digits below 2^127.
-#[tactic(auto, unfolding(crate::specs::Places::is_decimal))]
-fn finds_place(number: &Frac) -> bool
-    ensures { result ≡ is_decimal number.now }
-{
-    let parts = number.parts();
-    place(parts.num.size(), parts.den).is_some()
-}
-
 /// Whether some number of decimals from 0 to 38 shows a number exactly, with digits below 2^127.
+#[tactic(auto, unfolding(crate::specs::Places::is_decimal))]
 pub fn is_decimal(number: &Frac) -> bool
     ensures value { result ≡ is_decimal number.now }
     ensures says { IsTrue result ↔ Decimal number.now }
 {
-    finds_place(number)
+    let parts = number.parts();
+    place(parts.num.size(), parts.den).is_some()
 }
 
 /// The test of decimal numbers, a search, holds of exactly the decimal numbers.

@@ -11,12 +11,13 @@ use Rattle.rational.specs.Lowest.{Fits, ratio, ratio-is, lowest_over, lowest_und
 use Rattle.rational.specs.Decimal as decimals
 use Rattle.fractions.specs.declared.Numbers.{Numbers}
 use Rattle.fractions.specs.declared.Numbers.TheVariants.{Decimal, Fractions}
+use Rattle.fractions.specs.Scaled.{scaled}
 use Rattle.fractions.proofs.DecimalLaws.{decimal-from_test}
 use Rattle.number_texts.specs.declared.reading.ReadNumber.{ReadNumber}
 use Rattle.number_texts.specs.declared.reading.ReadNumber.TheVariants.{NotNumber, NumberPast}
 use Rattle.number_texts.specs.Form.{Terms, terms_of, cut, is_slash, is_minus, unsigned, is_digits, significant, number, up_of, down_of}
-use Rattle.number_texts.specs.Read.{signed, scaled, fits, is_taken, in_range, read_decimal, read_quotient, read_parts, read_of}
-use Rattle.number_texts.proofs.ScalingLaws.{Fits-is, size-signed}
+use Rattle.number_texts.specs.Read.{signed, fits, is_taken, in_range, read_decimal, read_quotient, read_parts, read_of}
+use Rattle.number_texts.proofs.RangeLaws.{Fits-is, size-signed}
 use Rattle.mps_profile.specs.Texts.{Text}
 use Rattle.mps_profile.specs.declared.dialect.Format.{Format}
 use Rattle.mps_profile.specs.declared.dialect.Format.TheVariants.{Free, Fixed}

@@ -6,8 +6,8 @@ use Rattle.rational.specs.Number.{Number, of_ℤ, zero_ℚ, neg_ℚ, ◌+ℚ◌,
 use Rattle.rational.specs.Order.{◌≤ℚ◌, ≤ℚ_trans, non_neg_ℚ}
 use Rattle.rational.specs.Compare.{le_ℚ}
 use Rattle.rational.proofs.Comparisons.{le_ℚ-is}
+use Rattle.fractions.specs.Scaled.{scaled}
 use Rattle.number_texts.specs.Form.{Terms, number, up_of, down_of}
-use Rattle.number_texts.specs.Read.{scaled}
 use Rattle.number_texts.specs.Reach.{reaches}
 use Rattle.number_texts.proofs.ReachLaws.{le-scaled}
 use Rattle.mps_profile.specs.Numerals.{is_far, is_far_form}

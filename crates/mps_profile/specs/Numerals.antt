@@ -5,8 +5,9 @@ use Rattle.std.specs.Str.{bytes_eq}
 use Rattle.rational.specs.Number.{Number, of_ℤ, neg_ℚ}
 use Rattle.rational.specs.Compare.{le_ℚ}
 use Rattle.fractions.specs.declared.Numbers.{Numbers}
+use Rattle.fractions.specs.Scaled.{scaled}
 use Rattle.number_texts.specs.Form.{Terms, terms_of, number, up_of, down_of, unsigned, is_minus, is_slash}
-use Rattle.number_texts.specs.Read.{read_of, scaled}
+use Rattle.number_texts.specs.Read.{read_of}
 use Rattle.number_texts.specs.declared.reading.ReadNumber.{ReadNumber}
 use Rattle.number_texts.specs.declared.reading.ReadNumber.TheVariants.{NotNumber, NumberPast}
 use Rattle.mps_profile.specs.Texts.{Text}

@@ -1,13 +1,12 @@
 pub mod Digits
 pub mod MantissaLaws
-pub mod ScalingLaws
+pub mod RangeLaws
 pub mod ReadingLaws
 pub mod Cutting
 pub mod Again
 pub mod Marks
 pub mod GrammarLaws
 pub mod ShortLaws
-pub mod TakenLaws
 pub mod TextLaws
 pub mod WritingLaws
 pub mod ReachLaws

@@ -6,10 +6,10 @@ use Rattle.std.specs.Fmt.{decimal}
 use Rattle.rational.specs.Number.{Number}
 use Rattle.rational.specs.Lowest.{over_of, under_of, Fits}
 use Rattle.fractions.specs.Places.{place_of}
-use Rattle.number_texts.specs.Written.{last_digits, with_point, sign_of, size_text, written_by, written}
 use Rattle.fractions.proofs.Powers.{power_positive}
-use Rattle.number_texts.proofs.Cutting.{None_pass, None_pass-append, digits-none, decimal-digits, last_digits-digits}
 use Rattle.fractions.proofs.Placing.{place_of-room}
+use Rattle.number_texts.specs.Written.{last_digits, with_point, sign_of, size_text, written_by, written}
+use Rattle.number_texts.proofs.Cutting.{None_pass, None_pass-append, digits-none, decimal-digits, last_digits-digits}
 
 -- a mark that is no digit, no minus, no point and no slash
 pub record IsMark (p : ℕ → Bool) : Type 0 where

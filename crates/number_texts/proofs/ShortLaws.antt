@@ -6,12 +6,13 @@ use Rattle.std.proofs.lemmas.Bool.Decides.{nat_tests}
 use Rattle.std.proofs.lemmas.List.{append-nil, length-append}
 use Rattle.std.specs.Char.{is_ascii_digit}
 use Rattle.std.specs.List.{list_all}
-use Rattle.number_texts.specs.declared.short.Short.{Short}
+use Rattle.fractions.specs.Scaled.{scaled}
 use Rattle.fractions.specs.declared.Numbers.{Numbers}
+use Rattle.number_texts.specs.declared.short.Short.{Short}
 use Rattle.number_texts.specs.Form.{cut, is_slash, is_exponent, is_minus, unsigned, number_after, number, significant, up_of, down_of}
 use Rattle.number_texts.specs.Grammar.{IsSign}
 use Rattle.number_texts.specs.Shorts.{leading, IsShortMantissa, IsShortExponent, IsShort}
-use Rattle.number_texts.specs.Read.{scaled, signed, in_range, read_decimal, read_parts}
+use Rattle.number_texts.specs.Read.{signed, in_range, read_decimal, read_parts}
 use Rattle.number_texts.proofs.Cutting.{Digits, both_true, Digits-append, number_after-append, cut_none}
 use Rattle.number_texts.proofs.Again.{significant_le}
 use Rattle.number_texts.proofs.GrammarLaws.{sign_back, form_no_slash, terms-from_form}

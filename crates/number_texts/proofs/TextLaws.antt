@@ -7,10 +7,11 @@ use Rattle.rational.specs.Number.{Number}
 use Rattle.rational.specs.Lowest.{ratio}
 use Rattle.fractions.specs.declared.Numbers.{Numbers}
 use Rattle.fractions.specs.declared.Numbers.TheVariants.{Decimal, Fractions}
+use Rattle.fractions.specs.Scaled.{scaled}
 use Rattle.number_texts.specs.declared.reading.ReadNumber.TheVariants.{NotNumber, NumberPast}
 use Rattle.number_texts.specs.Form.{cut, is_slash, is_minus, unsigned, is_digits, number, significant, Terms, terms_of, up_of, down_of}
 use Rattle.number_texts.specs.Grammar.{IsDigits, IsSign, IsMantissa, IsDecimalText, IsQuotientText, HasDecimalText, HasQuotientText, IsNumberText}
-use Rattle.number_texts.specs.Read.{scaled, fits, signed, is_taken, in_range, read_decimal, read_quotient, read_parts, read_of}
+use Rattle.number_texts.specs.Read.{fits, signed, is_taken, in_range, read_decimal, read_quotient, read_parts, read_of}
 use Rattle.number_texts.proofs.Cutting.{both_true, cut_none, cut_mark, digits-none, not_slash, no_sign}
 use Rattle.number_texts.proofs.Again.{is_digits-is}
 use Rattle.number_texts.proofs.GrammarLaws.{Cuts, cuts, sign_back, digits_back, form_no_slash, form-from_terms, terms-from_form}

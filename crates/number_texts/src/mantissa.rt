@@ -5,7 +5,7 @@ ghost use Rattle.std.specs.List.{list_all};
 ghost use Rattle.std.specs.Char.{is_ascii_digit};
 ghost use Rattle.number_texts.specs.Mantissas.{mantissa_with, mantissa_after, mantissa_of};
 
-use crate::places::power;
+use fractions::places::power;
 
 /// A number, and how many zeros stand behind it.
 #[derive(Clone, Copy)]

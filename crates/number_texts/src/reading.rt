@@ -3,19 +3,22 @@
 ghost use Rattle.std.specs.Prelude.{◌≡◌, ◌^◌, ◌<◌, ◌+◌, IsTrue, length, unsigned_abs};
 ghost use Rattle.std.specs.List.{list_all};
 ghost use Rattle.std.specs.Char.{is_ascii_digit};
+ghost use Rattle.rational.specs.Lowest.{Fits};
+ghost use Rattle.fractions.specs.Scaled.{scaled};
 ghost use Rattle.number_texts.specs.Form.{terms_of, cut, is_slash};
 ghost use Rattle.number_texts.specs.Views.{terms_seen};
 ghost use Rattle.number_texts.specs.Shorts.{up_seen, down_seen};
-ghost use Rattle.number_texts.specs.Read.{scaled, signed, fits, in_range, read_decimal, read_quotient, read_parts, read_of};
+ghost use Rattle.number_texts.specs.Read.{signed, in_range, read_decimal, read_quotient, read_parts, read_of};
 
 use crate::decimal_form::{DecimalForm, split_decimal};
 use crate::form::{cut_slash, is_digits, number, sign};
 use crate::mantissa::without_zeros;
-use crate::scaling::{exact, scale, signed};
+use crate::scaling::{exact, signed};
 use crate::short::{Short, short_form};
 use fractions::Numbers;
 use fractions::frac::Frac;
 use fractions::places::is_decimal;
+use fractions::scaling::scale;
 use fractions::whole::Whole;
 use thiserror::Error;
 
@@ -31,8 +34,9 @@ pub enum ReadNumber {
 }
 
 /// A number, if it is among those that are taken.
+#[tactic(auto, using(crate::proofs::RangeLaws::in_range_taken))]
 fn taken(number: Frac, numbers: Numbers) -> Result<Frac, ReadNumber>
-    requires { IsTrue (fits number) }
+    requires { Fits number }
     ensures { result ≡ in_range numbers number }
 {
     match numbers {

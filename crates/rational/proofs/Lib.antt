@@ -5,3 +5,4 @@ pub mod EndLaws
 pub mod Floors
 pub mod Decimals
 pub mod Totals
+pub mod Quotients

@@ -2,7 +2,8 @@ use Rattle.std.proofs.Common.{◌∙◌, sym, ap}
 use Rattle.rational.specs.Number.{Number}
 use Rattle.number_texts.specs.Views.{terms_seen}
 use Rattle.number_texts.specs.Read.{in_range}
-use Rattle.number_texts.proofs.ReadingLaws.{read-past, read-by, in_range-past}
+use Rattle.number_texts.proofs.ReadingLaws.{read-past, read-by}
+use Rattle.number_texts.proofs.RangeLaws.{in_range-past}
 use Rattle.number_texts.proofs.reading.value_of.Goals as goal
 
 pub returns-in_default : goal.returns-in_default

@@ -1,8 +1,9 @@
 use Rattle.std.proofs.Common.{◌+◌, cond, arith, ap, ◌∙◌, sym, ℕ}
+use Rattle.fractions.specs.Scaled.{scaled}
+use Rattle.fractions.proofs.ScalingLaws.{known}
 use Rattle.number_texts.specs.Form.{number as number_of}
-use Rattle.number_texts.specs.Read.{scaled, signed}
+use Rattle.number_texts.specs.Read.{signed}
 use Rattle.number_texts.proofs.ReadingLaws.{far_none, far_past}
-use Rattle.number_texts.proofs.ScalingLaws.{known}
 use Rattle.number_texts.proofs.scaling.exact.Goals as goal
 
 pub returns-then-size-eq0 : goal.returns-then-size-eq0

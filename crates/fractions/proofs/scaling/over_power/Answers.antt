@@ -1,15 +1,15 @@
 use Rattle.std.proofs.Common.{◌≡◌, ◌+◌, ◌-◌, ◌^◌, arith, ap, ap₂, ◌∙◌, sym, ℕ, pos}
 use Rattle.rational.specs.Lowest.{ratio}
 use Rattle.rational.specs.Number.{◌*ℚ◌}
-use Rattle.number_texts.specs.Read.{scaled}
-use Rattle.number_texts.proofs.ScalingLaws.{past_down, Fits-is, scaled-down, down_twice, OkIff-from, known}
-use Rattle.number_texts.proofs.scaling.over_power.Goals as goal
+use Rattle.fractions.specs.Scaled.{scaled}
+use Rattle.fractions.proofs.ScalingLaws.{past_down, scaled-down, down_twice, OkIff-from, known}
+use Rattle.fractions.proofs.scaling.over_power.Goals as goal
 
 pub returns-then-k-le38 : goal.returns-then-k-le38
 returns-then-k-le38 c = known _ _ (c.ratio_of.ensures.value ∙ ap (λ (d : ℕ). ratio c.args.n d) c.power.ensures.value ∙ sym (scaled-down c.args.n c.args.k)) c.ratio_of.ensures.fits
 
 pub returns-then-k-gt76 : goal.returns-then-k-gt76
-returns-then-k-gt76 c = λ h. past_down c.args.n 0 c.args.k c.requires.some c.requires.small (omega arith) (Fits-is _ h)
+returns-then-k-gt76 c = λ h. past_down c.args.n 0 c.args.k c.requires.some c.requires.small (omega arith) h
 
 pub returns : goal.returns
 returns c =

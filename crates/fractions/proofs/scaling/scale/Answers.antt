@@ -1,7 +1,7 @@
 use Rattle.std.proofs.Common.{◌-◌, arith, ap, ◌∙◌, sym, ℤ}
-use Rattle.number_texts.specs.Read.{scaled}
-use Rattle.number_texts.proofs.ScalingLaws.{known, moved, scaled-shift, scaled-none, is_none}
-use Rattle.number_texts.proofs.scaling.scale.Goals as goal
+use Rattle.fractions.specs.Scaled.{scaled}
+use Rattle.fractions.proofs.ScalingLaws.{known, moved, scaled-shift, scaled-none, is_none}
+use Rattle.fractions.proofs.scaling.scale.Goals as goal
 
 pub returns-then-size-eq0 : goal.returns-then-size-eq0
 returns-then-size-eq0 c = known _ _ (c.zero.ensures.value ∙ sym (scaled-none c.args.up c.args.down) ∙ ap (λ (z : ℤ). scaled z c.args.up c.args.down) (sym (is_none c.args.n (sym c.size.ensures.value ∙ c.if-size-eq0.true)))) c.zero.ensures.fits
