@@ -8,7 +8,7 @@ use Rattle.endings.specs.Moments.{FailsToRead, FailsToWrite, IsQuiet, IsThere, K
 use Rattle.endings.specs.ProgramTexts.{IsProgramOf, SaysFaultOf}
 use Rattle.endings.specs.declared.reads.TheConstants.{INPUT_LIMIT}
 use Rattle.presolve_model.specs.declared.conclusion.Options.{Options}
-use Rattle.presolve_command.specs.Texts.{Outcome, HasNoPoint, IsConcluded, options_for}
+use Rattle.presolve_command.specs.Texts.{Outcome, IsConcluded, options_for, TextIsDecided}
 
 -- what presolve is told by the words
 abbrev pub options_in : PresolveNames → Options
@@ -33,9 +33,9 @@ pub record IsPresolved (names : PresolveNames) (printed : List ℕ) (before now 
 abbrev pub SaysFault : PresolveNames → List ℕ → Moment → Moment → Type 0
 SaysFault names said before now = SaysFaultOf INPUT_LIMIT (dialect_of names.options) names.input said before now
 
--- IN's text has no fault, and its program has no feasible point
+-- IN's text has no fault, and its program is decided: it has no feasible point
 abbrev pub IsInfeasible : PresolveNames → Moment → Type 0
-IsInfeasible names before = Reads INPUT_LIMIT (before.told names.input) (λ text. HasNoPoint (dialect_of names.options) text)
+IsInfeasible names before = Reads INPUT_LIMIT (before.told names.input) (λ text. TextIsDecided (dialect_of names.options) names.options.limit text)
 
 -- a write of a name failed: what it tells is not told, or as before
 abbrev pub FailsAt : List ℕ → Moment → Moment → Type 0

@@ -10,7 +10,9 @@ use Rattle.mps_profile.specs.Program.{program_of}
 use Rattle.mps_written_lines.specs.Formats.{free_format}
 use Rattle.mps_round_trip.specs.Plain.{Plain}
 use Rattle.mps_profile.specs.declared.dialect.Dialect.{Dialect}
-use Rattle.presolve_model.specs.Conclusions.{Concluded}
+use Rattle.presolve_model.specs.declared.instance.Reduction.{Reduction}
+use Rattle.presolve_model.specs.declared.instance.Verdict.{Verdict}
+use Rattle.presolve_model.specs.Conclusions.{Concluded, Decided}
 use Rattle.presolve_model.specs.declared.conclusion.Options.{Options}
 use Rattle.mps_writer.specs.MpsText.{mps_text}
 use Rattle.record_file.specs.RecordText.{record_text}
@@ -74,27 +76,34 @@ pub record IsConcluded (options : Options) (outcome : Outcome) (program records 
   pub reads_back : ReadsBack options.numbers outcome program
   pub comes_back : ComesBack outcome program records
 
--- what is made of a program: the texts of an outcome of it, or that it has no feasible point
+-- presolve, told this, decides the program: it has no feasible point
+pub record IsDecided (options : Options) (program : ProgramData) : Type 0 where
+  pub history : List Reduction
+  pub verdict : Verdict
+  pub decided : Decided options program history verdict
+  pub no_point : NoPoint (meaning program)
+
+-- what is made of a program: the texts of an outcome of it, or that it is decided
 abbrev pub IsMade : Options → ProgramData → Result Texts NotReduced → Type 0
 IsMade options program (Ok texts) =
     (outcome : Outcome) × (outcome.source ≡ program) × IsConcluded options outcome texts.program.items texts.records.items texts.report.items
 IsMade options program (Err (Fault fault)) = ⊥
-IsMade options program (Err Infeasible) = NoPoint (meaning program)
+IsMade options program (Err Infeasible) = IsDecided options program
 IsMade options program (Err NoMemory) = Unit {0}
 
 -- what presolve is told of a text that is read so
 abbrev pub options_for : Dialect → ℕ → Options
 options_for dialect limit = record { numbers = dialect.numbers; limit = limit }
 
--- a text has no fault, and its program has no feasible point
-abbrev pub HasNoPoint : Dialect → List ℕ → Type 0
-HasNoPoint dialect text = (first_fault dialect text ≡ None) × NoPoint (meaning (program_of dialect text))
+-- a text has no fault, and its program is decided
+abbrev pub TextIsDecided : Dialect → ℕ → List ℕ → Type 0
+TextIsDecided dialect limit text = (first_fault dialect text ≡ None) × IsDecided (options_for dialect limit) (program_of dialect text)
 
--- what is made of a text: the texts of an outcome of its program, that this has no feasible point, or the text's first fault
+-- what is made of a text: the texts of an outcome of its program, that this is decided, or the text's first fault
 abbrev pub IsReduced : Dialect → ℕ → List ℕ → Result Texts NotReduced → Type 0
 IsReduced dialect limit text (Ok texts) =
     (outcome : Outcome) × IsProgramOf dialect text outcome.source
     × IsConcluded (options_for dialect limit) outcome texts.program.items texts.records.items texts.report.items
 IsReduced dialect limit text (Err (Fault fault)) = first_fault dialect text ≡ Some (fault.kind, fault.line)
-IsReduced dialect limit text (Err Infeasible) = HasNoPoint dialect text
+IsReduced dialect limit text (Err Infeasible) = TextIsDecided dialect limit text
 IsReduced dialect limit text (Err NoMemory) = Unit {0}

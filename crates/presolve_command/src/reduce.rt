@@ -151,7 +151,7 @@ fn reduce_program(alloc: Global, program: Program, options: &Options) -> Result<
             let texts = texts_of(alloc, &made, &report)?;
             Ok(texts)
         }
-        Ok(Presolved::Infeasible(_)) => Err(NotReduced::Infeasible),
+        Ok(Presolved::Infeasible(_decided)) => Err(NotReduced::Infeasible),
         Err(AllocError) => Err(NotReduced::NoMemory),
     }
 }

@@ -3,3 +3,4 @@ pub mod Naming
 pub mod Words
 pub mod Fitting
 pub mod Whole
+pub mod EndsTold

@@ -1,16 +1,20 @@
 -- The laws of the whole way.
-use Rattle.std.specs.Prelude.{ℕ, List}
+use Rattle.std.specs.Prelude.{ℕ, List, length}
 use Rattle.rational.specs.Number.{Number}
 use Rattle.lp_model.specs.LinearProgram.{Feasible}
 use Rattle.lp_model.specs.Meaning.{meaning}
 use Rattle.lp_model.specs.ProgramData.{ProgramData}
+use Rattle.lp_model.specs.Turning.{signed}
 use Rattle.lp_model.specs.Vectors.{vector_of}
 use Rattle.undo_records.specs.Postsolve.{Postsolve}
 use Rattle.mps_writer.specs.MpsText.{mps_text}
 use Rattle.mps_round_trip.specs.Plain.{Plain}
 use Rattle.record_file.specs.RecordText.{record_text}
 use Rattle.record_round_trip.specs.Ranges.{HasRange}
-use Rattle.presolve_model.specs.Conclusions.{Concluded}
+use Rattle.problem_model.specs.Edits.{offset_set}
+use Rattle.problem_model.specs.Programs.{IsProblemOf}
+use Rattle.problem_model.specs.Sparse.{Sparse}
+use Rattle.presolve_model.specs.Conclusions.{Concluded, TellsEnd}
 use Rattle.presolve_model.specs.declared.conclusion.End.{End}
 use Rattle.presolve_model.specs.declared.conclusion.Options.{Options}
 use Rattle.way_back.specs.ComingBack.{ComesBack, IsBest}
@@ -23,6 +27,14 @@ TextsComeBack = (options : Options) (program reduced : ProgramData) (told : Post
     → Plain program
     → HasRange told
     → TextsFit reduced told (mps_text reduced) (record_text told)
+
+-- How the run ended is told of the problem of the program that is read, as it is of the problem that presolve left, if the records' offset was
+-- added to the cost there: at a fixpoint no reduction can be applied there either, and as many are enabled.
+abbrev pub EndsAreToldOfTexts : Type 0
+EndsAreToldOfTexts = (options : Options) (program read : ProgramData) (told : Postsolve) (ended : End) (p : Sparse)
+    → Concluded options program read told ended
+    → IsProblemOf read p
+    → TellsEnd ended options (length told.undos) (offset_set p (signed told.sense told.offset))
 
 -- Presolve reduces a program, and writes the reduced program's text `out` and the text of records `undoing`. They are read as a program
 -- and records. The text `solution` is read as a point that is feasible for the program that was read, and postsolve writes as `result` what

@@ -1,6 +1,6 @@
 //! What the texts of a presolve and a postsolve say together.
 
-ghost use Rattle.whole_way.specs.Laws.{BestComesBackWhole, ComesBackWhole, TextsComeBack};
+ghost use Rattle.whole_way.specs.Laws.{BestComesBackWhole, ComesBackWhole, EndsAreToldOfTexts, TextsComeBack};
 
 use point_text::written_solution_is_read;
 
@@ -8,6 +8,12 @@ use point_text::written_solution_is_read;
 /// presolve concluded with, and these go together: so a postsolve refuses neither text, and undoes these very records.
 pub fn texts_come_back()
     ensures { TextsComeBack }
+{}
+
+/// What `end fixpoint` and the count of skipped reductions say of the problem that presolve left, with original ids, they say of the reduced
+/// program as it is written, whose rows and columns have new ids; and so does `end limit`.
+pub fn ends_are_told_of_texts()
+    ensures { EndsAreToldOfTexts }
 {}
 
 /// A solution of the reduced program's text that is undone by the text of records comes back: the text that is written of it has no fault,

@@ -4,7 +4,7 @@ use Rattle.endings.specs.declared.reads.TheConstants.{INPUT_LIMIT}
 use Rattle.endings.proofs.Earlier.{finds_there, program_read}
 use Rattle.presolve_command.specs.Presolved.{IsMadeOf}
 use Rattle.presolve_command.proofs.Before.{fails_earlier, others_earlier, written_earlier}
-use Rattle.presolve_command.proofs.Made.{concluded_so, infeasible_said, no_point_read}
+use Rattle.presolve_command.proofs.Made.{concluded_so, decided_read, infeasible_said}
 use Rattle.presolve_command.proofs.command.presolve.Goals as goal
 
 pub returns-in-Ok-write_both-clause-ends : goal.returns-in-Ok-write_both-clause-ends
@@ -56,7 +56,7 @@ returns-in-Err-Infeasible-clause-ends g c =
     let before = g.F.Files.moment c.args.files.now in
     record {
       says = (
-        no_point_read INPUT_LIMIT (before.told names.input) _ _ c.in-Ok.text.items _ c.in-Ok.ensures.bytes c.in-Ok.ensures.most c.dialect_of.ensures c.deref.ensures.value
+        decided_read INPUT_LIMIT (before.told names.input) names.options.limit _ _ c.in-Ok.text.items _ c.in-Ok.ensures.bytes c.in-Ok.ensures.most c.dialect_of.ensures c.deref.ensures.value
             (infeasible_said c.dialect_of.result c.args.words.now.options.limit c.deref.result.now c.in-Err-Infeasible.field-0 c.in-Err-Infeasible.field-0-is c.in-Err-Infeasible.ensures),
         c.read.ensures.kept,
         refl,

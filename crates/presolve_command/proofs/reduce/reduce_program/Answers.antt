@@ -1,6 +1,6 @@
 use Rattle.std.proofs.Common.{refl}
 use Rattle.mps_round_trip.proofs.Widths.{widths_fit}
-use Rattle.presolve_command.proofs.Made.{concluded_of, concluded_with}
+use Rattle.presolve_command.proofs.Made.{concluded_of, concluded_with, decided_of}
 use Rattle.presolve_command.proofs.PlainKept.{comes_back, reads_back}
 use Rattle.presolve_command.specs.Texts.{Outcome}
 use Rattle.presolve_command.proofs.reduce.reduce_program.Goals as goal
@@ -28,3 +28,6 @@ pub texts_of-requires : goal.texts_of-requires
 texts_of-requires c =
     let concluded = concluded_of c.args.options.now c.args.program c.in-Ok-Reduced.field-0 c.in-Ok-Reduced.made c.in-Ok-Reduced.field-0-is c.in-Ok-Reduced.ensures in
     widths_fit c.args.options.now.numbers c.in-Ok-Reduced.made.program concluded.writable
+
+pub returns-in-Ok-Infeasible : goal.returns-in-Ok-Infeasible
+returns-in-Ok-Infeasible c = decided_of c.args.options.now c.args.program c.in-Ok-Infeasible.field-0 c.in-Ok-Infeasible._decided c.in-Ok-Infeasible.field-0-is c.in-Ok-Infeasible.ensures
