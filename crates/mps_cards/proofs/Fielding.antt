@@ -1,5 +1,5 @@
 -- How fields go from a line's first field on.
-use Rattle.std.proofs.Common.{◌≡◌, ℕ, suc, ◌+◌, ◌<◌, ◌==◌, not, ◌&&◌, List, [], ◌∷◌, Bool, true, false, cond, Some, None, refl, ◌∙◌, ap, arith, length, take, drop, add-one}
+use Rattle.std.proofs.Common.{◌≡◌, ℕ, ◌+◌, ◌<◌, ◌==◌, not, ◌&&◌, List, [], ◌∷◌, Bool, true, false, cond, Some, None, refl, ◌∙◌, ap, arith, length, take, drop}
 use Rattle.std.proofs.lemmas.Grind.{common_steps}
 use Rattle.std.proofs.lemmas.Bool.{and_parts, true≢false, false≢true}
 use Rattle.std.proofs.Math.Dec.{eqb-suc-zero}
@@ -8,8 +8,8 @@ use Rattle.std.specs.Option.{is_some}
 use Rattle.std.specs.List.{slice_split, onto_first, position_or_len, list_all}
 use Rattle.std.proofs.lemmas.List.Splits.{slice_split-cons_yes, slice_split-cons_no}
 use Rattle.std.proofs.lemmas.List.Quantifiers.{position-Some}
+use Rattle.text_lines.proofs.Splitting.{split_at, one_part}
 use Rattle.mps_profile.specs.Fields.{is_blank, fields_of}
-use Rattle.mps_cards.proofs.Splitting.{split_at, one_part}
 
 abbrev is_part : List ℕ → Bool
 is_part part = not (length part == 0)
@@ -28,7 +28,7 @@ fields-at text i some is =
     let p = position-Some is_blank text i 0 is in
     let found : 0 < i = found_by _ (position_or_len is_blank text) i some is in
     let long : 0 < length (take i text) = grind (arith, common_steps, p.0, found) in
-    rw add-one (ap (filter is_part) (split_at is_blank text i 0 p.0 p.1 p.2) ∙ kept (take i text) (slice_split is_blank (drop (suc i) text)) long)
+    ap (filter is_part) (split_at is_blank text i 0 is) ∙ kept (take i text) (slice_split is_blank (drop (i + 1) text)) long
 
 filled : (text : List ℕ) → 0 < position_or_len is_blank text → 0 < length text
 filled [] some = absurd (omega (arith, some))

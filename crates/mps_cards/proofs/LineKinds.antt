@@ -3,10 +3,10 @@ use Rattle.std.proofs.Common.{◌≡◌, ℕ, ◌==◌, List, [], ◌∷◌, Boo
 use Rattle.std.specs.Prelude.{if◌then◌else◌}
 use Rattle.std.proofs.lemmas.Bool.{true≢false, false≢true, eqb-true}
 use Rattle.std.specs.List.{list_all}
+use Rattle.text_lines.specs.Lines.{lines_of}
 use Rattle.mps_profile.specs.Texts.{Text}
 use Rattle.mps_profile.specs.Fields.{is_blank}
 use Rattle.mps_profile.specs.Items.{Line, Blank, Heading, CardLine, line_with, line_of, or_next, has_card}
-use Rattle.mps_profile.specs.Lines.{lines_of}
 use Rattle.mps_cards.specs.Texts.{kind_of}
 use Rattle.mps_cards.specs.declared.lines.LineKind.{LineKind}
 use Rattle.mps_cards.specs.declared.lines.LineKind as kinds

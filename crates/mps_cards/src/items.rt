@@ -1,9 +1,9 @@
 //! What a line says, by how far the text has come before it.
 
 ghost use Rattle.std.specs.Prelude.{◌≡◌, map};
+ghost use Rattle.text_lines.specs.Lines.{lines_of};
 ghost use Rattle.mps_profile.specs.Items.{is_above, may_follow, opened, objsense, heading, sense_card};
 ghost use Rattle.mps_profile.specs.Items as items;
-ghost use Rattle.mps_profile.specs.Lines.{lines_of};
 ghost use Rattle.mps_profile.specs.Words.{section_named, is_refused};
 ghost use Rattle.mps_cards.specs.Texts.{item_result};
 

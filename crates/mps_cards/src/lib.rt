@@ -1,4 +1,4 @@
-//! The parts of MPS text: lines, fields, and what a line says.
+//! The parts of MPS lines: of what kind a line is, its fields, and what it says.
 #![tactic(auto)]
 
 pub mod column_texts;

@@ -1,42 +1,14 @@
-//! The lines of a text.
+//! What kind of line a line is.
 
-ghost use Rattle.std.specs.Prelude.{◌≡◌, ◌==◌, ◌<◌, ◌≤◌, ◌∷◌, length, position};
+ghost use Rattle.std.specs.Prelude.{◌≡◌};
 ghost use Rattle.std.specs.List.{list_all};
+ghost use Rattle.text_lines.specs.Lines.{lines_of};
 ghost use Rattle.mps_profile.specs.Fields.{is_blank};
-ghost use Rattle.mps_profile.specs.Lines.{lines_of, without_return};
 ghost use Rattle.mps_profile.specs.Items.{line_of, has_card};
 ghost use Rattle.mps_cards.specs.Texts.{kind_of};
 
 use crate::fields::is_blank;
-
-/// Where the first line feed stands.
-fn line_feed(text: &[u8]) -> Option<usize>
-    ensures { result ≡ position (λ b. b == 10) text.now }
-{
-    text.iter().position(|b| *b == b'\n')
-}
-
-/// A line without a carriage return at its end.
-fn without_return(line: &[u8]) -> &[u8]
-    ensures { result.now ≡ without_return line.now }
-{
-    match line {
-        [before @ .., b'\r'] => before,
-        _ => line,
-    }
-}
-
-/// The first line of a text that is not empty, without its end, and what follows it.
-pub fn first_line(text: &[u8]) -> (&[u8], &[u8])
-    requires { 0 < length text.now }
-    ensures first { lines_of text.now ≡ result.0.now ∷ lines_of result.1.now }
-    ensures shorter { length result.1.now < length text.now }
-{
-    match line_feed(text) {
-        Some(end) => (without_return(&text[..end]), &text[end + 1..]),
-        None => (text, &text[text.len()..]),
-    }
-}
+use text_lines::first_line;
 
 /// What kind of line a line is.
 #[derive(Clone, Copy, Debug, PartialEq, Eq)]

@@ -2,10 +2,10 @@
 
 ghost use Rattle.std.specs.Prelude.{◌≡◌, map, IfOk};
 ghost use Rattle.std.specs.Option.{ForSome};
+ghost use Rattle.text_lines.specs.Lines.{lines_of};
 ghost use Rattle.mps_profile.specs.Fields.{fields_of, fixed_fields};
 ghost use Rattle.mps_profile.specs.Items.{section_card, card_item, item_of};
 ghost use Rattle.mps_profile.specs.Items as items;
-ghost use Rattle.mps_profile.specs.Lines.{lines_of};
 ghost use Rattle.mps_cards.specs.Texts.{fields_in, card_result, item_result};
 ghost use Rattle.mps_cards.specs.Splits.{format_of};
 

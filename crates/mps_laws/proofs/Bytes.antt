@@ -1,20 +1,15 @@
 -- What holds of each byte of a text holds of each byte of its lines and parts.
-use Rattle.std.proofs.Common.{◌≡◌, ℕ, zero, suc, ◌==◌, ◌≤◌, Bool, true, false, cond, List, [], ◌∷◌, take, reverse, refl, sym, subst, arith}
+use Rattle.std.proofs.Common.{◌≡◌, ℕ, zero, suc, ◌==◌, ◌≤◌, Bool, true, false, cond, List, [], ◌∷◌, take, refl, arith}
 use Rattle.std.specs.List.{All, slice_split, onto_first}
-use Rattle.std.proofs.lemmas.List.{reverse-append}
-use Rattle.std.proofs.lemmas.List.Elements.{All-nil, All-cons, All-head, All-tail, All-append, All-weaker}
+use Rattle.std.proofs.lemmas.List.Elements.{All-nil, All-cons, All-head, All-tail, All-weaker}
+use Rattle.text_lines.specs.Lines.{but_return, without_return, ended, lines_of, IsUnfed}
+use Rattle.text_lines.proofs.Returns.{all_reverse}
 use Rattle.mps_profile.specs.Texts.{Text}
-use Rattle.mps_profile.specs.Lines.{but_return, without_return, ended, lines_of}
 use Rattle.mps_profile.specs.Fields.{no_first, trimmed}
 use Rattle.mps_profile.specs.Reading.{read_from, is_ended, lines_read}
 use Rattle.mps_profile.specs.declared.dialect.Dialect.{Dialect}
 
 module _ {X : Type 0} (P : X → Type 0) where
-  all_reversed : (xs : List X) → All P xs → All P (reverse xs)
-  all_reversed [] h = h
-  all_reversed (x ∷ xs) h = subst (All P) (sym (reverse-append (x ∷ []) xs))
-      (All-append P (reverse xs) (x ∷ []) (all_reversed xs (All-tail P x xs h)) (All-cons P x [] (All-head P x xs h) (All-nil P)))
-
   -- a shorter beginning
   pub all_shorter : (m n : ℕ) (xs : List X) → m ≤ n → All P (take n xs) → All P (take m xs)
   all_shorter zero n xs l h = All-nil P
@@ -50,7 +45,7 @@ module _ (P : ℕ → Type 0) where
       by false rest = h
 
   pub trimmed_all : (part : Text) → All P part → All P (trimmed part)
-  trimmed_all part h = no_first_all _ (all_reversed P _ (no_first_all _ (all_reversed P part h)))
+  trimmed_all part h = no_first_all _ (all_reverse P _ (no_first_all _ (all_reverse P part h)))
 
   but_return_all : (xs : Text) → All P xs → All P (but_return xs)
   but_return_all [] h = h
@@ -61,21 +56,17 @@ module _ (P : ℕ → Type 0) where
       by false = h
 
   without_return_all : (part : Text) → All P part → All P (without_return part)
-  without_return_all part h = all_reversed P _ (but_return_all _ (all_reversed P part h))
+  without_return_all part h = all_reverse P _ (but_return_all _ (all_reverse P part h))
 
-  ended_all : (parts : List Text) → All (All P) parts → All (All P) (ended parts)
+  ended_all : (parts : List Text) → All (All P) parts → All (All P) (ended without_return parts)
   ended_all [] h = All-nil (All P)
   ended_all ([] ∷ []) h = All-nil (All P)
   ended_all ((b ∷ bytes) ∷ []) h = h
   ended_all ([] ∷ next ∷ more) h =
-      All-cons (All P) (without_return []) (ended (next ∷ more)) (without_return_all [] (All-head (All P) [] (next ∷ more) h)) (ended_all (next ∷ more) (All-tail (All P) [] (next ∷ more) h))
+      All-cons (All P) (without_return []) (ended without_return (next ∷ more)) (without_return_all [] (All-head (All P) [] (next ∷ more) h)) (ended_all (next ∷ more) (All-tail (All P) [] (next ∷ more) h))
   ended_all ((b ∷ bytes) ∷ next ∷ more) h =
-      All-cons (All P) (without_return (b ∷ bytes)) (ended (next ∷ more))
+      All-cons (All P) (without_return (b ∷ bytes)) (ended without_return (next ∷ more))
       (without_return_all (b ∷ bytes) (All-head (All P) (b ∷ bytes) (next ∷ more) h)) (ended_all (next ∷ more) (All-tail (All P) (b ∷ bytes) (next ∷ more) h))
-
--- a text without a line feed
-abbrev pub IsUnfed : Text → Type 0
-IsUnfed text = All (λ b. (b == 10) ≡ false) text
 
 abbrev Anything : ℕ → Type 0
 Anything b = Unit {0}

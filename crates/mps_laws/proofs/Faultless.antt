@@ -1,10 +1,11 @@
 -- A text without a fault has cards without one.
 use Rattle.std.proofs.Common.{◌≡◌, ℕ, ◌+◌, List, [], ◌∷◌, length, Bool, true, false, cond, Option, Some, None, Result, Ok, Err, refl, sym, subst}
+use Rattle.text_lines.specs.Faults.{or_later}
+use Rattle.text_lines.specs.Lines.{lines_of}
 use Rattle.mps_profile.specs.Texts.{Text}
-use Rattle.mps_profile.specs.Lines.{lines_of}
 use Rattle.mps_profile.specs.Cards.{Card}
 use Rattle.mps_profile.specs.Items.{Item, Silent, Moves, Says, item_of, has_card, progress_of, cards_of, cards_after}
-use Rattle.mps_profile.specs.Reading.{item_fault, line_fault, fault_from, read_from, first_fault, lines_read, is_ended, or_later}
+use Rattle.mps_profile.specs.Reading.{item_fault, line_fault, fault_from, read_from, first_fault, lines_read, is_ended}
 use Rattle.mps_profile.specs.declared.dialect.Dialect.{Dialect}
 use Rattle.mps_profile.specs.declared.faults.MpsFaultKind.{MpsFaultKind}
 use Rattle.mps_profile.specs.declared.faults.MpsFaultKind.TheVariants.{NoEnd}

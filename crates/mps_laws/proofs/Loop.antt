@@ -1,8 +1,9 @@
 -- What holds at each line of a text.
 use Rattle.std.proofs.Common.{◌≡◌, ℕ, ◌+◌, ◌<◌, List, [], ◌∷◌, length, Bool, true, false, cond, Option, Some, None, refl, sym, ap, ◌∙◌, arith, add-one}
+use Rattle.text_lines.specs.Faults.{or_later}
+use Rattle.text_lines.specs.Lines.{lines_of}
 use Rattle.mps_profile.specs.Texts.{Text}
-use Rattle.mps_profile.specs.Lines.{lines_of}
-use Rattle.mps_profile.specs.Reading.{fault_from, read_from, first_fault, lines_read, is_ended, line_fault, or_later}
+use Rattle.mps_profile.specs.Reading.{fault_from, read_from, first_fault, lines_read, is_ended, line_fault}
 use Rattle.mps_profile.specs.declared.dialect.Dialect.{Dialect}
 use Rattle.mps_profile.specs.declared.faults.MpsFaultKind.{MpsFaultKind}
 use Rattle.mps_profile.specs.declared.faults.MpsFaultKind.TheVariants.{NoEnd}

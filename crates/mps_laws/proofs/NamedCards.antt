@@ -6,6 +6,7 @@ use Rattle.std.proofs.lemmas.List.Elements.{All-nil, All-cons, All-head, All-tai
 use Rattle.names.specs.Names.{place}
 use Rattle.lp_model.specs.Name.{is_break, IsName}
 use Rattle.lp_model.specs.declared.program.Sense.{Sense}
+use Rattle.text_lines.specs.Lines.{IsUnfed}
 use Rattle.mps_profile.specs.Texts.{Text, field}
 use Rattle.mps_profile.specs.Fields.{is_blank, fields_of, FixedFields, fixed_fields, underscored, trimmed, is_misplaced, misplaced_from, has_misplaced}
 use Rattle.mps_profile.specs.Words.{section_named, sense_named, type_named, is_refused}
@@ -26,7 +27,7 @@ use Rattle.mps_profile.specs.declared.sections.Section.{Section}
 use Rattle.mps_profile.specs.declared.sections.Section.TheVariants.{Name, Objsense, Rows, Columns, Rhs, Ranges, Bounds, Endata}
 use Rattle.mps_profile.specs.declared.faults.MpsFaultKind.{MpsFaultKind}
 use Rattle.mps_profile.specs.declared.faults.MpsFaultKind.TheVariants.{BadColumn, FieldCount, SectionOrder}
-use Rattle.mps_laws.proofs.Bytes.{all_shorter, split_all, trimmed_all, IsUnfed}
+use Rattle.mps_laws.proofs.Bytes.{all_shorter, split_all, trimmed_all}
 
 -- ---- words
 unbroken : (bytes : Text) → All (λ b. is_break b ≡ false) bytes → list_all (λ b. not (is_break b)) bytes ≡ true

@@ -3,8 +3,8 @@ use Rattle.std.proofs.Common.{◌≡◌, inl, inr, ℕ, List, [], ◌∷◌, Boo
 use Rattle.std.specs.List.{list_any}
 use Rattle.std.proofs.lemmas.List.Folds.{list_any-append}
 use Rattle.std.proofs.lemmas.Bool.{or_left}
+use Rattle.text_lines.specs.Lines.{lines_of}
 use Rattle.mps_profile.specs.Texts.{Text}
-use Rattle.mps_profile.specs.Lines.{lines_of}
 use Rattle.mps_profile.specs.Cards.{Card, RowCard, MarkerCard, ColumnCard, SideCard, RangeCard, ValuedCard, BareCard, UnknownCard}
 use Rattle.mps_profile.specs.Words.{kind_named}
 use Rattle.mps_profile.specs.Rows.{row_kinds, is_free}

@@ -1,7 +1,7 @@
 -- How far the reading of a text has come.
 use Rattle.std.specs.Prelude.{◌≡◌, ◌≤◌, ◌+◌, ℕ, List, length}
+use Rattle.text_lines.specs.Lines.{lines_of}
 use Rattle.mps_profile.specs.Texts.{Text}
-use Rattle.mps_profile.specs.Lines.{lines_of}
 use Rattle.mps_profile.specs.Reading.{fault_from, read_from, first_fault, lines_read}
 use Rattle.mps_profile.specs.declared.dialect.Dialect.{Dialect}
 

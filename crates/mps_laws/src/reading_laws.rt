@@ -1,8 +1,8 @@
 //! How a text is read line by line, and what the cards of a text without a fault keep.
 ghost use Rattle.std.specs.Prelude.{◌≡◌, ◌+◌, ◌<◌, ◌≤◌, ℕ, List, [], ◌∷◌, length, Bool, true, false, Some, None, Ok};
 ghost use Rattle.std.specs.List.{list_any};
+ghost use Rattle.text_lines.specs.Lines.{lines_of};
 ghost use Rattle.mps_profile.specs.Texts.{Text};
-ghost use Rattle.mps_profile.specs.Lines.{lines_of};
 ghost use Rattle.mps_profile.specs.Items.{Item, item_of, is_awaited, progress_of, cards_of};
 ghost use Rattle.mps_profile.specs.Rows.{row_names, row_kinds, is_free};
 ghost use Rattle.mps_profile.specs.Columns.{column_names};

@@ -7,7 +7,6 @@ pub mod Fields
 pub mod FixedCards
 pub mod FreeCards
 pub mod Items
-pub mod Lines
 pub mod Numerals
 pub mod Program
 pub mod Reading

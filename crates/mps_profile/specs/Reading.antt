@@ -1,8 +1,9 @@
 -- The first fault of a text, and the lines that are read.
 use Rattle.std.specs.Prelude.{ℕ, ◌+◌, Bool, true, false, List, [], ◌∷◌, length, Option, Some, None, Result, Ok, Err, if◌then◌else◌}
 use Rattle.std.specs.List.{list_any}
+use Rattle.text_lines.specs.Faults.{or_later}
+use Rattle.text_lines.specs.Lines.{lines_of}
 use Rattle.mps_profile.specs.Texts.{Text}
-use Rattle.mps_profile.specs.Lines.{lines_of}
 use Rattle.mps_profile.specs.Cards.{Card}
 use Rattle.mps_profile.specs.Items.{Item, Silent, Moves, Says, item_of, has_card, progress_of, cards_of}
 use Rattle.mps_profile.specs.Rows.{row_kinds, is_free}
@@ -37,10 +38,6 @@ is_end section = false
 -- ENDATA was read
 abbrev pub is_ended : Dialect → List Text → Bool
 is_ended dialect before = is_end (progress_of dialect.format before).section
-
-abbrev pub or_later : Option MpsFaultKind → ℕ → Option (MpsFaultKind × ℕ) → Option (MpsFaultKind × ℕ)
-or_later (Some fault) number later = Some (fault, number)
-or_later None number later = later
 
 -- the first line with a fault, and its fault; text after ENDATA is unread; without ENDATA the fault stands past the last line
 abbrev pub fault_from : Dialect → List Text → List Text → Option (MpsFaultKind × ℕ)

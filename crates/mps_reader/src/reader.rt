@@ -1,8 +1,8 @@
 //! What the lines of a text have said so far.
 
 ghost use Rattle.std.specs.Prelude.{◌≡◌, [], List, Ok};
+ghost use Rattle.text_lines.specs.Lines.{lines_of};
 ghost use Rattle.mps_profile.specs.Texts.{Text};
-ghost use Rattle.mps_profile.specs.Lines.{lines_of};
 ghost use Rattle.mps_profile.specs.Cards.{Card};
 ghost use Rattle.mps_profile.specs.Reading.{is_end, section_fault};
 ghost use Rattle.mps_cards.specs.Texts.{text_item};

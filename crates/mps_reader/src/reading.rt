@@ -11,11 +11,11 @@ use crate::faults::{MpsError, MpsFault};
 use crate::reader::Reader;
 use lp_model::Program;
 use mps_assembly::{ColumnTables, Parts, RowTables, assemble};
-use mps_cards::lines::first_line;
 use mps_profile::MpsFaultKind;
 use mps_profile::dialect::Dialect;
 use mps_tables::{Stop, Tables};
 use std::alloc::Global;
+use text_lines::first_line;
 
 /// Reads the lines of a text up to ENDATA.
 fn read_lines(alloc: Global, text: &[u8], dialect: Dialect) -> Result<Reader, MpsError>

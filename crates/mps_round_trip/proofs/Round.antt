@@ -9,8 +9,8 @@ use Rattle.lp_model.specs.declared.program.RowDef.{RowDef}
 use Rattle.lp_model.specs.declared.program.ColumnDef.{ColumnDef}
 use Rattle.lp_model.specs.ProgramData.{ProgramData}
 use Rattle.lp_model.specs.Names.{names_of_rows, WellNamed}
+use Rattle.text_lines.specs.Lines.{lines_of}
 use Rattle.mps_profile.specs.Texts.{Text}
-use Rattle.mps_profile.specs.Lines.{lines_of}
 use Rattle.mps_profile.specs.Cards.{Card}
 use Rattle.mps_profile.specs.Rows.{row_kinds, is_free}
 use Rattle.mps_profile.specs.Items.{start, cards_of, progress_of}

@@ -1,14 +1,15 @@
 -- Lines and words are cut where they were joined.
-use Rattle.std.proofs.Common.{◌≡◌, ℕ, ◌-◌, ◌<◌, ◌==◌, not, ◌||◌, List, [], ◌∷◌, ◌++◌, reverse, length, Bool, true, false, cond, refl, sym, ◌∙◌, ap, ap₂, arith, subst}
+use Rattle.std.proofs.Common.{◌≡◌, ℕ, ◌==◌, not, ◌||◌, List, [], ◌∷◌, ◌++◌, length, Bool, true, false, cond, refl, ◌∙◌, ap}
 use Rattle.std.specs.Prelude.{All, filter}
-use Rattle.std.specs.List.{slice_split, onto_first, list_all, AllByRecursion}
+use Rattle.std.specs.List.{slice_split, list_all, AllByRecursion}
 use Rattle.std.proofs.lemmas.Bool.{and_parts, or_parts, not-true, and_from, not_from_false, or_from}
-use Rattle.std.proofs.lemmas.List.{reverse-reverse, length-reverse, append-nil, get_or-reverse}
+use Rattle.std.proofs.lemmas.List.{append-nil}
 use Rattle.std.proofs.lemmas.List.Splits.{slice_split_at, slice_split_none}
 use Rattle.std.proofs.lemmas.List.Elements.{All-nil, All-cons}
 use Rattle.std.proofs.lemmas.List.Folds.{list_all-append}
+use Rattle.text_lines.specs.Lines.{lines_of}
+use Rattle.text_lines.proofs.LineLaws.{plain_line_first}
 use Rattle.mps_profile.specs.Texts.{Text}
-use Rattle.mps_profile.specs.Lines.{ended, lines_of, without_return, but_return}
 use Rattle.mps_profile.specs.Fields.{is_blank, fields_of}
 use Rattle.mps_writer.specs.Cards.{spaced}
 use Rattle.mps_written_lines.specs.Words.{ends_word, IsWord}
@@ -21,46 +22,18 @@ none_pass p q weaker (x ∷ xs) all =
     let parts = and_parts (not (q x)) (list_all (λ b. not (q b)) xs) all in
     All-cons (λ (b : ℕ). p b ≡ false) x xs (weaker x (not-true (q x) parts.0)) (none_pass p q weaker xs parts.1)
 
--- without a carriage return nothing is left out
-keeps_last : (xs : List ℕ) → All (λ b. (b == 13) ≡ false) xs → but_return xs ≡ xs
-keeps_last [] all = refl
-keeps_last (x ∷ xs) all = ap (λ t. cond t xs (x ∷ xs)) (all 0 0 (omega arith))
-
-all_reverse : (xs : List ℕ) → All (λ b. (b == 13) ≡ false) xs → All (λ b. (b == 13) ≡ false) (reverse xs)
-all_reverse xs all k d lt =
-    let within : k < length xs = omega (arith, lt, length-reverse xs) in
-    subst (λ b. (b == 13) ≡ false) (sym (get_or-reverse xs k d within)) (all (length xs - 1 - k) d (omega (arith, within)))
-
 no_return : (b : ℕ) → ends_line b ≡ false → (b == 13) ≡ false
 no_return b is = (or_parts (b == 10) (b == 13) is).1
 
 no_feed : (b : ℕ) → ends_line b ≡ false → (b == 10) ≡ false
 no_feed b is = (or_parts (b == 10) (b == 13) is).0
 
-whole_line : (line : Text) → IsLine line → without_return line ≡ line
-whole_line line is = ap reverse (keeps_last (reverse line) (all_reverse line (none_pass (λ b. b == 13) ends_line no_return line is))) ∙ reverse-reverse line
-
-before_next : (part next : List ℕ) (more : List (List ℕ)) → ended (part ∷ next ∷ more) ≡ without_return part ∷ ended (next ∷ more)
-before_next [] next more = refl
-before_next (b ∷ bytes) next more = refl
-
-before_onto : (part : List ℕ) (y : ℕ) (parts : List (List ℕ)) → ended (part ∷ onto_first y parts) ≡ without_return part ∷ ended (onto_first y parts)
-before_onto part y [] = before_next part (y ∷ []) []
-before_onto part y (next ∷ more) = before_next part (y ∷ next) more
-
-before_split : (p : ℕ → Bool) (part xs : List ℕ) → ended (part ∷ slice_split p xs) ≡ without_return part ∷ ended (slice_split p xs)
-before_split p part [] = before_next part [] []
-before_split p part (x ∷ xs) =
-    elim (p x) as (λ b. ended (part ∷ cond b ([] ∷ slice_split p xs) (onto_first x (slice_split p xs))) ≡ without_return part ∷ ended (cond b ([] ∷ slice_split p xs) (onto_first x (slice_split p xs))))
-    [ true ↦ before_next part [] (slice_split p xs) | false ↦ before_onto part x (slice_split p xs) ]
-
 -- the lines of a text of lines
 pub lines_again : (lines : List Text) → AllByRecursion IsLine lines → lines_of (unlined lines) ≡ lines
 lines_again [] all = refl
 lines_again (line ∷ lines) all =
-    ap ended (slice_split_at (λ b. b == 10) line 10 (unlined lines) (none_pass (λ b. b == 10) ends_line no_feed line all.0) refl)
-    ∙ before_split (λ b. b == 10) line (unlined lines)
-    ∙ ap₂ (λ (l : Text) (ls : List Text). l ∷ ls) (whole_line line all.0) (lines_again lines all.1)
+    plain_line_first line (unlined lines) (none_pass (λ b. b == 10) ends_line no_feed line all.0) (none_pass (λ b. b == 13) ends_line no_return line all.0)
+    ∙ ap (λ (ls : List Text). line ∷ ls) (lines_again lines all.1)
 
 abbrev is_part : List ℕ → Bool
 is_part part = not (length part == 0)

@@ -7,13 +7,14 @@ use Rattle.lp_model.specs.declared.program.Sense.{Sense}
 use Rattle.lp_model.specs.declared.program.Sense.TheVariants.{Min, Max}
 use Rattle.lp_model.specs.ProgramData.{ProgramData}
 use Rattle.lp_model.specs.Names.{names_of_rows}
+use Rattle.text_lines.specs.Faults.{or_later}
 use Rattle.mps_profile.specs.Texts.{Text}
 use Rattle.mps_profile.specs.Fields.{fields_of}
 use Rattle.mps_profile.specs.Cards.{Card}
 use Rattle.mps_profile.specs.FreeCards.{free_card}
 use Rattle.mps_profile.specs.Rows.{row_kinds, is_free}
 use Rattle.mps_profile.specs.Items.{Line, CardLine, line_with, line_of, Item, Moves, Says, start, item_of, item_by, card_item, says, has_card, progress_after, cards_after, progress_of, cards_of, may_follow}
-use Rattle.mps_profile.specs.Reading.{section_fault, item_fault, line_fault, is_end, is_ended, or_later, fault_from, read_from}
+use Rattle.mps_profile.specs.Reading.{section_fault, item_fault, line_fault, is_end, is_ended, fault_from, read_from}
 use Rattle.mps_profile.specs.declared.dialect.Format.TheVariants.{Free}
 use Rattle.mps_profile.specs.declared.dialect.Dialect.{Dialect}
 use Rattle.mps_profile.specs.declared.sections.Section.{Section}

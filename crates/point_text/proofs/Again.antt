@@ -11,18 +11,20 @@ use Rattle.names.specs.Names.{place}
 use Rattle.number_texts.specs.Read.{read_of}
 use Rattle.number_texts.specs.Written.{written}
 use Rattle.lp_model.specs.Names.{Differ}
+use Rattle.text_lines.specs.Faults.{or_later}
+use Rattle.text_lines.specs.Lines.{lines_of}
+use Rattle.text_lines.proofs.LineLaws.{plain_line_first}
 use Rattle.mps_profile.specs.Texts.{Text}
-use Rattle.mps_profile.specs.Lines.{lines_of}
 use Rattle.point_text.specs.SolutionLines.{Line, Silent, Gives, line_with, line_of}
 use Rattle.point_text.specs.Values.{number_in, value_named, value_of}
 use Rattle.point_text.specs.Faults.{line_fault, first_of, is_past, is_bad}
-use Rattle.point_text.specs.Reading.{or_later, fault_from, first_fault, said_from, point_of}
+use Rattle.point_text.specs.Reading.{fault_from, first_fault, said_from, point_of}
 use Rattle.point_text.specs.SolutionText.{value_line, solution_text}
 use Rattle.point_text.specs.PlainNames.{Plain}
 use Rattle.point_text.specs.declared.faults.SolFaultKind.{SolFaultKind}
 use Rattle.point_text.specs.declared.faults.SolFaultKind.TheVariants.{UnknownName, TwiceNamed, NumberPast, BadNumber}
 use Rattle.point_text.proofs.Tables.{has_place}
-use Rattle.point_text.proofs.Parts.{line_first, two_fields}
+use Rattle.point_text.proofs.Parts.{two_fields}
 use Rattle.point_text.proofs.Unbroken.{number_unbroken, no_blanks, no_feeds, no_returns, written_again, number_filled, differ, same}
 
 abbrev bytes_of : Text → Number → List ℕ
@@ -38,7 +40,7 @@ regroup name word rest = simp append_assoc
 written_line : (name : Text) (value : Number) (rest : List ℕ) → Plain name → Fits value → lines_of (value_line name value ++ rest) ≡ bytes_of name value ∷ lines_of rest
 written_line name value rest plain fits =
     ap lines_of (regroup name (written value) rest)
-    ∙ line_first (bytes_of name value) rest
+    ∙ plain_line_first (bytes_of name value) rest
     (line_unbroken (λ b. (b == 10) ≡ false) name value refl (no_feeds name plain.unbroken) (no_feeds (written value) (number_unbroken value fits)))
     (line_unbroken (λ b. (b == 13) ≡ false) name value refl (no_returns name plain.unbroken) (no_returns (written value) (number_unbroken value fits)))
 

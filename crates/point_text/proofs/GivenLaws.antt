@@ -8,21 +8,17 @@ use Rattle.fractions.specs.declared.Numbers.TheVariants.{Fractions}
 use Rattle.number_texts.specs.Read.{read_of}
 use Rattle.number_texts.specs.declared.reading.ReadNumber.{ReadNumber}
 use Rattle.number_texts.specs.declared.reading.ReadNumber as reasons
+use Rattle.text_lines.specs.Lines.{lines_of}
+use Rattle.text_lines.proofs.FaultLaws.{later_none}
 use Rattle.mps_profile.specs.Texts.{Text}
-use Rattle.mps_profile.specs.Lines.{lines_of}
 use Rattle.mps_profile.specs.Fields.{fields_of}
 use Rattle.point_text.specs.SolutionLines.{Line, Silent, Gives, Odd, line_with, line_of}
 use Rattle.point_text.specs.Values.{number_in, value_named, value_of}
 use Rattle.point_text.specs.Faults.{is_past, is_bad, first_of, line_fault}
-use Rattle.point_text.specs.Reading.{or_later, fault_from, first_fault, said_from, said}
+use Rattle.point_text.specs.Reading.{fault_from, first_fault, said_from, said}
 use Rattle.point_text.specs.Given.{IsGiven}
-use Rattle.point_text.specs.declared.faults.SolFaultKind.{SolFaultKind}
 use Rattle.point_text.specs.declared.faults.SolFaultKind.TheVariants.{UnknownName, TwiceNamed, NumberPast, BadNumber}
 use Rattle.point_text.proofs.Unbroken.{differ, same}
-
-later_none : (o : Option SolFaultKind) (n : ℕ) (later : Option (SolFaultKind × ℕ)) → or_later o n later ≡ None → (o ≡ None) × (later ≡ None)
-later_none None n later is = (refl, is)
-later_none (Some kind) n later is = cc
 
 -- no test of a table holds
 pub record Untold (a b c d : Bool) : Type 0 where

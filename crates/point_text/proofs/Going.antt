@@ -1,7 +1,7 @@
 -- What holds at each line of a text.
 use Rattle.std.proofs.Common.{◌≡◌, ℕ, List, length}
+use Rattle.text_lines.specs.Lines.{lines_of}
 use Rattle.mps_profile.specs.Texts.{Text}
-use Rattle.mps_profile.specs.Lines.{lines_of}
 use Rattle.point_text.specs.SolutionLines.{Line}
 use Rattle.point_text.specs.Reading.{fault_from, first_fault, said_from, said}
 use Rattle.point_text.specs.Holding.{Holds}

@@ -5,12 +5,13 @@ use Rattle.std.specs.Str.{bytes_eq}
 use Rattle.rational.specs.Number.{Number, zero_ℚ}
 use Rattle.fractions.specs.declared.Numbers.TheVariants.{Fractions}
 use Rattle.number_texts.specs.Read.{read_of}
+use Rattle.text_lines.specs.Faults.{or_later}
+use Rattle.text_lines.specs.Lines.{lines_of}
 use Rattle.mps_profile.specs.Texts.{Text}
-use Rattle.mps_profile.specs.Lines.{lines_of}
 use Rattle.point_text.specs.SolutionLines.{Line, Silent, Gives, Odd, line_of}
 use Rattle.point_text.specs.Values.{value_named, value_of}
 use Rattle.point_text.specs.Faults.{line_fault, first_of, is_past, is_bad}
-use Rattle.point_text.specs.Reading.{or_later, fault_from, first_fault, said, point_of, IsRead}
+use Rattle.point_text.specs.Reading.{fault_from, first_fault, said, point_of, IsRead}
 use Rattle.point_text.specs.Holding.{Holds, held, IsTableOf, TookAll}
 use Rattle.point_text.specs.declared.values.Values.{Values}
 use Rattle.point_text.specs.declared.faults.SolError.{SolError}

@@ -1,7 +1,7 @@
 -- What the lines of a text give to names.
 use Rattle.std.specs.Prelude.{◌≡◌, ◌≢◌, ℕ, List, [], ◌∷◌, Contains, codes}
+use Rattle.text_lines.specs.Lines.{lines_of}
 use Rattle.mps_profile.specs.Texts.{Text}
-use Rattle.mps_profile.specs.Lines.{lines_of}
 use Rattle.mps_profile.specs.Fields.{fields_of}
 
 -- the two fields of a line are the name and the number, and the line is not the objective's

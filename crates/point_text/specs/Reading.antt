@@ -1,18 +1,15 @@
 -- The first fault of a text, and the point that it gives.
 use Rattle.std.specs.Prelude.{◌≡◌, ℕ, ◌+◌, List, [], ◌∷◌, length, map, Option, Some, None, Result, Ok, Err}
 use Rattle.rational.specs.Number.{Number}
+use Rattle.text_lines.specs.Faults.{or_later}
+use Rattle.text_lines.specs.Lines.{lines_of}
 use Rattle.mps_profile.specs.Texts.{Text}
-use Rattle.mps_profile.specs.Lines.{lines_of}
 use Rattle.point_text.specs.SolutionLines.{Line, line_of}
 use Rattle.point_text.specs.Values.{value_of}
 use Rattle.point_text.specs.Faults.{line_fault}
 use Rattle.point_text.specs.declared.faults.SolFaultKind.{SolFaultKind}
 use Rattle.point_text.specs.declared.faults.SolError.{SolError}
 use Rattle.point_text.specs.declared.faults.SolError.TheVariants.{Fault, NoMemory}
-
-abbrev pub or_later : Option SolFaultKind → ℕ → Option (SolFaultKind × ℕ) → Option (SolFaultKind × ℕ)
-or_later (Some fault) number later = Some (fault, number)
-or_later None number later = later
 
 -- the first line with a fault, and its fault
 abbrev pub fault_from : List Text → List Line → List Text → Option (SolFaultKind × ℕ)

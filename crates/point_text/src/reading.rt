@@ -8,8 +8,8 @@ use crate::faults::{SolError, SolFault};
 use crate::solution_lines::split_line;
 use crate::values::Values;
 use lp_model::{Labels, Point};
-use mps_cards::lines::first_line;
 use std::alloc::Global;
+use text_lines::first_line;
 
 /// Takes in the lines of a text.
 fn take_lines(alloc: Global, values: &mut Values, text: &[u8]) -> Result<(), SolError>

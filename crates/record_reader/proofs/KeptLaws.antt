@@ -1,19 +1,18 @@
 -- What the lines of a text without a fault have given.
-use Rattle.std.proofs.Common.{◌≡◌, ◌↔◌, ℕ, zero, suc, ◌+◌, Bool, true, false, IsTrue, List, [], ◌∷◌, ◌++◌, length, map, Option, Some, None, Result, Ok, Err, refl, sym, ap, ap₂, ◌∙◌, subst, All, slice_set, arith, take, drop}
+use Rattle.std.proofs.Common.{◌≡◌, ◌↔◌, ℕ, zero, suc, ◌+◌, Bool, true, false, IsTrue, List, [], ◌∷◌, ◌++◌, length, map, Option, Some, None, refl, sym, ap, ap₂, ◌∙◌, subst, All, slice_set, take, drop}
 use Rattle.std.specs.Prelude.{◌&&◌, codes, unwrap_or, if◌then◌else◌}
-use Rattle.std.specs.List.{list_all}
 use Rattle.std.specs.Str.{bytes_eq}
 use Rattle.std.proofs.lemmas.List.{length-set, length-replicate, map-append}
 use Rattle.std.proofs.lemmas.List.Elements.{All-nil, All-cons, All-append}
-use Rattle.std.proofs.lemmas.List.Folds.{list_all-append}
 use Rattle.number_texts.proofs.Cutting.{both_true}
-use Rattle.lp_model.specs.declared.program.Sense.{Sense}
 use Rattle.lp_model.specs.Name.{is_name, IsName}
+use Rattle.text_lines.specs.Lines.{raw_lines_of}
+use Rattle.text_lines.proofs.FaultLaws.{later_none}
 use Rattle.undo_records.specs.Named.{AreNamed}
 use Rattle.undo_records.specs.Postsolve.{Postsolve}
 use Rattle.undo_records.specs.Sound.{IsSound}
 use Rattle.lp_model.specs.Flags.{Flags}
-use Rattle.undo_records.specs.Walk.{Walks, NamesLive, AreSound, all_live, after, cleared, lives, flags_of, rows_deleted, columns_deleted}
+use Rattle.undo_records.specs.Walk.{Walks, AreSound, all_live, cleared, lives, flags_of, rows_deleted, columns_deleted}
 use Rattle.undo_records.specs.declared.label.Label.{Label}
 use Rattle.undo_records.specs.declared.undo.Undo.{Undo}
 use Rattle.undo_records.proofs.Walking.{walks_on}
@@ -22,12 +21,11 @@ use Rattle.record_words.specs.Undos.{undo_fault, undo_in}
 use Rattle.record_words.specs.Rules.{rule_of}
 use Rattle.record_words.specs.declared.faults.LineFault.{LineFault}
 use Rattle.record_words.proofs.Soundness.{sound_by}
-use Rattle.record_reader.specs.Lines.{lines_of}
 use Rattle.record_reader.specs.Labels.{label_named, label_of, with_label}
-use Rattle.record_reader.specs.Headings.{is_end, count_of, offset_of}
+use Rattle.record_reader.specs.Headings.{is_end}
 use Rattle.record_reader.specs.Progress.{Progress, start, columns_left, rows_left, undos_left, with_undo, with_records, moved_at, moved}
 use Rattle.record_reader.specs.Faults.{kind_in, unless, same_flag, same_flags, ends_at, end_fault, fault_at, line_fault}
-use Rattle.record_reader.specs.Reading.{is_over, or_later, fault_from, first_fault, progress_from, records_of}
+use Rattle.record_reader.specs.Reading.{is_over, fault_from, first_fault, progress_from, records_of}
 use Rattle.record_reader.specs.declared.faults.RecordFaultKind.{RecordFaultKind}
 use Rattle.record_reader.specs.declared.faults.RecordFaultKind.TheVariants.{BadLine, BadId, Cut}
 use Rattle.record_reader.specs.declared.stages.Stage.{Stage}
@@ -185,19 +183,15 @@ at_over (Undos m) p n h k = cc
 at_over End p n h k = cc
 at_over Over p n h k = k
 
-later : (k : Option RecordFaultKind) (n : ℕ) (more : Option (RecordFaultKind × ℕ)) → or_later k n more ≡ None → (k ≡ None) × (more ≡ None)
-later None n more h = (refl, h)
-later (Some k) n more h = cc
-
 sound_lines : (p : Progress) (n : ℕ) (lines : List (List ℕ)) → fault_from p n lines ≡ None → Kept p → AreSound (progress_from p lines).given
 sound_lines p n [] h k = at_over p.stage p (n + 1) h k
 sound_lines p n (line ∷ lines) h k =
-    let q = later (line_fault p line) (n + 1) (fault_from (moved p line) (n + 1) lines) h in
+    let q = later_none (line_fault p line) (n + 1) (fault_from (moved p line) (n + 1) lines) h in
     sound_lines (moved p line) (n + 1) lines q.1 (kept p line q.0 k)
 
 pub sound_text : (text : List ℕ) → first_fault text ≡ None → AreSound (records_of text)
 unfolding first_fault records_of
-sound_text text h = sound_lines start 0 (lines_of text) h refl
+sound_text text h = sound_lines start 0 (raw_lines_of text) h refl
 
 pub sound_given : (text : List ℕ) (p : Postsolve) → first_fault text ≡ None → p ≡ records_of text → AreSound p
 sound_given text p h e = subst AreSound (sym e) (sound_text text h)
@@ -247,7 +241,7 @@ named_lines p (line ∷ lines) k = named_lines (moved p line) lines (named_at p.
 
 pub named_text : (text : List ℕ) → AreNamed (records_of text)
 unfolding records_of
-named_text text = named_lines start (lines_of text) (record { rows = All-nil IsName; columns = All-nil IsName })
+named_text text = named_lines start (raw_lines_of text) (record { rows = All-nil IsName; columns = All-nil IsName })
 
 pub named_given : (text : List ℕ) (p : Postsolve) → p ≡ records_of text → AreNamed p
 named_given text p e = subst AreNamed (sym e) (named_text text)

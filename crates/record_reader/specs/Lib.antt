@@ -1,4 +1,3 @@
-pub mod Lines
 pub mod Labels
 pub mod Headings
 pub mod Progress

@@ -1,11 +1,10 @@
 -- What the steps of reading give.
-use Rattle.std.specs.Prelude.{◌≡◌, ℕ, List, Option, Some, None, Result, Ok, Err}
+use Rattle.std.specs.Prelude.{◌≡◌, ℕ, List, Some, None, Result, Ok, Err}
 use Rattle.rational.specs.Number.{Number}
+use Rattle.text_lines.specs.Lines.{raw_lines_of}
 use Rattle.record_words.specs.declared.lines.LineError.{LineError}
 use Rattle.record_words.specs.declared.lines.LineError.TheVariants as line
 use Rattle.record_words.specs.declared.faults.LineFault.{LineFault}
-use Rattle.record_reader.specs.Lines.{lines_of}
-use Rattle.record_reader.specs.Headings.{offset_by, offset_of}
 use Rattle.record_reader.specs.Progress.{Progress, moved_at, moved}
 use Rattle.record_reader.specs.Faults.{fault_at, line_fault}
 use Rattle.record_reader.specs.Reading.{fault_from, first_fault, progress_from, records_of}
@@ -39,8 +38,8 @@ Takes p text (Err take.NoMemory) q = Unit {0}
 
 -- all lines of a text were taken in, or its first fault was found
 abbrev pub TakesAll : {T : Type 0} → Progress → List ℕ → Result T RecordError → Progress → Type 0
-TakesAll p text (Ok done) q = (fault_from p 0 (lines_of text) ≡ None) × (q ≡ progress_from p (lines_of text))
-TakesAll p text (Err (record_error.Fault fault)) q = fault_from p 0 (lines_of text) ≡ Some (fault.kind, fault.line)
+TakesAll p text (Ok done) q = (fault_from p 0 (raw_lines_of text) ≡ None) × (q ≡ progress_from p (raw_lines_of text))
+TakesAll p text (Err (record_error.Fault fault)) q = fault_from p 0 (raw_lines_of text) ≡ Some (fault.kind, fault.line)
 TakesAll p text (Err record_error.NoMemory) q = Unit {0}
 
 -- what all lines of a text give, or its first fault

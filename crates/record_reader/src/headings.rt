@@ -9,7 +9,7 @@ ghost use Rattle.record_words.specs.Ratios.{is_least, unsigned_part};
 ghost use Rattle.record_reader.specs.Headings.{is_header, sense_of, is_duals, counted, count_of, are_decimals, point_form, slash_form, has_written_form, offset_by, offset_of, is_end};
 ghost use Rattle.record_reader.specs.Results.{IsNumber};
 
-use crate::text_lines::{behind, front};
+use crate::line_parts::{behind, front};
 use fractions::frac::Frac;
 use lp_model::Sense;
 use number_texts::form::{cut_point, cut_slash, is_digits, number};

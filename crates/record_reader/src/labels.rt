@@ -3,7 +3,7 @@
 ghost use Rattle.std.specs.Prelude.{◌≡◌, IfOk};
 ghost use Rattle.record_reader.specs.Labels.{label_named, label_of};
 
-use crate::text_lines::{behind, front};
+use crate::line_parts::{behind, front};
 use lp_model::{Name, is_name};
 use std::alloc::{AllocError, Global};
 use undo_records::Label;

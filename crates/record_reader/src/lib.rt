@@ -7,10 +7,10 @@ mod draft;
 mod faults;
 mod headings;
 mod labels;
+mod line_parts;
 mod matching;
 mod reading;
 mod stages;
-mod text_lines;
 
 pub use faults::{RecordError, RecordFault, RecordFaultKind};
 pub use matching::matches;

@@ -9,8 +9,8 @@ ghost use Rattle.record_reader.specs.Results.{seen, TakesAll, IsDraft};
 use crate::draft::Draft;
 use crate::faults::{RecordError, RecordFault, RecordFaultKind, TakeError};
 use crate::stages::is_over;
-use crate::text_lines::first_line;
 use std::alloc::Global;
+use text_lines::first_raw_line;
 use undo_records::Records;
 
 /// A text of records without a fault gives sound records, whose labels have names.
@@ -27,7 +27,7 @@ fn take_lines(alloc: Global, draft: &mut Draft, text: &[u8]) -> Result<(), Recor
     let mut rest = text;
     let mut number: u64 = 0;
     while !rest.is_empty() {
-        let (line, after) = first_line(rest);
+        let (line, after) = first_raw_line(rest);
         match draft.take_line(alloc, line, after.len()) {
             Ok(()) => {}
             Err(TakeError::Fault(kind)) => {

@@ -1,10 +1,11 @@
 -- Lines without a fault, and what they lead to.
 use Rattle.std.proofs.Common.{◌≡◌, ℕ, ◌+◌, Bool, true, cond, List, [], ◌∷◌, ◌++◌, Option, Some, None, sym, ap, ◌∙◌, subst}
+use Rattle.text_lines.specs.Faults.{or_later}
 use Rattle.undo_records.specs.Postsolve.{Postsolve}
 use Rattle.lp_model.specs.Flags.{Flags}
 use Rattle.record_reader.specs.Progress.{Progress, moved, moved_at}
 use Rattle.record_reader.specs.Faults.{line_fault, fault_at}
-use Rattle.record_reader.specs.Reading.{is_over, or_later, fault_from, progress_from}
+use Rattle.record_reader.specs.Reading.{is_over, fault_from, progress_from}
 use Rattle.record_reader.specs.declared.stages.Stage.{Stage}
 use Rattle.record_reader.specs.declared.faults.RecordFaultKind.{RecordFaultKind}
 use Rattle.record_reader.specs.declared.faults.RecordFaultKind.TheVariants.{Cut}

@@ -9,6 +9,7 @@ use Rattle.std.proofs.lemmas.List.Elements.{All-head, All-tail}
 use Rattle.lp_model.specs.declared.program.Sense.{Sense}
 use Rattle.lp_model.specs.declared.program.Sense.TheVariants.{Min, Max}
 use Rattle.lp_model.specs.Name.{is_name, IsName}
+use Rattle.text_lines.specs.Lines.{raw_lines_of}
 use Rattle.undo_records.specs.Named.{AreNamed}
 use Rattle.undo_records.specs.Postsolve.{Postsolve}
 use Rattle.undo_records.specs.Sound.{IsSound}
@@ -16,7 +17,6 @@ use Rattle.undo_records.specs.Walk.{AreSound, all_live, flags_of}
 use Rattle.undo_records.specs.declared.label.Label.{Label}
 use Rattle.undo_records.specs.declared.undo.Undo.{Undo}
 use Rattle.record_file.specs.RecordText.{Line, line, header_lines, label_line, label_lines, offset_line, undo_line, undo_lines, end_line, record_lines, record_text}
-use Rattle.record_reader.specs.Lines.{lines_of}
 use Rattle.record_reader.specs.Progress.{Progress, start, nothing, columns_left, rows_left, undos_left}
 use Rattle.record_reader.specs.Reading.{first_fault, fault_from, records_of, progress_from}
 use Rattle.record_reader.specs.declared.stages.Stage.TheVariants.{ColumnCount, RowCount, Offset, RecordCount, End, Over}
@@ -68,7 +68,7 @@ lines_whole p s n r =
     (all_on (label_lines (codes "columns") p.columns) (label_lines (codes "rows") p.rows ++ offset_line p.offset ∷ (undo_lines p.undos ++ end_line ∷ [])) columns
     (all_on (label_lines (codes "rows") p.rows) (offset_line p.offset ∷ (undo_lines p.undos ++ end_line ∷ [])) rows behind))
 
-lines_are : (p : Postsolve) → AreSound p → AreNamed p → HasRange p → lines_of (record_text p) ≡ map bytes_of (record_lines p)
+lines_are : (p : Postsolve) → AreSound p → AreNamed p → HasRange p → raw_lines_of (record_text p) ≡ map bytes_of (record_lines p)
 unfolding record_text
 lines_are p s n r = lines_again (record_lines p) (lines_whole p s n r)
 

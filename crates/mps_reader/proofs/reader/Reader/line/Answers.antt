@@ -1,7 +1,7 @@
 use Rattle.std.proofs.Common.{◌∙◌, sym, ap}
+use Rattle.text_lines.specs.Lines.{lines_of}
 use Rattle.mps_profile.specs.Texts.{Text}
 use Rattle.mps_profile.specs.Items.{item_of, has_card, progress_of, cards_of}
-use Rattle.mps_profile.specs.Lines.{lines_of}
 use Rattle.mps_profile.specs.declared.dialect.Dialect.{Dialect}
 use Rattle.mps_profile.specs.declared.dialect.Format.{Format}
 use Rattle.mps_profile.specs.declared.progress.Progress.{Progress}

@@ -1,0 +1,4 @@
+pub mod FaultLaws
+pub mod LineLaws
+pub mod Returns
+pub mod Splitting
