@@ -134,9 +134,9 @@ round_stuck b c before room h none long =
       k.0,
       record {
         undecided = λ w. not_enabled _ (λ on. k.1 (proposal_of b.problem v (at.Verdict w)) (Contains-append_left vs rs _ (verdict_listed b.problem v w on))
-          (record { undecided = before; room = tt; agrees = reading_agrees b.problem (at.Verdict w) }, tt, tt));
+            (record { undecided = before; room = tt; agrees = reading_agrees b.problem (at.Verdict w) }, tt, tt));
         reductions = λ r can. k.1 (proposal_of b.problem v (at.Reduction r)) (Contains-append_right vs rs _ (reduction_listed b.problem v r can.enabled))
-          (record { undecided = before; room = room; agrees = reading_agrees b.problem (at.Reduction r) }, can.fits, can.written);
+            (record { undecided = before; room = room; agrees = reading_agrees b.problem (at.Reduction r) }, can.fits, can.written);
       },
     )
 

@@ -7,9 +7,9 @@ ghost use Rattle.singleton_laws.specs.EmptyColumn.{enabled, edits, record_of, Co
 
 use fractions::ext::Ext;
 use fractions::frac::Frac;
+use lp_model::ends::{apart, place};
 use problem_model::{Edit, Refusal};
 use rule_words::Change;
-use lp_model::ends::{apart, place};
 use sparse_problem::Problem;
 use std::alloc::{AllocError, Global};
 use undo_records::Undo;

@@ -4,9 +4,9 @@ ghost use Rattle.std.specs.Prelude.{◌≡◌, true};
 ghost use Rattle.rule_words.specs.Answers.{Changes};
 ghost use Rattle.singleton_laws.specs.EmptyRow.{enabled, edits, record_of, Computes};
 
+use lp_model::ends::holds_zero;
 use problem_model::{Edit, Refusal};
 use rule_words::Change;
-use lp_model::ends::holds_zero;
 use sparse_problem::Problem;
 use std::alloc::{AllocError, Global};
 use undo_records::Undo;

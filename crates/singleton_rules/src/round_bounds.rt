@@ -6,9 +6,9 @@ ghost use Rattle.rule_words.specs.Answers.{Changes};
 ghost use Rattle.singleton_laws.specs.RoundBounds.{enabled, edits, record_of, Computes};
 
 use fractions::ext::Ext;
+use lp_model::ends::{broken, in_order};
 use problem_model::{Edit, Refusal};
 use rule_words::Change;
-use lp_model::ends::{broken, in_order};
 use sparse_problem::Problem;
 use std::alloc::{AllocError, Global};
 use undo_records::Undo;
