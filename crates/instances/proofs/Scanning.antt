@@ -1,5 +1,5 @@
 -- Ids in a row, and those past a rule's.
-use Rattle.std.proofs.Common.{◌≡◌, ℕ, zero, suc, ◌+◌, ◌≤◌, Bool, true, false, List, [], ◌∷◌, ◌++◌, length, map, refl, sym, ap, ◌∙◌, arith}
+use Rattle.std.proofs.Common.{◌≡◌, ℕ, zero, suc, ◌+◌, ◌≤◌, false, List, [], ◌∷◌, ◌++◌, length, map, refl, sym, ap, ◌∙◌, arith}
 use Rattle.std.proofs.lemmas.List.{get_or_past, map-append, append-nil, append_assoc}
 use Rattle.std.specs.List.{filter, range_with_len}
 use Rattle.std.proofs.lemmas.List.Elements.{filter-append}
@@ -7,7 +7,6 @@ use Rattle.problem_model.specs.declared.line.Line.{Line}
 use Rattle.presolve_model.specs.declared.instance.Rule.{Rule}
 use Rattle.presolve_model.specs.declared.instance.Rule.TheVariants as rule
 use Rattle.presolve_model.specs.Enabled.{enabled_on}
-use Rattle.presolve_model.specs.Given.{Proposed}
 use Rattle.problem_model.specs.Matrices.{line_at, no_line}
 use Rattle.presolve_model.specs.Scans.{proposal_of, instances_at, found_at}
 use Rattle.problem_model.specs.Sparse.{Sparse}

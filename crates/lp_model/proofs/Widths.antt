@@ -1,6 +1,6 @@
 -- Widths that may be written.
 use Rattle.std.proofs.Common.{◌≡◌, ◌↔◌, Bool, true, false, Option, Some, None, refl, sym, subst}
-use Rattle.std.specs.Prelude.{IfSome, ⊤, if◌then◌else◌}
+use Rattle.std.specs.Prelude.{IfSome, if◌then◌else◌}
 use Rattle.rational.specs.Number.{Number, ◌-ℚ◌}
 use Rattle.rational.specs.Compare.{eq_ℚ}
 use Rattle.rational.proofs.Comparisons.{eq_ℚ-is}

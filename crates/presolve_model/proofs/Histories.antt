@@ -1,10 +1,9 @@
 -- A history is a list of commits: what commits tell by numbers of changes, histories do.
-use Rattle.std.proofs.Common.{◌≡◌, ℕ, ◌+◌, ◌<◌, ◌≤◌, ◌-◌, ◌^◌, List, [], ◌∷◌, ◌++◌, map, length, get_or, refl, sym, ap, ◌∙◌, subst, arith}
+use Rattle.std.proofs.Common.{◌≡◌, ◌+◌, ◌<◌, ◌≤◌, ◌-◌, ◌^◌, List, [], ◌∷◌, length, get_or, refl, sym, subst, arith}
 use Rattle.std.specs.List.{All}
 use Rattle.fractions.specs.declared.Numbers.{Numbers}
 use Rattle.problem_model.specs.declared.part.Part.{Part}
-use Rattle.problem_model.specs.declared.part.Read.{Read}
-use Rattle.problem_model.specs.Parts.{contents_of, changes_of}
+use Rattle.problem_model.specs.Parts.{changes_of}
 use Rattle.problem_model.specs.Problems.{IsSparse}
 use Rattle.problem_model.specs.Reading.{read_of}
 use Rattle.problem_model.specs.Sparse.{Sparse}
@@ -15,7 +14,6 @@ use Rattle.presolve_model.specs.declared.instance.Reduction.{Reduction}
 use Rattle.presolve_model.specs.Changes.{changed}
 use Rattle.presolve_model.specs.Enabled.{reads, reading_of, enabled_on}
 use Rattle.presolve_model.specs.Replay.{replay, Replays, edits_along}
-use Rattle.presolve_model.specs.Tables.{edits}
 use Rattle.presolve_model.proofs.ByCases.{reductions_owe}
 use Rattle.presolve_model.proofs.Lists.{map_same}
 use Rattle.presolve_model.proofs.Readings.{enabled_same, reading_same}

@@ -1,11 +1,10 @@
 -- Looks at all first ids, with no case: one induction over the rules in order.
-use Rattle.std.proofs.Common.{◌≡◌, ℕ, ◌+◌, zero, suc, ◌<◌, Bool, true, false, List, [], ◌∷◌, ◌++◌, map, length, get_or, refl, sym, ap, ap₂, ◌∙◌, subst, arith}
+use Rattle.std.proofs.Common.{◌≡◌, ℕ, ◌+◌, zero, suc, ◌<◌, Bool, true, false, List, [], ◌∷◌, ◌++◌, map, length, get_or, refl, sym, ap, ◌∙◌, subst, arith}
 use Rattle.std.specs.Prelude.{if◌then◌else◌}
 use Rattle.std.specs.List.{All, Contains, filter, flat_map, range_with_len}
 use Rattle.std.proofs.lemmas.List.{length-map, map-append}
-use Rattle.std.proofs.lemmas.List.Elements.{All-contains, All-head, All-tail, All-contains_itself, filter-append}
+use Rattle.std.proofs.lemmas.List.Elements.{All-head, All-tail, All-contains_itself, filter-append}
 use Rattle.std.proofs.lemmas.List.FromFn.{length-range_with_len, get_or-range_with_len}
-use Rattle.problem_model.specs.Problems.{IsSparse}
 use Rattle.problem_model.specs.Sparse.{Sparse}
 use Rattle.presolve_model.specs.declared.instance.Rule.{Rule}
 use Rattle.presolve_model.specs.declared.instance.Reduction.{Reduction}
@@ -15,7 +14,7 @@ use Rattle.presolve_model.specs.declared.instance.Instance.TheVariants as at
 use Rattle.presolve_model.specs.Enabled.{enabled_on}
 use Rattle.presolve_model.specs.Instances.{instances_from, id_count, rule_at, id_at}
 use Rattle.presolve_model.specs.Given.{Proposed}
-use Rattle.presolve_model.specs.Scans.{proposal_of, instances_at, found_at, listed, all_ids, all_of}
+use Rattle.presolve_model.specs.Scans.{proposal_of, found_at, listed, all_ids, all_of}
 use Rattle.presolve_model.specs.Stuck.{skipped_on}
 use Rattle.presolve_model.specs.Order.{verdict_order, reduction_order}
 use Rattle.presolve_model.proofs.ByCases.{IsListed, reductions_listed, verdicts_listed, reductions_ordered, verdicts_ordered}

@@ -1,5 +1,5 @@
 -- What the tables give, with no case: each law of reductions from what is owed and from the laws of edits.
-use Rattle.std.proofs.Common.{◌≡◌, ℕ, true, List, [], ◌∷◌, ◌++◌, map, take, length, refl, sym, ap, ◌∙◌, subst, arith}
+use Rattle.std.proofs.Common.{◌≡◌, true, List, ◌++◌, map, take, length, sym, ap, ◌∙◌}
 use Rattle.std.proofs.lemmas.Simd.{map-map}
 use Rattle.rational.specs.Number.{◌+ℚ◌}
 use Rattle.fractions.specs.declared.Numbers.{Numbers}
@@ -11,7 +11,7 @@ use Rattle.undo_records.specs.Walk.{NamesLive, after}
 use Rattle.problem_model.specs.declared.part.Contents.{Contents}
 use Rattle.problem_model.specs.declared.part.Part.{Part}
 use Rattle.problem_model.specs.declared.part.Read.{Read}
-use Rattle.problem_model.specs.Reading.{read_of, Agrees}
+use Rattle.problem_model.specs.Reading.{Agrees}
 use Rattle.problem_model.specs.Flags.{flags_of}
 use Rattle.problem_model.specs.Parts.{contents_of}
 use Rattle.problem_model.specs.Problems.{IsSparse}

@@ -1,5 +1,5 @@
 -- The tables over the rules: what each reads, where it is enabled, its edits, its record and the numbers that it computes. One line a rule.
-use Rattle.std.specs.Prelude.{ℕ, Bool, List, [], ◌∷◌}
+use Rattle.std.specs.Prelude.{Bool, List}
 use Rattle.undo_records.specs.declared.undo.Undo.{Undo}
 use Rattle.problem_model.specs.declared.edit.Edit.{Edit}
 use Rattle.problem_model.specs.declared.part.Contents.{Contents}

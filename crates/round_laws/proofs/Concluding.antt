@@ -1,11 +1,7 @@
 -- What is concluded of a program is one.
-use Rattle.std.proofs.Common.{◌≡◌, Bool, ℕ, List, [], ◌∷◌, map, true, Option, Some, None, sym, refl, ap, ap₂, ◌∙◌, subst}
-use Rattle.rational.specs.Number.{Number}
+use Rattle.std.proofs.Common.{◌≡◌, Bool, ℕ, List, [], ◌∷◌, true, Option, Some, None, sym, refl, ap, ap₂, ◌∙◌, subst}
 use Rattle.lp_model.specs.ProgramData.{ProgramData}
-use Rattle.lp_model.specs.declared.program.Sense.{Sense}
-use Rattle.lp_model.specs.Turning.{signed}
 use Rattle.undo_records.specs.declared.label.Label.{Label}
-use Rattle.undo_records.specs.declared.undo.Undo.{Undo}
 use Rattle.undo_records.specs.Postsolve.{Postsolve}
 use Rattle.undo_records.specs.Walk.{lives}
 use Rattle.problem_model.specs.Programs.{written_program}
@@ -17,7 +13,7 @@ use Rattle.presolve_model.specs.declared.instance.Verdict.{Verdict}
 use Rattle.presolve_model.specs.Conclusions.{Concluded, Decided}
 use Rattle.presolve_model.specs.Ledger.{Ledger}
 use Rattle.presolve_model.specs.Ordered.{new_book, Ordered, RunsTo}
-use Rattle.presolve_model.specs.Telling.{are_live, IsToldOf, names_in}
+use Rattle.presolve_model.specs.Telling.{IsToldOf, names_in}
 use Rattle.round_laws.proofs.OneProblem.{one_problem}
 use Rattle.round_laws.proofs.Runs.{ordered_same}
 

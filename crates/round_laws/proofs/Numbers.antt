@@ -19,7 +19,7 @@ use Rattle.problem_model.specs.Programs.{bounds_of, IsProblemOf, line_of, sides_
 use Rattle.problem_model.specs.Reading.{read_of}
 use Rattle.problem_model.specs.Sparse.{Sparse}
 use Rattle.presolve_model.specs.declared.instance.Instance.{Instance}
-use Rattle.presolve_model.specs.Enabled.{reads, reading_of}
+use Rattle.presolve_model.specs.Enabled.{reads}
 use Rattle.presolve_model.proofs.Readings.{parts_same, reading_same}
 use Rattle.round_laws.specs.Passing.{are_unchanged, IsFresh, IsLaterAt}
 use Rattle.round_laws.proofs.Committing.{fresh_parts, same_reads}

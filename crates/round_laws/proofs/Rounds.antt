@@ -1,5 +1,5 @@
 -- A pass is a round; and what a round that applied nothing says.
-use Rattle.std.proofs.Common.{◌≡◌, ◌≢◌, ◌⊎◌, inl, inr, ℕ, zero, suc, ◌+◌, ◌<◌, ◌≤◌, Bool, true, false, List, [], ◌∷◌, ◌++◌, length, map, Some, None, sym, refl, ap, ap₂, ◌∙◌, subst, arith, length-append}
+use Rattle.std.proofs.Common.{◌≡◌, ◌⊎◌, inl, inr, ℕ, zero, suc, ◌+◌, ◌<◌, ◌≤◌, Bool, true, false, List, [], ◌∷◌, ◌++◌, length, Some, None, sym, refl, ap, ap₂, ◌∙◌, subst, arith, length-append}
 use Rattle.std.specs.Prelude.{if◌then◌else◌}
 use Rattle.std.specs.List.{Contains, filter}
 use Rattle.std.proofs.lemmas.List.{append-nil}
@@ -9,8 +9,6 @@ use Rattle.problem_model.specs.declared.part.Part.{Part}
 use Rattle.problem_model.specs.Sparse.{Sparse}
 use Rattle.presolve_model.specs.declared.instance.Instance.{Instance}
 use Rattle.presolve_model.specs.declared.instance.Instance.TheVariants as at
-use Rattle.presolve_model.specs.declared.instance.Reduction.{Reduction}
-use Rattle.presolve_model.specs.declared.instance.Rule.{Rule}
 use Rattle.presolve_model.specs.declared.instance.Verdict.{Verdict}
 use Rattle.presolve_model.specs.declared.outcome.Outcome.{Outcome}
 use Rattle.presolve_model.specs.Commits.{CanWrite, Fits, IsOpen, left_by, with_instance}
@@ -19,7 +17,6 @@ use Rattle.presolve_model.specs.Given.{Proposed}
 use Rattle.presolve_model.specs.Ledger.{instance_count, Ledger}
 use Rattle.presolve_model.specs.Order.{reduction_order, verdict_order}
 use Rattle.presolve_model.specs.Ordered.{Committed, enabled_verdicts, round_list}
-use Rattle.presolve_model.specs.Replay.{CanApply}
 use Rattle.presolve_model.specs.Scans.{all_ids, all_of, listed, proposal_of}
 use Rattle.presolve_model.specs.Stuck.{IsUndecided, Stuck}
 use Rattle.presolve_model.proofs.ByCases.{reductions_ordered, verdicts_listed, verdicts_ordered}

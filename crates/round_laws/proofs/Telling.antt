@@ -1,9 +1,8 @@
 -- What a book that was opened with a program's problem says of the program.
-use Rattle.std.proofs.Common.{◌≡◌, ◌≢◌, ℕ, Bool, true, false, length, map, sym, refl, ap, ◌∙◌, subst, Option, Some, None, IfSome}
+use Rattle.std.proofs.Common.{◌≡◌, Bool, true, false, sym, refl, ap, ◌∙◌, subst, Option, Some, None, IfSome}
 use Rattle.std.specs.Prelude.{not, if◌then◌else◌}
 use Rattle.rational.specs.Number.{Number}
 use Rattle.rational.specs.Compare.{le_ℚ}
-use Rattle.fractions.specs.declared.Numbers.{Numbers}
 use Rattle.lp_model.specs.declared.program.Sense.TheVariants.{Min}
 use Rattle.lp_model.specs.ProgramData.{ProgramData}
 use Rattle.lp_model.specs.Meaning.{meaning}
@@ -27,14 +26,13 @@ use Rattle.problem_model.specs.Problems.{IsSparse, row_at, sides_at}
 use Rattle.problem_model.specs.Programs.{IsProblemOf, written_program}
 use Rattle.presolve_model.specs.Ordered.{RunsTo}
 use Rattle.presolve_model.specs.Replay.{replay}
-use Rattle.problem_model.specs.Showing.{shown}
 use Rattle.problem_model.specs.Sparse.{Sparse}
 use Rattle.presolve_model.specs.Stuck.{IsUndecided}
 use Rattle.problem_model.specs.Writing.{IsWritable}
 use Rattle.program_laws.specs.Shapes.{IsOf, NoCrossedSides}
 use Rattle.program_laws.proofs.ProblemsShow.{problem_shows_program}
 use Rattle.program_laws.proofs.WrittenShow.{written_ascends}
-use Rattle.program_laws.proofs.Writing.{problem_writable, written_writable}
+use Rattle.program_laws.proofs.Writing.{written_writable}
 use Rattle.history_laws.proofs.Keeping.{sparse_replay, verdict_means, writable_replay}
 use Rattle.history_laws.proofs.Sizes.{replay_size}
 use Rattle.history_laws.proofs.Walks.{is_of, walked_sound}

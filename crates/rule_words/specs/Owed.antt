@@ -7,7 +7,6 @@ use Rattle.lp_model.specs.Reductions.{Reduces}
 use Rattle.undo_records.specs.declared.undo.Undo.{Undo}
 use Rattle.undo_records.specs.Lift.{undone}
 use Rattle.undo_records.specs.Sound.{IsSound}
-use Rattle.lp_model.specs.Flags.{Flags}
 use Rattle.undo_records.specs.Walk.{NamesLive, after}
 use Rattle.problem_model.specs.Flags.{flags_of}
 use Rattle.problem_model.specs.Problems.{IsSparse}

@@ -1,5 +1,5 @@
 -- What a rule reads: heads, and parts that what the heads hold names.
-use Rattle.std.specs.Prelude.{ℕ, ◌++◌, List, [], ◌∷◌, map, Bool}
+use Rattle.std.specs.Prelude.{◌++◌, List, [], ◌∷◌, map}
 use Rattle.lp_model.specs.declared.terms.Term.{Term}
 use Rattle.problem_model.specs.declared.part.Part.{Part}
 use Rattle.problem_model.specs.declared.part.Part.TheVariants as part

@@ -1,9 +1,8 @@
 -- How a run ended is told of the program that is written too.
-use Rattle.std.proofs.Common.{◌≡◌, ◌<◌, length, sym, ap, ◌∙◌, subst}
+use Rattle.std.proofs.Common.{◌≡◌, length, sym, ap, ◌∙◌, subst}
 use Rattle.rational.specs.Number.{Number}
 use Rattle.lp_model.specs.ProgramData.{ProgramData}
 use Rattle.lp_model.specs.Turning.{signed}
-use Rattle.undo_records.specs.Postsolve.{Postsolve}
 use Rattle.problem_model.specs.Edits.{offset_set}
 use Rattle.problem_model.specs.Programs.{IsProblemOf}
 use Rattle.problem_model.specs.Sparse.{Sparse}
@@ -11,7 +10,7 @@ use Rattle.program_laws.proofs.Negating.{signed_twice}
 use Rattle.presolve_model.specs.declared.conclusion.End.{End}
 use Rattle.presolve_model.specs.declared.conclusion.End.TheVariants.{Fixpoint, LimitReached}
 use Rattle.presolve_model.specs.declared.conclusion.Options.{Options}
-use Rattle.presolve_model.specs.Conclusions.{Concluded, TellsEnd}
+use Rattle.presolve_model.specs.Conclusions.{TellsEnd}
 use Rattle.presolve_model.specs.Replay.{replay}
 use Rattle.history_laws.proofs.Keeping.{sparse_replay}
 use Rattle.history_laws.proofs.Sizes.{replay_size}

@@ -1,5 +1,4 @@
-use Rattle.std.proofs.Common.{sym, ◌∙◌, subst, IsOk, Some, Option}
-use Rattle.rational.specs.Number.{Number}
+use Rattle.std.proofs.Common.{sym, ◌∙◌, subst, IsOk, Some}
 use Rattle.lp_model.specs.Ends.{WidthFits}
 use Rattle.lp_model.proofs.writing.width_up.Goals as goal
 
