@@ -10,8 +10,7 @@ use Rattle.problem_model.specs.Noted.{AreNoted}
 use Rattle.problem_model.specs.Parts.{changes_of}
 use Rattle.problem_model.specs.Problems.{IsSparse}
 use Rattle.problem_model.specs.Sparse.{Sparse}
-use Rattle.presolve_model.specs.declared.conclusion.End.{End}
-use Rattle.presolve_model.specs.declared.conclusion.End.TheVariants.{Fixpoint, LimitReached}
+use Rattle.presolve_model.specs.declared.conclusion.End.TheVariants.{LimitReached}
 use Rattle.presolve_model.specs.declared.instance.Instance.{Instance}
 use Rattle.presolve_model.specs.declared.instance.Instance.TheVariants as at
 use Rattle.presolve_model.specs.declared.instance.Rule.{Rule}

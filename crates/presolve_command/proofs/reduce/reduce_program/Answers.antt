@@ -5,8 +5,8 @@ use Rattle.presolve_command.proofs.PlainKept.{comes_back, reads_back}
 use Rattle.presolve_command.specs.Texts.{Outcome}
 use Rattle.presolve_command.proofs.reduce.reduce_program.Goals as goal
 
-pub returns-in-Ok-Reduced : goal.returns-in-Ok-Reduced
-returns-in-Ok-Reduced c =
+pub returns-in_ok-texts-in-Ok-Reduced : goal.returns-in_ok-texts-in-Ok-Reduced
+returns-in_ok-texts-in-Ok-Reduced c =
     let made = c.in-Ok-Reduced.made in
     let concluded = concluded_of c.args.options.now c.args.program c.in-Ok-Reduced.field-0 made c.in-Ok-Reduced.field-0-is c.in-Ok-Reduced.ensures in
     let outcome : Outcome = record { source = c.args.program; program = made.program; records = made.records; report = c.report_for-report.result } in

@@ -1,4 +1,4 @@
-use Rattle.std.proofs.Common.{Option, Some, None, sym, ap, ◌∙◌, subst}
+use Rattle.std.proofs.Common.{Option, Some, None, sym, ap, subst}
 use Rattle.problem_model.specs.Programs.{IsProblemOf}
 use Rattle.presolve_model.specs.declared.conclusion.End.{End}
 use Rattle.presolve_model.specs.declared.conclusion.Options.{Options}

@@ -1,6 +1,5 @@
-use Rattle.std.proofs.Common.{◌≡◌, [], List, Option, sym, ap, ◌∙◌, subst}
+use Rattle.std.proofs.Common.{◌≡◌, [], sym, ap, ◌∙◌, subst}
 use Rattle.problem_model.specs.Sparse.{Sparse}
-use Rattle.presolve_model.specs.declared.instance.Instance.{Instance}
 use Rattle.presolve_model.specs.Ordered.{enabled_verdicts}
 use Rattle.presolve_rounds.specs.Running.{IsFirst}
 use Rattle.presolve_rounds.proofs.Running.{full_undecided}

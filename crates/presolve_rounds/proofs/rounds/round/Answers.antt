@@ -1,4 +1,4 @@
-use Rattle.std.proofs.Common.{◌≡◌, List, [], ap₂, ◌∙◌, subst}
+use Rattle.std.proofs.Common.{List, ap₂, ◌∙◌, subst}
 use Rattle.problem_model.specs.declared.part.Part.{Part}
 use Rattle.problem_model.specs.Sparse.{Sparse}
 use Rattle.round_laws.specs.Choosing.{HoldsParts, visited}
