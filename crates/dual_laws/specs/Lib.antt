@@ -1,0 +1,4 @@
+pub mod Locks
+pub mod FixedByCost
+pub mod DominatedColumn
+pub mod Ray
