@@ -85,29 +85,28 @@ module _ (p : Sparse) (j : ℕ) (s : IsSparse p) (live : (column_at p j).live �
   abbrev high : ℕ → Option Number
   high i = end_if (row_at p i).live (sides_at p i).upper
 
+  -- an end of each row whose coefficient is on a side of 0 is none, where the test says so of one row
+  none_at : (takes : Number → Contents → Bool) (end : ℕ → Option Number) (OnSide : Number → Type 0) → ((i : ℕ) → takes (a i) (contents_of p (part.Sides i)) ≡ true → OnSide (a i) → end i ≡ None) → ((x : Number) → x ≡ zero_ℚ → OnSide x → ⊥)
+      → all_take takes (column_entries p j) (sides_on p j) ≡ true → (i : ℕ) → OnSide (a i) → end i ≡ None
+  none_at takes end OnSide one zero h i k = by (at_row takes h i)
+    where
+      by : (takes (a i) (contents_of p (part.Sides i)) ≡ true) ⊎ (a i ≡ zero_ℚ) → end i ≡ None
+      by (inl e) = one i e k
+      by (inr z) = absurd (zero (a i) z k)
+
   -- no row locks it downwards, where each takes a move down
   pub no_down_lock : all_take takes_down (column_entries p j) (sides_on p j) ≡ true → HasNoDownLock (shown p) j
-  no_down_lock h = record { positive = λ i l k. positive_at i k (at_row takes_down h i); negative = λ i l k. negative_at i k (at_row takes_down h i) }
-    where
-      positive_at : (i : ℕ) → zero_ℚ <ℚ a i → (takes_down (a i) (contents_of p (part.Sides i)) ≡ true) ⊎ (a i ≡ zero_ℚ) → low i ≡ None
-      positive_at i k (inl e) = down_low (a i) (sides_at p i).lower (sides_at p i).upper (row_at p i).live e k
-      positive_at i k (inr z) = absurd (not_above (a i) z k)
-
-      negative_at : (i : ℕ) → a i <ℚ zero_ℚ → (takes_down (a i) (contents_of p (part.Sides i)) ≡ true) ⊎ (a i ≡ zero_ℚ) → high i ≡ None
-      negative_at i k (inl e) = down_high (a i) (sides_at p i).lower (sides_at p i).upper (row_at p i).live e k
-      negative_at i k (inr z) = absurd (not_below (a i) z k)
+  no_down_lock h = record {
+    positive = λ i l k. none_at takes_down low (λ x. zero_ℚ <ℚ x) (λ i. down_low (a i) (sides_at p i).lower (sides_at p i).upper (row_at p i).live) not_above h i k;
+    negative = λ i l k. none_at takes_down high (λ x. x <ℚ zero_ℚ) (λ i. down_high (a i) (sides_at p i).lower (sides_at p i).upper (row_at p i).live) not_below h i k;
+  }
 
   -- none locks it upwards, where each takes a move up
   pub no_up_lock : all_take takes_up (column_entries p j) (sides_on p j) ≡ true → HasNoUpLock (shown p) j
-  no_up_lock h = record { positive = λ i l k. positive_at i k (at_row takes_up h i); negative = λ i l k. negative_at i k (at_row takes_up h i) }
-    where
-      positive_at : (i : ℕ) → zero_ℚ <ℚ a i → (takes_up (a i) (contents_of p (part.Sides i)) ≡ true) ⊎ (a i ≡ zero_ℚ) → high i ≡ None
-      positive_at i k (inl e) = up_high (a i) (sides_at p i).lower (sides_at p i).upper (row_at p i).live e k
-      positive_at i k (inr z) = absurd (not_above (a i) z k)
-
-      negative_at : (i : ℕ) → a i <ℚ zero_ℚ → (takes_up (a i) (contents_of p (part.Sides i)) ≡ true) ⊎ (a i ≡ zero_ℚ) → low i ≡ None
-      negative_at i k (inl e) = up_low (a i) (sides_at p i).lower (sides_at p i).upper (row_at p i).live e k
-      negative_at i k (inr z) = absurd (not_below (a i) z k)
+  no_up_lock h = record {
+    positive = λ i l k. none_at takes_up high (λ x. zero_ℚ <ℚ x) (λ i. up_high (a i) (sides_at p i).lower (sides_at p i).upper (row_at p i).live) not_above h i k;
+    negative = λ i l k. none_at takes_up low (λ x. x <ℚ zero_ℚ) (λ i. up_low (a i) (sides_at p i).lower (sides_at p i).upper (row_at p i).live) not_below h i k;
+  }
 
 -- ---- costs
 pub cost_live : (on : Bool) (c : Number) → on ≡ true → (if on then c else zero_ℚ) ≡ c
