@@ -1,6 +1,6 @@
 -- K11: a column k that another column j without an upper bound can stand in for, no dearer and no worse in any row, stays at its lower bound.
 use Rattle.std.specs.Prelude.{ℕ, ⊤, Bool, true, false, not, ◌&&◌, ◌||◌, nat_eq, nat_le, List, [], ◌∷◌, ◌++◌, length, map, is_none}
-use Rattle.std.specs.List.{filter}
+use Rattle.std.specs.List.{filter, flat_map}
 use Rattle.rational.specs.Number.{Number}
 use Rattle.rational.specs.Compare.{le_ℚ}
 use Rattle.lp_model.specs.declared.terms.Term.{Term}
@@ -43,6 +43,10 @@ abbrev pub all_take_over : Vector → Vector → List ℕ → List Contents → 
 all_take_over a b [] sides = true
 all_take_over a b (i ∷ is) [] = false
 all_take_over a b (i ∷ is) (s ∷ ss) = takes_over (a i) (b i) s && all_take_over a b is ss
+
+-- the pairs of columns that the terms of a row name, in order
+abbrev pub pairs_of : List Term → List (ℕ × ℕ)
+pairs_of ts = flat_map (λ t. map (λ u. (t.id, u.id)) ts) ts
 
 -- both stand in a row of at most 64 entries
 abbrev pub share : List Term → ℕ → ℕ → Bool
