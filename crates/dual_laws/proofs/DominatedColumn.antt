@@ -1,5 +1,5 @@
 -- K11.
-use Rattle.std.proofs.Common.{◌≡◌, ◌≢◌, ◌⊎◌, inl, inr, ℕ, Bool, true, false, not, ◌&&◌, ◌||◌, IsTrue, nat_eq, List, [], ◌∷◌, ◌++◌, map, Option, Some, None, is_none, unwrap_or, refl, sym, ap, ap₂, ◌∙◌, subst, true≢false}
+use Rattle.std.proofs.Common.{◌≡◌, ◌≢◌, ◌⊎◌, inl, inr, ℕ, Bool, true, false, not, ◌&&◌, ◌||◌, IsTrue, nat_eq, nat_le, List, [], ◌∷◌, ◌++◌, length, map, Option, Some, None, is_none, unwrap_or, refl, sym, ap, ap₂, ◌∙◌, subst, true≢false}
 use Rattle.std.specs.Prelude.{if◌then◌else◌}
 use Rattle.std.specs.List.{All, filter}
 use Rattle.std.proofs.lemmas.Bool.{and_parts, cases_eq, eq-eqb}
@@ -40,11 +40,13 @@ use Rattle.dual_laws.specs.Locks.{are_uncrossed}
 use Rattle.dual_laws.proofs.Locks.{column_has, cost_live, none_is}
 
 -- what the condition says: a live row and two live columns, j without an upper bound and no dearer than k, which has v as its lower bound
-pub record Said (row first second : Bool) (j k : ℕ) (ts us : List Term) (c d : Number) (u : Option Number) (w : Bool) (m n : Option Number) (x : Bool) (sides : List Contents) (v : Number) : Type 0 where
+pub record Said (row first second : Bool) (j k : ℕ) (rs ts us : List Term) (c d : Number) (u : Option Number) (w : Bool) (m n : Option Number) (x : Bool) (sides : List Contents) (v : Number) : Type 0 where
   pub row_live : row ≡ true
   pub first_live : first ≡ true
   pub second_live : second ≡ true
   pub differ : j ≢ k
+  pub first_in : has j rs ≡ true
+  pub second_in : has k rs ≡ true
   pub endless : u ≡ None
   pub apart : is_apart m n ≡ true
   pub place : Finite m x v
@@ -64,9 +66,10 @@ module _ (j k : ℕ) (row ts us : List Term) (c d : Number) (l u m n : Option Nu
   over = all_take_over (dense ts) (dense us) (rows_of_both ts us) sides
 
   parts_said : is_dominated (holding.Entries row) (holding.Column ts c) (holding.Column us d) (holding.Bounds l u w) (holding.Bounds m n x) sides j k ≡ true
-      → Said true true true j k ts us c d u w m n x sides (unwrap_or m zero_ℚ)
+      → Said true true true j k row ts us c d u w m n x sides (unwrap_or m zero_ℚ)
   parts_said e =
       let e1 = and_parts (not (nat_eq j k)) (share row j k && (is_none u && (is_apart m n && (is_place m x && (le_ℚ c d && ((not w || x) && (are_uncrossed sides && over))))))) e in
+      let both = and_parts (has j row) (has k row) (and_parts (nat_le (length row) 64) (has j row && has k row) (and_parts (share row j k) (is_none u && (is_apart m n && (is_place m x && (le_ℚ c d && ((not w || x) && (are_uncrossed sides && over)))))) e1.1).0).1 in
       let e2 = and_parts (share row j k) (is_none u && (is_apart m n && (is_place m x && (le_ℚ c d && ((not w || x) && (are_uncrossed sides && over)))))) e1.1 in
       let e3 = and_parts (is_none u) (is_apart m n && (is_place m x && (le_ℚ c d && ((not w || x) && (are_uncrossed sides && over))))) e2.1 in
       let e4 = and_parts (is_apart m n) (is_place m x && (le_ℚ c d && ((not w || x) && (are_uncrossed sides && over)))) e3.1 in
@@ -79,6 +82,8 @@ module _ (j k : ℕ) (row ts us : List Term) (c d : Number) (l u m n : Option Nu
         first_live = refl;
         second_live = refl;
         differ = differ_of j k e1.0;
+        first_in = both.0;
+        second_in = both.1;
         endless = none_is u e3.0;
         apart = e4.0;
         place = finite_end m x e5.0;
@@ -90,7 +95,7 @@ module _ (j k : ℕ) (row ts us : List Term) (c d : Number) (l u m n : Option Nu
 says : (f : Part → Contents) (j k : ℕ) (row ts us : List Term) (c d : Number) (l u m n : Option Number) (w x : Bool) (r a b : Bool)
     → is_dominated (if r then holding.Entries row else holding.Gone) (if a then holding.Column ts c else holding.Gone) (if b then holding.Column us d else holding.Gone) (if a then holding.Bounds l u w else holding.Gone) (if b then holding.Bounds m n x else holding.Gone)
     (map f (map part.Sides (rows_of_both (terms_in (if a then holding.Column ts c else holding.Gone)) (terms_in (if b then holding.Column us d else holding.Gone))))) j k ≡ true
-    → Said r a b j k ts us c d u w m n x (map f (map part.Sides (rows_of_both ts us))) (unwrap_or m zero_ℚ)
+    → Said r a b j k row ts us c d u w m n x (map f (map part.Sides (rows_of_both ts us))) (unwrap_or m zero_ℚ)
 says f j k row ts us c d l u m n w x true true true e = parts_said j k row ts us c d l u m n w x (map f (map part.Sides (rows_of_both ts us))) e
 says f j k row ts us c d l u m n w x true true false e = absurd (not_true e)
 says f j k row ts us c d l u m n w x true false b e = absurd (not_true e)
@@ -100,7 +105,7 @@ abbrev sides_of_both : Sparse → ℕ → ℕ → List Contents
 sides_of_both p j k = map (contents_of p) (map part.Sides (rows_of_both (column_entries p j) (column_entries p k)))
 
 abbrev SaidAt : Sparse → ℕ → ℕ → ℕ → Type 0
-SaidAt p i j k = Said (row_at p i).live (column_at p j).live (column_at p k).live j k (column_entries p j) (column_entries p k) (cost_at p j) (cost_at p k) (bounds_at p j).upper (bounds_at p j).whole
+SaidAt p i j k = Said (row_at p i).live (column_at p j).live (column_at p k).live j k (row_entries p i) (column_entries p j) (column_entries p k) (cost_at p j) (cost_at p k) (bounds_at p j).upper (bounds_at p j).whole
     (bounds_at p k).lower (bounds_at p k).upper (bounds_at p k).whole (sides_of_both p j k) (unwrap_or (bounds_at p k).lower zero_ℚ)
 
 pub said : (p : Sparse) (i j k : ℕ) → enabled p i j k ≡ true → SaidAt p i j k

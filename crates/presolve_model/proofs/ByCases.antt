@@ -1,17 +1,17 @@
 -- The laws of the tables by cases: one line a rule.
-use Rattle.std.proofs.Common.{◌≡◌, ◌<◌, true, [], ◌∷◌, refl, sym, subst, arith}
+use Rattle.std.proofs.Common.{◌≡◌, ◌<◌, true, [], ◌∷◌, refl, sym, subst, arith, true≢false}
 use Rattle.std.specs.List.{Contains}
 use Rattle.rational.specs.Number.{Number}
 use Rattle.lp_model.specs.declared.program.Sense.{Sense}
 use Rattle.lp_model.specs.LinearProgram.{LinearProgram}
 use Rattle.lp_model.specs.Reductions.{Reduces}
 use Rattle.lp_model.specs.Vectors.{Vector}
-use Rattle.lp_model.specs.Verdicts.{NoPoint}
+use Rattle.lp_model.specs.Verdicts.{NoPoint, NoPointOrEndless}
 use Rattle.lp_model.specs.declared.program.Sense.TheVariants.{Min}
 use Rattle.lp_model.specs.Turning.{minimizing}
-use Rattle.lp_passages.proofs.Turns.{no_point_in}
-use Rattle.lp_theory.proofs.Verdicts.{no_point_back}
-use Rattle.problem_model.specs.Problems.{IsSparse}
+use Rattle.lp_passages.proofs.Turns.{either_in, no_point_in}
+use Rattle.lp_theory.proofs.Verdicts.{no_point_back, no_point_or_endless_back}
+use Rattle.problem_model.specs.Problems.{IsSparse, row_entries}
 use Rattle.problem_model.specs.Showing.{shown}
 use Rattle.problem_model.specs.Sparse.{Sparse}
 use Rattle.problem_laws.proofs.AtIds.{row_inside, column_inside}
@@ -23,17 +23,22 @@ use Rattle.singleton_laws.proofs.RoundBounds as round_bounds
 use Rattle.singleton_laws.proofs.EmptyColumn as empty_column
 use Rattle.singleton_laws.proofs.CrossedBounds as crossed_bounds
 use Rattle.singleton_laws.proofs.CrossedSides as crossed_sides
+use Rattle.dual_laws.specs.DominatedColumn.{pairs_of}
+use Rattle.dual_laws.proofs.FixedByCost as fixed_by_cost
+use Rattle.dual_laws.proofs.DominatedColumn as dominated_column
+use Rattle.dual_laws.proofs.Ray as ray
 use Rattle.presolve_model.specs.declared.instance.Instance.{Instance}
 use Rattle.presolve_model.specs.declared.instance.Instance.TheVariants as at
 use Rattle.presolve_model.specs.declared.instance.Reduction.{Reduction}
-use Rattle.presolve_model.specs.declared.instance.Reduction.TheVariants.{EmptyRow, SingletonRow, FixedColumn, RoundBounds, EmptyColumn}
+use Rattle.presolve_model.specs.declared.instance.Reduction.TheVariants.{EmptyRow, SingletonRow, FixedColumn, RoundBounds, FixedByCost, DominatedColumn, EmptyColumn}
 use Rattle.presolve_model.specs.declared.instance.Verdict.{Verdict}
-use Rattle.presolve_model.specs.declared.instance.Verdict.TheVariants.{CrossedBounds, CrossedSides}
+use Rattle.presolve_model.specs.declared.instance.Verdict.TheVariants.{CrossedBounds, CrossedSides, Ray}
 use Rattle.presolve_model.specs.Enabled.{enabled_on}
 use Rattle.presolve_model.specs.Instances.{instances_from, id_count, rule_of, rule_at, id_at}
-use Rattle.presolve_model.specs.Meanings.{Meant}
+use Rattle.presolve_model.specs.Meanings.{Meant, says_no_point}
 use Rattle.presolve_model.specs.Order.{verdict_order, reduction_order}
 use Rattle.presolve_model.specs.Tables.{edits, record_of}
+use Rattle.presolve_model.proofs.Lists.{contains_map, contains_pair}
 
 -- ---- what each rule owes
 pub reductions_owe : (p : Sparse) (r : Reduction) → IsSparse p → enabled_on p (at.Reduction r) ≡ true → Owes p (edits r p) (record_of r p)
@@ -42,6 +47,8 @@ reductions_owe p (EmptyRow i) s e = empty_row.owes p i s e
 reductions_owe p (SingletonRow i) s e = singleton_row.owes p i s e
 reductions_owe p (FixedColumn j) s e = fixed_column.owes p j s e
 reductions_owe p (RoundBounds j) s e = round_bounds.owes p j s e
+reductions_owe p (FixedByCost j) s e = fixed_by_cost.owes p j s e
+reductions_owe p (DominatedColumn i j k) s e = dominated_column.owes p i j k s e
 reductions_owe p (EmptyColumn j) s e = empty_column.owes p j s e
 
 -- ---- each enabled instance is among those of its rule and its first id, which is the problem's
@@ -57,11 +64,17 @@ reductions_listed p (EmptyRow i) e = alone p (at.Reduction (EmptyRow i)) (row_in
 reductions_listed p (SingletonRow i) e = alone p (at.Reduction (SingletonRow i)) (row_inside p i (singleton_row.said p i e).live) refl
 reductions_listed p (FixedColumn j) e = alone p (at.Reduction (FixedColumn j)) (column_inside p j (fixed_column.said p j e).live) refl
 reductions_listed p (RoundBounds j) e = alone p (at.Reduction (RoundBounds j)) (column_inside p j (round_bounds.said p j e).live) refl
+reductions_listed p (FixedByCost j) e = alone p (at.Reduction (FixedByCost j)) (column_inside p j (fixed_by_cost.said p j e).live) refl
+reductions_listed p (DominatedColumn i j k) e = let o = dominated_column.said p i j k e in record {
+  within = row_inside p i o.row_live;
+  there = contains_map (λ x. at.Reduction (DominatedColumn i x.0 x.1)) (pairs_of (row_entries p i)) (j, k) (contains_pair (row_entries p i) j k o.first_in o.second_in);
+}
 reductions_listed p (EmptyColumn j) e = alone p (at.Reduction (EmptyColumn j)) (column_inside p j (empty_column.said p j e).live) refl
 
 pub verdicts_listed : (p : Sparse) (v : Verdict) → enabled_on p (at.Verdict v) ≡ true → IsListed p (at.Verdict v)
 verdicts_listed p (CrossedBounds j) e = alone p (at.Verdict (CrossedBounds j)) (column_inside p j (crossed_bounds.said p j e).live) refl
 verdicts_listed p (CrossedSides i) e = alone p (at.Verdict (CrossedSides i)) (row_inside p i (crossed_sides.said p i e).live) refl
+verdicts_listed p (Ray j) e = alone p (at.Verdict (Ray j)) (column_inside p j (ray.said p j e).live) refl
 
 -- ---- each rule has its place in the order
 pub reductions_ordered : (r : Reduction) → Contains reduction_order (rule_of r)
@@ -69,26 +82,38 @@ reductions_ordered (EmptyRow i) = (0, omega arith, refl)
 reductions_ordered (SingletonRow i) = (1, omega arith, refl)
 reductions_ordered (FixedColumn j) = (2, omega arith, refl)
 reductions_ordered (RoundBounds j) = (3, omega arith, refl)
-reductions_ordered (EmptyColumn j) = (4, omega arith, refl)
+reductions_ordered (FixedByCost j) = (4, omega arith, refl)
+reductions_ordered (DominatedColumn i j k) = (5, omega arith, refl)
+reductions_ordered (EmptyColumn j) = (6, omega arith, refl)
 
 pub verdicts_ordered : (v : Verdict) → Contains verdict_order (rule_at (at.Verdict v))
 verdicts_ordered (CrossedBounds j) = (0, omega arith, refl)
 verdicts_ordered (CrossedSides i) = (1, omega arith, refl)
+verdicts_ordered (Ray j) = (2, omega arith, refl)
 
 -- ---- what verdicts mean; that it goes back along reductions; and what it says of a program that is maximized
 pub verdicts_mean : (p : Sparse) (v : Verdict) → IsSparse p → enabled_on p (at.Verdict v) ≡ true → Meant v Min (shown p)
 verdicts_mean p (CrossedBounds j) s e = crossed_bounds.decides p j s e
 verdicts_mean p (CrossedSides i) s e = crossed_sides.decides p i s e
+verdicts_mean p (Ray j) s e = ray.decides p j s e
 
 pub meant_back : (v : Verdict) (M R : LinearProgram) (f : Vector → Vector) (k : Number) → Reduces Min M R f k → Meant v Min R → Meant v Min M
 meant_back (CrossedBounds j) M R f k h m = no_point_back Min M R f k h m
 meant_back (CrossedSides i) M R f k h m = no_point_back Min M R f k h m
+meant_back (Ray j) M R f k h m = no_point_or_endless_back Min M R f k h m
 
 pub meant_in : (v : Verdict) (d : Sense) (M : LinearProgram) → Meant v Min (minimizing d M) → Meant v d M
 meant_in (CrossedBounds j) d M h = no_point_in d M h
 meant_in (CrossedSides i) d M h = no_point_in d M h
+meant_in (Ray j) d M h = either_in d M h
 
--- ---- the verdicts that say that no point is feasible
-pub meant_no_point : (v : Verdict) (d : Sense) (M : LinearProgram) → Meant v d M → NoPoint M
-meant_no_point (CrossedBounds j) d M h = h
-meant_no_point (CrossedSides i) d M h = h
+-- ---- a verdict that says that no point is feasible says so, and each says that none is, or that no cost is the least
+pub meant_no_point : (v : Verdict) (d : Sense) (M : LinearProgram) → says_no_point v ≡ true → Meant v d M → NoPoint M
+meant_no_point (CrossedBounds j) d M e h = h
+meant_no_point (CrossedSides i) d M e h = h
+meant_no_point (Ray j) d M e h = absurd (true≢false (sym e))
+
+pub meant_either : (v : Verdict) (d : Sense) (M : LinearProgram) → Meant v d M → NoPointOrEndless d M
+meant_either (CrossedBounds j) d M h = λ x f. absurd (h x f)
+meant_either (CrossedSides i) d M h = λ x f. absurd (h x f)
+meant_either (Ray j) d M h = h

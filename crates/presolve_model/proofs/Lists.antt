@@ -1,7 +1,12 @@
 -- What lists contain.
-use Rattle.std.proofs.Common.{◌≡◌, ℕ, zero, suc, ◌<◌, List, [], ◌∷◌, ◌++◌, length, map, get_or, ap₂, refl, sym, subst, arith}
+use Rattle.std.proofs.Common.{◌≡◌, ◌≢◌, ◌⊎◌, inl, inr, ℕ, true, zero, suc, ◌<◌, List, [], ◌∷◌, ◌++◌, length, map, get_or, ap, ap₂, refl, sym, ◌∙◌, subst, arith, true≢false}
 use Rattle.std.specs.List.{All, Contains, flat_map}
+use Rattle.std.proofs.lemmas.Bool.{cases_eq}
 use Rattle.std.proofs.lemmas.List.Elements.{All-nil, All-cons, All-head, All-tail, Contains-append_left, Contains-append_right}
+use Rattle.lp_model.specs.declared.terms.Term.{Term}
+use Rattle.lp_model.specs.Sparse.{has}
+use Rattle.problem_laws.proofs.Terms.{has-cons_other}
+use Rattle.dual_laws.specs.DominatedColumn.{pairs_of}
 
 flat_at : {X Y : Type 0} (f : X → List Y) (xs : List X) (x : X) (y : Y) (k : ℕ) → k < length xs → get_or xs k x ≡ x → Contains (f x) y → Contains (flat_map f xs) y
 flat_at f [] x y k l e d = absurd (omega (arith, l))
@@ -10,6 +15,28 @@ flat_at f (z ∷ xs) x y (suc k) l e d = Contains-append_right (f z) (flat_map f
 
 pub contains_flat : {X Y : Type 0} (f : X → List Y) (xs : List X) (x : X) (y : Y) → Contains xs x → Contains (f x) y → Contains (flat_map f xs) y
 contains_flat f xs x y c d = flat_at f xs x y c.0 c.1 c.2 d
+
+pub contains_map : {X Y : Type 0} (f : X → Y) (xs : List X) (x : X) → Contains xs x → Contains (map f xs) (f x)
+contains_map f [] x (k, l, e) = absurd (omega (arith, l))
+contains_map f (z ∷ xs) x (zero, l, e) = (zero, omega arith, ap f e)
+contains_map f (z ∷ xs) x (suc k, l, e) = let (i, m, d) = contains_map f xs x (k, omega (arith, l), e) in (suc i, omega (arith, m), d)
+
+-- a term with an id that terms have
+term_with : (ts : List Term) (i : ℕ) → has i ts ≡ true → (t : Term) × Contains ts t × (t.id ≡ i)
+term_with [] i h = absurd (true≢false (sym h))
+term_with (t ∷ ts) i h = by (cases_eq t.id i) (term_with ts i)
+  where
+    by : (t.id ≡ i) ⊎ (t.id ≢ i) → (has i ts ≡ true → (u : Term) × Contains ts u × (u.id ≡ i)) → (u : Term) × Contains (t ∷ ts) u × (u.id ≡ i)
+    by (inl e) rest = (t, (zero, omega arith, refl), e)
+    by (inr n) rest = let (u, (k, l, e), d) = rest (sym (has-cons_other i t ts n) ∙ h) in (u, (suc k, omega (arith, l), e), d)
+
+-- a pair of columns that terms name is among those of the terms
+pub contains_pair : (ts : List Term) (j k : ℕ) → has j ts ≡ true → has k ts ≡ true → Contains (pairs_of ts) (j, k)
+contains_pair ts j k h g = by (term_with ts j h) (term_with ts k g)
+  where
+    by : ((t : Term) × Contains ts t × (t.id ≡ j)) → ((u : Term) × Contains ts u × (u.id ≡ k)) → Contains (pairs_of ts) (j, k)
+    by (t, c, e) (u, d, f) = contains_flat (λ t. map (λ u. (t.id, u.id)) ts) ts t (j, k) c
+        (subst (Contains (map (λ u. (t.id, u.id)) ts)) (ap₂ (λ (a b : ℕ). (a, b)) e f) (contains_map (λ u. (t.id, u.id)) ts u d))
 
 pub map_same : {X Y : Type 0} (f g : X → Y) (xs : List X) → All (λ x. f x ≡ g x) xs → map f xs ≡ map g xs
 map_same f g [] h = refl

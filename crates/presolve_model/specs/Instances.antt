@@ -1,10 +1,12 @@
 -- All instances of a rule with a first id, and which rule and which first id an instance has.
-use Rattle.std.specs.Prelude.{ℕ, Bool, true, false, List, [], ◌∷◌, length, if◌then◌else◌}
+use Rattle.std.specs.Prelude.{ℕ, Bool, true, false, List, [], ◌∷◌, length, map, if◌then◌else◌}
+use Rattle.problem_model.specs.Problems.{row_entries}
 use Rattle.problem_model.specs.Sparse.{Sparse}
+use Rattle.dual_laws.specs.DominatedColumn.{pairs_of}
 use Rattle.presolve_model.specs.declared.instance.Reduction.{Reduction}
-use Rattle.presolve_model.specs.declared.instance.Reduction.TheVariants.{EmptyRow, SingletonRow, FixedColumn, RoundBounds, EmptyColumn}
+use Rattle.presolve_model.specs.declared.instance.Reduction.TheVariants.{EmptyRow, SingletonRow, FixedColumn, RoundBounds, FixedByCost, DominatedColumn, EmptyColumn}
 use Rattle.presolve_model.specs.declared.instance.Verdict.{Verdict}
-use Rattle.presolve_model.specs.declared.instance.Verdict.TheVariants.{CrossedBounds, CrossedSides}
+use Rattle.presolve_model.specs.declared.instance.Verdict.TheVariants.{CrossedBounds, CrossedSides, Ray}
 use Rattle.presolve_model.specs.declared.instance.Rule.{Rule}
 use Rattle.presolve_model.specs.declared.instance.Rule.TheVariants as rule
 use Rattle.presolve_model.specs.declared.instance.Instance.{Instance}
@@ -14,21 +16,41 @@ use Rattle.presolve_model.specs.declared.instance.Instance.TheVariants as at
 abbrev pub instances_from : Sparse → Rule → ℕ → List Instance
 instances_from p rule.CrossedBounds j = at.Verdict (CrossedBounds j) ∷ []
 instances_from p rule.CrossedSides i = at.Verdict (CrossedSides i) ∷ []
+instances_from p rule.Ray j = at.Verdict (Ray j) ∷ []
 instances_from p rule.EmptyRow i = at.Reduction (EmptyRow i) ∷ []
 instances_from p rule.SingletonRow i = at.Reduction (SingletonRow i) ∷ []
 instances_from p rule.FixedColumn j = at.Reduction (FixedColumn j) ∷ []
 instances_from p rule.RoundBounds j = at.Reduction (RoundBounds j) ∷ []
+instances_from p rule.FixedByCost j = at.Reduction (FixedByCost j) ∷ []
+instances_from p rule.DominatedColumn i = map (λ x. at.Reduction (DominatedColumn i x.0 x.1)) (pairs_of (row_entries p i))
 instances_from p rule.EmptyColumn j = at.Reduction (EmptyColumn j) ∷ []
 
 -- whether the first ids of a rule are those of rows; else they are those of columns
 abbrev pub is_of_rows : Rule → Bool
 is_of_rows rule.CrossedBounds = false
 is_of_rows rule.CrossedSides = true
+is_of_rows rule.Ray = false
 is_of_rows rule.EmptyRow = true
 is_of_rows rule.SingletonRow = true
 is_of_rows rule.FixedColumn = false
 is_of_rows rule.RoundBounds = false
+is_of_rows rule.FixedByCost = false
+is_of_rows rule.DominatedColumn = true
 is_of_rows rule.EmptyColumn = false
+
+-- from each part that an enabled instance reads, its first id is so many steps away, a step being that from a row to a column that stands in
+-- it, or from a column to such a row
+abbrev pub steps_of : Rule → ℕ
+steps_of rule.CrossedBounds = 0
+steps_of rule.CrossedSides = 0
+steps_of rule.Ray = 1
+steps_of rule.EmptyRow = 0
+steps_of rule.SingletonRow = 0
+steps_of rule.FixedColumn = 0
+steps_of rule.RoundBounds = 0
+steps_of rule.FixedByCost = 1
+steps_of rule.DominatedColumn = 2
+steps_of rule.EmptyColumn = 0
 
 -- how many there are
 abbrev pub id_count : Sparse → Rule → ℕ
@@ -39,6 +61,8 @@ rule_of (EmptyRow i) = rule.EmptyRow
 rule_of (SingletonRow i) = rule.SingletonRow
 rule_of (FixedColumn j) = rule.FixedColumn
 rule_of (RoundBounds j) = rule.RoundBounds
+rule_of (FixedByCost j) = rule.FixedByCost
+rule_of (DominatedColumn i j k) = rule.DominatedColumn
 rule_of (EmptyColumn j) = rule.EmptyColumn
 
 abbrev pub first_id : Reduction → ℕ
@@ -46,15 +70,19 @@ first_id (EmptyRow i) = i
 first_id (SingletonRow i) = i
 first_id (FixedColumn j) = j
 first_id (RoundBounds j) = j
+first_id (FixedByCost j) = j
+first_id (DominatedColumn i j k) = i
 first_id (EmptyColumn j) = j
 
 abbrev pub verdict_rule : Verdict → Rule
 verdict_rule (CrossedBounds j) = rule.CrossedBounds
 verdict_rule (CrossedSides i) = rule.CrossedSides
+verdict_rule (Ray j) = rule.Ray
 
 abbrev pub verdict_id : Verdict → ℕ
 verdict_id (CrossedBounds j) = j
 verdict_id (CrossedSides i) = i
+verdict_id (Ray j) = j
 
 abbrev pub rule_at : Instance → Rule
 rule_at (at.Reduction r) = rule_of r

@@ -4,7 +4,7 @@ use Rattle.presolve_model.specs.declared.instance.Rule.{Rule}
 use Rattle.presolve_model.specs.declared.instance.Rule.TheVariants as rule
 
 abbrev pub verdict_order : List Rule
-verdict_order = rule.CrossedBounds ∷ rule.CrossedSides ∷ []
+verdict_order = rule.CrossedBounds ∷ rule.CrossedSides ∷ rule.Ray ∷ []
 
 abbrev pub reduction_order : List Rule
-reduction_order = rule.EmptyRow ∷ rule.SingletonRow ∷ rule.FixedColumn ∷ rule.RoundBounds ∷ rule.EmptyColumn ∷ []
+reduction_order = rule.EmptyRow ∷ rule.SingletonRow ∷ rule.FixedColumn ∷ rule.RoundBounds ∷ rule.FixedByCost ∷ rule.DominatedColumn ∷ rule.EmptyColumn ∷ []

@@ -5,7 +5,7 @@ use Rattle.problem_model.specs.declared.edit.Edit.{Edit}
 use Rattle.problem_model.specs.declared.part.Contents.{Contents}
 use Rattle.problem_model.specs.declared.part.Part.{Part}
 use Rattle.problem_model.specs.Sparse.{Sparse}
-use Rattle.rule_words.specs.Reading.{no_more}
+use Rattle.rule_words.specs.Reading.{no_more, sides_named}
 use Rattle.singleton_laws.specs.EmptyRow as empty_row
 use Rattle.singleton_laws.specs.SingletonRow as singleton_row
 use Rattle.singleton_laws.specs.FixedColumn as fixed_column
@@ -13,10 +13,13 @@ use Rattle.singleton_laws.specs.RoundBounds as round_bounds
 use Rattle.singleton_laws.specs.EmptyColumn as empty_column
 use Rattle.singleton_laws.specs.CrossedBounds as crossed_bounds
 use Rattle.singleton_laws.specs.CrossedSides as crossed_sides
+use Rattle.dual_laws.specs.FixedByCost as fixed_by_cost
+use Rattle.dual_laws.specs.DominatedColumn as dominated_column
+use Rattle.dual_laws.specs.Ray as ray
 use Rattle.presolve_model.specs.declared.instance.Reduction.{Reduction}
-use Rattle.presolve_model.specs.declared.instance.Reduction.TheVariants.{EmptyRow, SingletonRow, FixedColumn, RoundBounds, EmptyColumn}
+use Rattle.presolve_model.specs.declared.instance.Reduction.TheVariants.{EmptyRow, SingletonRow, FixedColumn, RoundBounds, FixedByCost, DominatedColumn, EmptyColumn}
 use Rattle.presolve_model.specs.declared.instance.Verdict.{Verdict}
-use Rattle.presolve_model.specs.declared.instance.Verdict.TheVariants.{CrossedBounds, CrossedSides}
+use Rattle.presolve_model.specs.declared.instance.Verdict.TheVariants.{CrossedBounds, CrossedSides, Ray}
 use Rattle.presolve_model.specs.declared.instance.Instance.{Instance}
 use Rattle.presolve_model.specs.declared.instance.Instance.TheVariants as at
 
@@ -26,6 +29,8 @@ heads_of (EmptyRow i) = empty_row.heads i
 heads_of (SingletonRow i) = singleton_row.heads i
 heads_of (FixedColumn j) = fixed_column.heads j
 heads_of (RoundBounds j) = round_bounds.heads j
+heads_of (FixedByCost j) = fixed_by_cost.heads j
+heads_of (DominatedColumn i j k) = dominated_column.heads i j k
 heads_of (EmptyColumn j) = empty_column.heads j
 
 -- what it reads by what the heads hold
@@ -34,6 +39,8 @@ more_of (EmptyRow i) cs = no_more cs
 more_of (SingletonRow i) cs = no_more cs
 more_of (FixedColumn j) cs = no_more cs
 more_of (RoundBounds j) cs = no_more cs
+more_of (FixedByCost j) cs = sides_named cs
+more_of (DominatedColumn i j k) cs = dominated_column.more cs
 more_of (EmptyColumn j) cs = no_more cs
 
 -- its condition on what it read
@@ -42,6 +49,8 @@ holds_of (EmptyRow i) cs = empty_row.holds cs
 holds_of (SingletonRow i) cs = singleton_row.holds cs
 holds_of (FixedColumn j) cs = fixed_column.holds cs
 holds_of (RoundBounds j) cs = round_bounds.holds cs
+holds_of (FixedByCost j) cs = fixed_by_cost.holds cs
+holds_of (DominatedColumn i j k) cs = dominated_column.holds j k cs
 holds_of (EmptyColumn j) cs = empty_column.holds cs
 
 -- its edits
@@ -50,6 +59,8 @@ edits (EmptyRow i) p = empty_row.edits p i
 edits (SingletonRow i) p = singleton_row.edits p i
 edits (FixedColumn j) p = fixed_column.edits p j
 edits (RoundBounds j) p = round_bounds.edits p j
+edits (FixedByCost j) p = fixed_by_cost.edits p j
+edits (DominatedColumn i j k) p = dominated_column.edits p k
 edits (EmptyColumn j) p = empty_column.edits p j
 
 -- its record, of the problem before it
@@ -58,6 +69,8 @@ record_of (EmptyRow i) p = empty_row.record_of p i
 record_of (SingletonRow i) p = singleton_row.record_of p i
 record_of (FixedColumn j) p = fixed_column.record_of p j
 record_of (RoundBounds j) p = round_bounds.record_of p j
+record_of (FixedByCost j) p = fixed_by_cost.record_of p j
+record_of (DominatedColumn i j k) p = dominated_column.record_of i j k
 record_of (EmptyColumn j) p = empty_column.record_of p j
 
 -- the numbers that it computes have room
@@ -66,6 +79,8 @@ Computes (EmptyRow i) p = empty_row.Computes p i
 Computes (SingletonRow i) p = singleton_row.Computes p i
 Computes (FixedColumn j) p = fixed_column.Computes p j
 Computes (RoundBounds j) p = round_bounds.Computes p j
+Computes (FixedByCost j) p = fixed_by_cost.Computes p j
+Computes (DominatedColumn i j k) p = dominated_column.Computes p k
 Computes (EmptyColumn j) p = empty_column.Computes p j
 
 -- ---- verdicts
@@ -73,16 +88,19 @@ Computes (EmptyColumn j) p = empty_column.Computes p j
 abbrev pub looked_at_by : Verdict → List Part
 looked_at_by (CrossedBounds j) = crossed_bounds.heads j
 looked_at_by (CrossedSides i) = crossed_sides.heads i
+looked_at_by (Ray j) = ray.heads j
 
 -- what it reads by what the heads hold
 abbrev pub more_by : Verdict → List Contents → List Part
 more_by (CrossedBounds j) cs = no_more cs
 more_by (CrossedSides i) cs = no_more cs
+more_by (Ray j) cs = sides_named cs
 
 -- its condition on what it read
 abbrev pub holds_by : Verdict → List Contents → Bool
 holds_by (CrossedBounds j) cs = crossed_bounds.holds cs
 holds_by (CrossedSides i) cs = crossed_sides.holds cs
+holds_by (Ray j) cs = ray.holds cs
 
 -- ---- instances
 abbrev pub heads : Instance → List Part

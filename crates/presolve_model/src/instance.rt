@@ -7,6 +7,8 @@ pub enum Rule {
     CrossedBounds,
     /// V1 of rows: crossed sides.
     CrossedSides,
+    /// V3: a column that can move without end, which pays.
+    Ray,
     /// K1: a row without entries is deleted.
     EmptyRow,
     /// K2: a row with one entry becomes bounds of that entry's column.
@@ -15,11 +17,15 @@ pub enum Rule {
     FixedColumn,
     /// K4: the bounds of a whole column are rounded inwards.
     RoundBounds,
+    /// K10: a column that no row locks where it costs least is fixed there.
+    FixedByCost,
+    /// K11: a column that another one can stand in for stays at its lower bound.
+    DominatedColumn,
     /// K17: a column without entries is fixed where it costs least.
     EmptyColumn,
 }
 
-/// A rule that changes the problem, at a row or a column by original id.
+/// A rule that changes the problem, at rows and columns by original id.
 #[derive(Clone, Copy, Debug, PartialEq, Eq)]
 pub enum Reduction {
     /// K1.
@@ -30,6 +36,10 @@ pub enum Reduction {
     FixedColumn { column: u32 },
     /// K4.
     RoundBounds { column: u32 },
+    /// K10.
+    FixedByCost { column: u32 },
+    /// K11: in a row that has both, `better` stands in for `column`.
+    DominatedColumn { row: u32, better: u32, column: u32 },
     /// K17.
     EmptyColumn { column: u32 },
 }
@@ -41,6 +51,8 @@ pub enum Verdict {
     CrossedBounds { column: u32 },
     /// V1 at a row: no value is between its sides.
     CrossedSides { row: u32 },
+    /// V3 at a column: each feasible point, if there is one, gives others of any cost.
+    Ray { column: u32 },
 }
 
 /// A rule at a row or a column.
