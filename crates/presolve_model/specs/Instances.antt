@@ -7,6 +7,8 @@ use Rattle.presolve_model.specs.declared.instance.Reduction.{Reduction}
 use Rattle.presolve_model.specs.declared.instance.Reduction.TheVariants.{EmptyRow, SingletonRow, FixedColumn, RoundBounds, FixedByCost, DominatedColumn, EmptyColumn}
 use Rattle.presolve_model.specs.declared.instance.Verdict.{Verdict}
 use Rattle.presolve_model.specs.declared.instance.Verdict.TheVariants.{CrossedBounds, CrossedSides, Ray}
+use Rattle.presolve_model.specs.declared.instance.Reach.{Reach}
+use Rattle.presolve_model.specs.declared.instance.Reach.TheVariants.{Here, Near, Far}
 use Rattle.presolve_model.specs.declared.instance.Rule.{Rule}
 use Rattle.presolve_model.specs.declared.instance.Rule.TheVariants as rule
 use Rattle.presolve_model.specs.declared.instance.Instance.{Instance}
@@ -38,19 +40,18 @@ is_of_rows rule.FixedByCost = false
 is_of_rows rule.DominatedColumn = true
 is_of_rows rule.EmptyColumn = false
 
--- from each part that an enabled instance reads, its first id is so many steps away, a step being that from a row to a column that stands in
--- it, or from a column to such a row
-abbrev pub steps_of : Rule → ℕ
-steps_of rule.CrossedBounds = 0
-steps_of rule.CrossedSides = 0
-steps_of rule.Ray = 1
-steps_of rule.EmptyRow = 0
-steps_of rule.SingletonRow = 0
-steps_of rule.FixedColumn = 0
-steps_of rule.RoundBounds = 0
-steps_of rule.FixedByCost = 1
-steps_of rule.DominatedColumn = 2
-steps_of rule.EmptyColumn = 0
+-- how far the first id of an enabled instance may be from a part that it reads
+abbrev pub reach_of : Rule → Reach
+reach_of rule.CrossedBounds = Here
+reach_of rule.CrossedSides = Here
+reach_of rule.Ray = Near
+reach_of rule.EmptyRow = Here
+reach_of rule.SingletonRow = Here
+reach_of rule.FixedColumn = Here
+reach_of rule.RoundBounds = Here
+reach_of rule.FixedByCost = Near
+reach_of rule.DominatedColumn = Far
+reach_of rule.EmptyColumn = Here
 
 -- how many there are
 abbrev pub id_count : Sparse → Rule → ℕ

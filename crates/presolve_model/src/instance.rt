@@ -25,6 +25,18 @@ pub enum Rule {
     EmptyColumn,
 }
 
+/// How far the first id of an instance may be from a part that it reads. A step is that from a row to a column that stands in it, or from a
+/// column to such a row.
+#[derive(Clone, Copy, Debug, PartialEq, Eq)]
+pub enum Reach {
+    /// It is the row or the column of the part.
+    Here,
+    /// At most one step away.
+    Near,
+    /// At most two steps away.
+    Far,
+}
+
 /// A rule that changes the problem, at rows and columns by original id.
 #[derive(Clone, Copy, Debug, PartialEq, Eq)]
 pub enum Reduction {

@@ -9,6 +9,6 @@ pub mod laws;
 mod outcome;
 
 pub use conclusion::{End, Options};
-pub use instance::{Instance, Reduction, Rule, Verdict};
+pub use instance::{Instance, Reach, Reduction, Rule, Verdict};
 pub use outcome::Outcome;
 pub use problem_model::{Bounds, Contents, Edit, Line, Part, Read, Refusal, Sides};
