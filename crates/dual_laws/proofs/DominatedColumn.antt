@@ -104,7 +104,7 @@ says f j k row ts us c d l u m n w x false a b e = absurd (not_true e)
 abbrev sides_of_both : Sparse → ℕ → ℕ → List Contents
 sides_of_both p j k = map (contents_of p) (map part.Sides (rows_of_both (column_entries p j) (column_entries p k)))
 
-abbrev SaidAt : Sparse → ℕ → ℕ → ℕ → Type 0
+abbrev pub SaidAt : Sparse → ℕ → ℕ → ℕ → Type 0
 SaidAt p i j k = Said (row_at p i).live (column_at p j).live (column_at p k).live j k (row_entries p i) (column_entries p j) (column_entries p k) (cost_at p j) (cost_at p k) (bounds_at p j).upper (bounds_at p j).whole
     (bounds_at p k).lower (bounds_at p k).upper (bounds_at p k).whole (sides_of_both p j k) (unwrap_or (bounds_at p k).lower zero_ℚ)
 

@@ -127,7 +127,7 @@ read_here : (f p : Sparse) (a : Part) → IsLaterAt f p a → (read_of p a ≡ r
 read_here f p a (inl e) = inl e
 read_here f p a (inr l) = inr (λ e. let n = ap (λ (r : Read). r.changes) e in omega (arith, l, n))
 
-abbrev Stays : Sparse → List Read → Type 0
+abbrev pub Stays : Sparse → List Read → Type 0
 Stays p rs = Agrees p rs ⊎ ((k : ℕ) × DiffersAt p rs k)
 
 one_more : (p : Sparse) (r : Read) (rs : List Read) → read_of p r.part ≡ r → Stays p rs → Stays p (r ∷ rs)
@@ -137,7 +137,7 @@ one_more p r rs e (inr (k, d)) = inr (suc k, record { within = let l = d.within 
 here_first : (p : Sparse) (r : Read) (rs : List Read) → read_of p r.part ≢ r → Stays p (r ∷ rs)
 here_first p r rs n = inr (0, record { within = omega arith; before = refl; here = λ x e. let f : r ≡ x = cc in subst (λ (y : Read). read_of p y.part ≢ y) f n })
 
-stays_or_differs : (f p : Sparse) (ps : List Part) → ((a : Part) → IsLaterAt f p a) → Stays p (map (read_of f) ps)
+pub stays_or_differs : (f p : Sparse) (ps : List Part) → ((a : Part) → IsLaterAt f p a) → Stays p (map (read_of f) ps)
 stays_or_differs f p [] h = inl refl
 stays_or_differs f p (a ∷ ps) h = by (read_here f p a (h a)) (stays_or_differs f p ps h)
   where
@@ -147,7 +147,7 @@ stays_or_differs f p (a ∷ ps) h = by (read_here f p a (h a)) (stays_or_differs
 
 -- ---- an instance at its turn
 -- what is stale, or not enabled where it stands, is passed over: whether it was enabled on f, and its commit refused, or not
-refused_how : (b : Ledger) (p : Proposed) → ((k : ℕ) × DiffersAt b.problem p.reading k) → (o : Outcome) × (o ≢ NoMemory) × Allows b p o × (left_by b p o ≡ b)
+pub refused_how : (b : Ledger) (p : Proposed) → ((k : ℕ) × DiffersAt b.problem p.reading k) → (o : Outcome) × (o ≢ NoMemory) × Allows b p o × (left_by b p o ≡ b)
 refused_how b p (k, d) = by b.verdict refl (room p.instance)
   where
     room : (e : Instance) → HasRoom b e ⊎ IsFull b e

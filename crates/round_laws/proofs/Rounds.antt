@@ -22,13 +22,13 @@ use Rattle.presolve_model.specs.Stuck.{IsUndecided, Stuck}
 use Rattle.presolve_model.proofs.ByCases.{reductions_ordered, verdicts_listed, verdicts_ordered}
 use Rattle.presolve_model.proofs.Listing.{among_all, reduction_listed, verdict_listed}
 use Rattle.presolve_model.proofs.Readings.{reading_agrees}
-use Rattle.round_laws.specs.Choosing.{AreSorted, instances_of, IsComplete, Places, proposals, visited}
+use Rattle.round_laws.specs.Choosing.{AreSorted, instances_of, IsComplete, Around, proposals, visited}
 use Rattle.round_laws.specs.Passing.{IsFresh, IsNoted, Passed, Tracks}
 use Rattle.round_laws.proofs.Choosing.{among_there, listed_there}
 use Rattle.round_laws.proofs.Committing.{left_how, left_open, proposals_append, same_reads}
 
 -- ---- a pass over rows and columns where each enabled instance is is a round
-pub passed_round : (b c : Ledger) (n : Places) (noted m : List Part) → AreSorted n → IsComplete b.problem n → Passed b.problem (visited b.problem n) noted b m c → Committed b (round_list b) c
+pub passed_round : (b c : Ledger) (n : Around) (noted m : List Part) → AreSorted n → IsComplete b.problem n → Passed b.problem (visited b.problem n) noted b m c → Committed b (round_list b) c
 passed_round b c n noted m sorted complete h =
     let v : ℕ = instance_count b in
     let p : Sparse = b.problem in
@@ -37,12 +37,12 @@ passed_round b c n noted m sorted complete h =
     ∙ ap₂ (λ (xs ys : List Proposed). xs ++ ys) (listed_there p n sorted complete v verdict_order) (listed_there p n sorted complete v reduction_order) in
     subst (λ (ps : List Proposed). Committed b ps c) same (h.committed v)
 
-visited_there : (p : Sparse) (n : Places) → AreSorted n → IsComplete p n → (e : Instance) → enabled_on p e ≡ true → Contains (visited p n) e
+visited_there : (p : Sparse) (n : Around) → AreSorted n → IsComplete p n → (e : Instance) → enabled_on p e ≡ true → Contains (visited p n) e
 visited_there p n sorted complete (at.Verdict v) on = Contains-append_left (instances_of p n verdict_order) (instances_of p n reduction_order) (at.Verdict v) (among_there p n sorted complete verdict_order (at.Verdict v) on (verdicts_ordered v))
 visited_there p n sorted complete (at.Reduction r) on = Contains-append_right (instances_of p n verdict_order) (instances_of p n reduction_order) (at.Reduction r) (among_there p n sorted complete reduction_order (at.Reduction r) on (reductions_ordered r))
 
 -- and what it notes is read by each enabled instance, if the run goes on
-pub passed_noted : (b c : Ledger) (n : Places) (m : List Part) → AreSorted n → IsComplete b.problem n → Passed b.problem (visited b.problem n) [] b m c → c.verdict ≡ None → length c.history < c.limit
+pub passed_noted : (b c : Ledger) (n : Around) (m : List Part) → AreSorted n → IsComplete b.problem n → Passed b.problem (visited b.problem n) [] b m c → c.verdict ≡ None → length c.history < c.limit
     → (e : Instance) → enabled_on c.problem e ≡ true → IsNoted c.problem m e
 passed_noted b c n m sorted complete h none room e on = by (h.tracks [] start none room e on)
   where

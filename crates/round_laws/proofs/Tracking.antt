@@ -1,5 +1,5 @@
 -- What is enabled reads a part that is noted, or comes to its turn.
-use Rattle.std.proofs.Common.{◌≡◌, ◌⊎◌, inl, inr, zero, suc, ◌<◌, true, List, [], ◌∷◌, ◌++◌, length, map, None, sym, refl, ap₂, ◌∙◌, subst, append_assoc, arith}
+use Rattle.std.proofs.Common.{◌≡◌, ◌⊎◌, inl, inr, suc, ◌<◌, true, List, [], ◌∷◌, ◌++◌, length, map, None, sym, refl, ap₂, ◌∙◌, subst, append_assoc, arith}
 use Rattle.std.specs.List.{Contains}
 use Rattle.problem_model.specs.declared.part.Part.{Part}
 use Rattle.problem_model.specs.declared.part.Read.{Read}
@@ -15,11 +15,7 @@ use Rattle.presolve_model.proofs.Readings.{enabled_same, parts_same, reading_sam
 use Rattle.round_laws.specs.Choosing.{proposals}
 use Rattle.round_laws.specs.Passing.{Follows, IsFresh, IsNoted, Passed, Tracks}
 use Rattle.round_laws.proofs.Committing.{committed_append, fresh_reads, proposals_append, same_reads}
-
--- ---- the first of a list, or behind it
-pub first_or_behind : {X : Type 0} (e : X) (es : List X) (x : X) → Contains (e ∷ es) x → (e ≡ x) ⊎ Contains es x
-first_or_behind e es x (zero, l, h) = inl h
-first_or_behind e es x (suc k, l, h) = inr (k, omega (arith, l), h)
+use Rattle.round_laws.proofs.ShortLists.{first_or_behind}
 
 module _ (f : Sparse) (noted : List Part) (e : Instance) (es : List Instance) (b : Ledger) (t : Tracks f noted (e ∷ es) b) where
   -- the first one is passed over: it is stale, or not enabled

@@ -35,13 +35,13 @@ use Rattle.round_laws.proofs.Committing.{passed_at, passed_over}
 use Rattle.round_laws.proofs.Tracking.{tracks_changed, tracks_more, tracks_noted, tracks_over}
 
 -- ---- a part stands, or has changed once more
-abbrev Moved : Sparse → Sparse → Part → Type 0
+abbrev pub Moved : Sparse → Sparse → Part → Type 0
 Moved p q a = (read_of q a ≡ read_of p a) ⊎ (changes_of q a ≡ risen (changes_of p a))
 
 same_read : (p q : Sparse) (a : Part) → changes_of q a ≡ changes_of p a → contents_of q a ≡ contents_of p a → read_of q a ≡ read_of p a
 same_read p q a e f = ap₂ (λ (n : ℕ) (c : Contents). let r : Read = record { part = a; changes = n; contents = c } in r) e f
 
-moved : (p q : Sparse) (a : Part) → IsCounted p q a → Moved p q a
+pub moved : (p q : Sparse) (a : Part) → IsCounted p q a → Moved p q a
 moved p q a h = by (same_contents (contents_of q a) (contents_of p a)) refl
   where
     by : (b : Bool) → same_contents (contents_of q a) (contents_of p a) ≡ b → Moved p q a
@@ -69,7 +69,7 @@ counted_then : (p q : Sparse) (a : Part) (h k : ℕ) → k ≡ h + 1 → changes
 counted_then p q a h k e few (inl g) = let m : changes_of q a ≡ changes_of p a = ap (λ (r : Read). r.changes) g in omega (arith, m, few, e)
 counted_then p q a h k e few (inr g) = omega (arith, g, few, e)
 
-follows_applied : (f : Sparse) (b : Ledger) (r : Reduction) → Follows f b → enabled_on b.problem (at.Reduction r) ≡ true → length b.history < b.limit → Follows f (with_instance b (at.Reduction r))
+pub follows_applied : (f : Sparse) (b : Ledger) (r : Reduction) → Follows f b → enabled_on b.problem (at.Reduction r) ≡ true → length b.history < b.limit → Follows f (with_instance b (at.Reduction r))
 follows_applied f b r h on room =
     let moves : (a : Part) → Moved b.problem (changed r b.problem) a = λ a. moved b.problem (changed r b.problem) a (counted_changed b.problem r h.sparse on a) in
     let long : length (b.history ++ r ∷ []) ≡ length b.history + 1 = length-append b.history (r ∷ []) in

@@ -1,0 +1,193 @@
+-- Those of some instances that are enabled on the present problem are met in place of all of them: what is left out would be stale at its turn.
+use Rattle.std.proofs.Common.{◌≡◌, ◌≢◌, ◌⊎◌, inl, inr, ℕ, zero, suc, ◌-◌, ◌^◌, ◌<◌, ◌≤◌, Bool, true, false, List, [], ◌∷◌, ◌++◌, length, map, refl, sym, ap, ap₂, ◌∙◌, subst, arith, true≢false}
+use Rattle.std.specs.Prelude.{if◌then◌else◌}
+use Rattle.std.specs.List.{Contains, filter}
+use Rattle.std.proofs.lemmas.List.Elements.{Contains-append_cases, Contains-append_right}
+use Rattle.std.proofs.lemmas.Simd.{map-map}
+use Rattle.problem_model.specs.declared.part.Part.{Part}
+use Rattle.problem_model.specs.declared.part.Read.{Read}
+use Rattle.problem_model.specs.Parts.{changes_of}
+use Rattle.problem_model.specs.Reading.{read_of}
+use Rattle.problem_model.specs.Sparse.{Sparse}
+use Rattle.presolve_model.specs.declared.instance.Instance.{Instance}
+use Rattle.presolve_model.specs.declared.instance.Instance.TheVariants as at
+use Rattle.presolve_model.specs.declared.instance.Rule.{Rule}
+use Rattle.presolve_model.specs.declared.outcome.Outcome.{Outcome}
+use Rattle.presolve_model.specs.declared.outcome.Outcome.TheVariants.{NoMemory}
+use Rattle.presolve_model.specs.Changes.{changed}
+use Rattle.presolve_model.specs.Commits.{Allows, CanWrite, Fits, IsOpen, left_by, with_instance}
+use Rattle.presolve_model.specs.Enabled.{enabled_on, reading_of, reads}
+use Rattle.presolve_model.specs.Given.{Proposed}
+use Rattle.presolve_model.specs.Instances.{instances_from}
+use Rattle.presolve_model.specs.Ledger.{Ledger}
+use Rattle.presolve_model.specs.Ordered.{Committed}
+use Rattle.presolve_model.specs.Scans.{proposal_of}
+use Rattle.presolve_model.proofs.Tabled.{counted_changed}
+use Rattle.round_laws.specs.Choosing.{proposals}
+use Rattle.round_laws.specs.Passing.{Follows, IsFresh, IsLaterAt, IsNoted, Passed, Tracks}
+use Rattle.round_laws.proofs.Alike.{IsAlikeFrom, NoneStands}
+use Rattle.round_laws.proofs.Committing.{committed_append, committed_same, fresh_enables, fresh_parts, left_how, left_open, passed_over, proposals_append, refused_how, stays_or_differs}
+use Rattle.round_laws.proofs.Places.{from_stand}
+use Rattle.round_laws.proofs.ShortLists.{passes_still}
+use Rattle.round_laws.proofs.Turns.{Moved, follows_applied, moved}
+use Rattle.problem_model.specs.Reading.{Agrees, DiffersAt}
+
+-- ---- what has changed since f stays so
+-- a part that the instance reads on f has changed more often on p
+abbrev HasMoved : Sparse → Sparse → List Part → Type 0
+HasMoved f p ps = (a : Part) × Contains ps a × (changes_of f a < changes_of p a)
+
+moved_or_same : (f p : Sparse) (ps : List Part) → ((a : Part) → IsLaterAt f p a) → HasMoved f p ps ⊎ (map (read_of p) ps ≡ map (read_of f) ps)
+moved_or_same f p [] later = inr refl
+moved_or_same f p (a ∷ ps) later = by (later a) (moved_or_same f p ps later)
+  where
+    by : IsLaterAt f p a → HasMoved f p ps ⊎ (map (read_of p) ps ≡ map (read_of f) ps) → HasMoved f p (a ∷ ps) ⊎ (map (read_of p) (a ∷ ps) ≡ map (read_of f) (a ∷ ps))
+    by (inr l) x = inl (a, (0, omega arith, refl), l)
+    by (inl e) (inl (b, (k, l, h), m)) = inl (b, (suc k, omega (arith, l), h), m)
+    by (inl e) (inr g) = inr (ap₂ (λ (x : Read) (xs : List Read). x ∷ xs) e g)
+
+fresh_by : (f p : Sparse) (e : Instance) → map (read_of p) (reads f e) ≡ map (read_of f) (reads f e) → IsFresh f p e
+fresh_by f p e g = map-map (λ (r : Read). read_of p r.part) (read_of f) (reads f e) ∙ g
+
+moved_differs : (f p : Sparse) (ps : List Part) → HasMoved f p ps → map (read_of p) ps ≡ map (read_of f) ps → ⊥
+moved_differs f p [] (a, c, l) e = omega (arith, c.1)
+moved_differs f p (b ∷ ps) (a, (zero, l, h), m) e =
+    let same : read_of p b ≡ read_of f b = let g = e in cc in
+    let n : changes_of p a ≡ changes_of f a = sym (ap (changes_of p) h) ∙ ap (λ (r : Read). r.changes) same ∙ ap (changes_of f) h in omega (arith, m, n)
+moved_differs f p (b ∷ ps) (a, (suc k, l, h), m) e = moved_differs f p ps (a, (k, omega (arith, l), h), m) (let g = e in cc)
+
+moved_stale : (f p : Sparse) (e : Instance) → HasMoved f p (reads f e) → IsFresh f p e → ⊥
+moved_stale f p e h fresh = moved_differs f p (reads f e) h (fresh_parts f p e fresh)
+
+-- what is enabled on f and not on p reads a part that has changed
+not_enabled_moved : (f p : Sparse) (e : Instance) → ((a : Part) → IsLaterAt f p a) → enabled_on f e ≡ true → enabled_on p e ≡ false → HasMoved f p (reads f e)
+not_enabled_moved f p e later on off = by (moved_or_same f p (reads f e) later)
+  where
+    by : HasMoved f p (reads f e) ⊎ (map (read_of p) (reads f e) ≡ map (read_of f) (reads f e)) → HasMoved f p (reads f e)
+    by (inl h) = h
+    by (inr g) = absurd (true≢false (sym on ∙ sym (fresh_enables f p e (fresh_by f p e g)) ∙ off))
+
+still_moved : (f p q : Sparse) (a : Part) (h : ℕ) → changes_of p a ≤ h → h < 2 ^ 64 - 1 → changes_of f a < changes_of p a → Moved p q a → changes_of f a < changes_of q a
+still_moved f p q a h few low l (inl g) = let m : changes_of q a ≡ changes_of p a = ap (λ (r : Read). r.changes) g in omega (arith, l, m)
+still_moved f p q a h few low l (inr g) = omega (arith, l, g, few, low)
+
+-- ---- from a book to the one that a commit leaves
+abbrev GoesTo : Sparse → Ledger → Ledger → Type 0
+GoesTo f b c = Follows f c × ((ps : List Part) → HasMoved f b.problem ps → HasMoved f c.problem ps)
+
+module _ (f : Sparse) (b : Ledger) (h : Follows f b) where
+  goes_on : (e : Instance) → enabled_on b.problem e ≡ true → IsOpen b (proposal_of f 0 e) → GoesTo f b (with_instance b e)
+  goes_on (at.Verdict v) on k = (record { later = h.later; counted = h.counted; short = h.short; sparse = h.sparse; size = h.size }, λ ps x. x)
+  goes_on (at.Reduction r) on k = (follows_applied f b r h on k.room, λ ps (a, c, l). (a, c, by a l))
+    where
+      by : (a : Part) → changes_of f a < changes_of b.problem a → changes_of f a < changes_of (changed r b.problem) a
+      by a l = still_moved f b.problem (changed r b.problem) a (length b.history) (h.counted a) (let room : length b.history < b.limit = k.room in omega (arith, room, h.short)) l (moved b.problem (changed r b.problem) a (counted_changed b.problem r h.sparse on a))
+
+  goes_to : (v : ℕ) (e : Instance) (o : Outcome) → enabled_on f e ≡ true → o ≢ NoMemory → Allows b (proposal_of f v e) o → GoesTo f b (left_by b (proposal_of f v e) o)
+  goes_to v e o on n a = by (left_how b (proposal_of f v e) o a)
+    where
+      by : (left_by b (proposal_of f v e) o ≡ b) ⊎ (IsOpen b (proposal_of f v e) × Fits e b.problem × CanWrite b e) → GoesTo f b (left_by b (proposal_of f v e) o)
+      by (inl same) = subst (GoesTo f b) (sym same) (h, λ ps x. x)
+      by (inr k) = subst (GoesTo f b) (sym (left_open b (proposal_of f v e) o n a k.0 k.1 k.2))
+          (goes_on e (fresh_enables f b.problem e k.0.agrees ∙ on) (record { undecided = k.0.undecided; room = k.0.room; agrees = k.0.agrees }))
+
+-- ---- lists of proposals
+proposals_with : (f : Sparse) (v : ℕ) (e : Instance) (es : List Instance) → enabled_on f e ≡ true → proposals f v (e ∷ es) ≡ proposal_of f v e ∷ proposals f v es
+proposals_with f v e es on = ap (λ (t : Bool). map (proposal_of f v) (if t then e ∷ filter (enabled_on f) es else filter (enabled_on f) es)) on
+
+proposals_without : (f : Sparse) (v : ℕ) (e : Instance) (es : List Instance) → enabled_on f e ≡ false → proposals f v (e ∷ es) ≡ proposals f v es
+proposals_without f v e es off = ap (λ (t : Bool). map (proposal_of f v) (if t then e ∷ filter (enabled_on f) es else filter (enabled_on f) es)) off
+
+-- ---- what is left out reads a part that has changed: its commits change nothing
+module _ (f : Sparse) (v : ℕ) (c : Ledger) (keep : Instance → Bool) where
+  abbrev LeftOut : Ledger → Type 0
+  LeftOut b = (e : Instance) → enabled_on f e ≡ true → keep e ≡ false → HasMoved f b.problem (reads f e)
+
+  abbrev More : List Instance → Type 0
+  More es = (b : Ledger) → Follows f b → LeftOut b → Committed b (proposals f v (filter keep es)) c → Committed b (proposals f v es) c
+
+  committed_more : (es : List Instance) → More es
+  committed_more [] b h out k = k
+  committed_more (e ∷ es) b h out k = by (committed_more es) (keep e) refl (enabled_on f e) refl k
+    where
+      refused : HasMoved f b.problem (reads f e) → (o : Outcome) × (o ≢ NoMemory) × Allows b (proposal_of f v e) o × (left_by b (proposal_of f v e) o ≡ b)
+      refused m = stale (stays_or_differs f b.problem (reads f e) h.later)
+        where
+          stale : Agrees b.problem (reading_of f e) ⊎ ((n : ℕ) × DiffersAt b.problem (reading_of f e) n) → (o : Outcome) × (o ≢ NoMemory) × Allows b (proposal_of f v e) o × (left_by b (proposal_of f v e) o ≡ b)
+          stale (inl fresh) = absurd (moved_stale f b.problem e m fresh)
+          stale (inr d) = refused_how b (proposal_of f v e) d
+
+      met : More es → enabled_on f e ≡ true → Committed b (proposal_of f v e ∷ proposals f v (filter keep es)) c → Committed b (proposal_of f v e ∷ proposals f v es) c
+      met more on (o, n, a, rest) = let g = goes_to f b h v e o on n a in (o, n, a, more (left_by b (proposal_of f v e) o) g.0 (λ x y z. g.1 (reads f x) (out x y z)) rest)
+
+      over : Committed b (proposals f v es) c → HasMoved f b.problem (reads f e) → Committed b (proposal_of f v e ∷ proposals f v es) c
+      over rest m = let r = refused m in (r.0, r.1, r.2, subst (λ (x : Ledger). Committed x (proposals f v es) c) (sym r.3) rest)
+
+      with_it : enabled_on f e ≡ true → Committed b (proposal_of f v e ∷ proposals f v es) c → Committed b (proposals f v (e ∷ es)) c
+      with_it on x = subst (λ (ps : List Proposed). Committed b ps c) (sym (proposals_with f v e es on)) x
+
+      without_it : enabled_on f e ≡ false → Committed b (proposals f v es) c → Committed b (proposals f v (e ∷ es)) c
+      without_it off x = subst (λ (ps : List Proposed). Committed b ps c) (sym (proposals_without f v e es off)) x
+
+      by : More es → (s : Bool) → keep e ≡ s → (t : Bool) → enabled_on f e ≡ t → Committed b (proposals f v (if s then e ∷ filter keep es else filter keep es)) c → Committed b (proposals f v (e ∷ es)) c
+      by more true x true y d = with_it y (met more y (subst (λ (ps : List Proposed). Committed b ps c) (proposals_with f v e (filter keep es) y) d))
+      by more true x false y d = without_it y (more b h out (subst (λ (ps : List Proposed). Committed b ps c) (proposals_without f v e (filter keep es) y) d))
+      by more false x true y d = with_it y (over (more b h out d) (out e y x))
+      by more false x false y d = without_it y (more b h out d)
+
+-- ---- a pass over those that are enabled is one over all
+passed_all : (f : Sparse) (es : List Instance) (n m : List Part) (b c : Ledger) → Follows f b → Passed f (filter (enabled_on b.problem) es) n b m c → Passed f es n b m c
+passed_all f es n m b c h k = record {
+  book = k.book;
+  committed = λ v. committed_more f v c (enabled_on b.problem) es b h (λ e on off. not_enabled_moved f b.problem e h.later on off) (k.committed v);
+  follows = k.follows;
+  tracks = λ rest t. k.tracks rest (fewer rest t);
+  moved = k.moved;
+  grows = k.grows;
+}
+  where
+    fewer : (rest : List Instance) → Tracks f n (es ++ rest) b → Tracks f n (filter (enabled_on b.problem) es ++ rest) b
+    fewer rest t none room x on = by (t none room x on)
+      where
+        by : IsNoted b.problem n x ⊎ (Contains (es ++ rest) x × IsFresh f b.problem x) → IsNoted b.problem n x ⊎ (Contains (filter (enabled_on b.problem) es ++ rest) x × IsFresh f b.problem x)
+        by (inl a) = inl a
+        by (inr (among, fresh)) = inr (passes_still (enabled_on b.problem) es rest x on among, fresh)
+
+-- ---- of two lists of which none is enabled and fresh, either is passed over
+module _ (f : Sparse) (b : Ledger) (h : Follows f b) (v : ℕ) where
+  none_commits : (es : List Instance) → NoneStands f b.problem es → Committed b (proposals f v es) b
+  none_commits [] none = refl
+  none_commits (e ∷ es) none = subst (λ (ps : List Proposed). Committed b ps b) (sym (proposals_append f v (e ∷ []) es))
+      (committed_append b b b (proposals f v (e ∷ [])) (proposals f v es) (passed_over f b v e h.later (λ on fresh. none e (0, omega arith, refl) on fresh)) (none_commits es (λ x (k, l, d). none x (suc k, omega (arith, l), d))))
+
+  none_left : (c : Ledger) (es : List Instance) → NoneStands f b.problem es → Committed b (proposals f v es) c → c ≡ b
+  none_left c es none k = committed_same b c b (proposals f v es) k (none_commits es none)
+
+passed_either : (f : Sparse) (es fs : List Instance) (n m : List Part) (b c : Ledger) → Follows f b → NoneStands f b.problem es → NoneStands f b.problem fs → Passed f fs n b m c → Passed f es n b m c
+passed_either f es fs n m b c h none nor k = record {
+  book = k.book;
+  committed = λ v. subst (Committed b (proposals f v es)) (sym (none_left f b h v c fs nor (k.committed v))) (none_commits f b h v es none);
+  follows = k.follows;
+  tracks = λ rest t. k.tracks rest (other rest t);
+  moved = k.moved;
+  grows = k.grows;
+}
+  where
+    other : (rest : List Instance) → Tracks f n (es ++ rest) b → Tracks f n (fs ++ rest) b
+    other rest t free room x on = by (t free room x on)
+      where
+        behind : IsFresh f b.problem x → Contains es x ⊎ Contains rest x → IsNoted b.problem n x ⊎ (Contains (fs ++ rest) x × IsFresh f b.problem x)
+        behind fresh (inl c) = absurd (none x c on fresh)
+        behind fresh (inr c) = inr (Contains-append_right fs rest x c, fresh)
+
+        by : IsNoted b.problem n x ⊎ (Contains (es ++ rest) x × IsFresh f b.problem x) → IsNoted b.problem n x ⊎ (Contains (fs ++ rest) x × IsFresh f b.problem x)
+        by (inl a) = inl a
+        by (inr (among, fresh)) = behind fresh (Contains-append_cases es rest x among)
+
+-- ---- the instances of a rule with a first id, those of the present problem in place of those of f
+pub passed_found : (f : Sparse) (r : Rule) (k : ℕ) (n m : List Part) (b c : Ledger) → Follows f b → Passed f (filter (enabled_on b.problem) (instances_from b.problem r k)) n b m c → Passed f (instances_from f r k) n b m c
+passed_found f r k n m b c h passed = by (from_stand f b.problem h.later r k) (passed_all f (instances_from b.problem r k) n m b c h passed)
+  where
+    by : IsAlikeFrom f b.problem (instances_from f r k) (instances_from b.problem r k) → Passed f (instances_from b.problem r k) n b m c → Passed f (instances_from f r k) n b m c
+    by (inl same) x = subst (λ (es : List Instance). Passed f es n b m c) (sym same) x
+    by (inr (none, nor)) x = passed_either f (instances_from f r k) (instances_from b.problem r k) n m b c h none nor x
