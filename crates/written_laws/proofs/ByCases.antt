@@ -1,8 +1,8 @@
 -- What the rules say at other ids, by cases: one line a rule, and what a rule reads and computes in a lemma of its own.
-use Rattle.std.proofs.Common.{◌≡◌, ◌↔◌, ℕ, true, ◌&&◌, List, [], ◌∷◌, ◌++◌, get_or, map, Option, unwrap_or, refl, sym, ap, ap₂, ◌∙◌, subst}
+use Rattle.std.proofs.Common.{◌≡◌, ◌↔◌, ℕ, true, ◌&&◌, List, [], ◌∷◌, ◌++◌, get_or, map, Option, unwrap_or, refl, sym, ap, ap₂, ◌∙◌, subst, arith}
 use Rattle.std.specs.List.{All}
 use Rattle.std.proofs.lemmas.List.{map-append}
-use Rattle.std.proofs.lemmas.List.Elements.{All-head, All-nil, All-tail}
+use Rattle.std.proofs.lemmas.List.Elements.{All-head, All-map, All-nil, All-tail}
 use Rattle.rational.specs.Number.{Number, zero_ℚ, ◌*ℚ◌}
 use Rattle.rational.specs.Ends.{less, meet_low, meet_high}
 use Rattle.rational.specs.Lowest.{Fits}
@@ -24,7 +24,7 @@ use Rattle.problem_model.specs.Problems.{column_at, column_entries, cost_at, fir
 use Rattle.problem_model.specs.Programs.{rank}
 use Rattle.problem_model.specs.Sparse.{Sparse}
 use Rattle.problem_laws.proofs.Entries.{column_entries-live, row_entries-live}
-use Rattle.rule_words.specs.Reading.{found_on}
+use Rattle.rule_words.specs.Reading.{found_on, sides_of}
 use Rattle.singleton_laws.specs.EmptyRow.{is_empty_row}
 use Rattle.singleton_laws.specs.SingletonRow.{edits_by, is_singleton_row, sole_entry}
 use Rattle.singleton_laws.specs.FixedColumn.{TermComputes, column_out, is_fixed_column, sides_less, value_of}
@@ -39,20 +39,28 @@ use Rattle.singleton_laws.proofs.RoundBounds as round_bounds
 use Rattle.singleton_laws.proofs.EmptyColumn as empty_column
 use Rattle.singleton_laws.proofs.CrossedBounds as crossed_bounds
 use Rattle.singleton_laws.proofs.CrossedSides as crossed_sides
+use Rattle.dual_laws.specs.DominatedColumn.{pairs_of}
+use Rattle.dual_laws.proofs.FixedByCost as fixed_by_cost
+use Rattle.dual_laws.proofs.DominatedColumn as dominated_column
+use Rattle.dual_laws.proofs.Ray as ray
 use Rattle.presolve_model.specs.declared.instance.Instance.{Instance}
 use Rattle.presolve_model.specs.declared.instance.Instance.TheVariants as at
 use Rattle.presolve_model.specs.declared.instance.Reduction.{Reduction}
-use Rattle.presolve_model.specs.declared.instance.Reduction.TheVariants.{EmptyRow, SingletonRow, FixedColumn, RoundBounds, EmptyColumn}
+use Rattle.presolve_model.specs.declared.instance.Reduction.TheVariants.{EmptyRow, SingletonRow, FixedColumn, RoundBounds, FixedByCost, DominatedColumn, EmptyColumn}
 use Rattle.presolve_model.specs.declared.instance.Rule.{Rule}
 use Rattle.presolve_model.specs.declared.instance.Rule.TheVariants as rule
 use Rattle.presolve_model.specs.declared.instance.Verdict.{Verdict}
-use Rattle.presolve_model.specs.declared.instance.Verdict.TheVariants.{CrossedBounds, CrossedSides}
+use Rattle.presolve_model.specs.declared.instance.Verdict.TheVariants.{CrossedBounds, CrossedSides, Ray}
 use Rattle.presolve_model.specs.Enabled.{enabled_on}
 use Rattle.presolve_model.specs.Instances.{instances_from}
 use Rattle.presolve_model.specs.Tables.{Computes, edits, heads, heads_of, holds_by, holds_of, looked_at_by, more_by, more_of}
+use Rattle.written_laws.proofs.DominatedColumn.{dominated_alike, lines_there, sides_of_both_at, sides_of_both_there}
 use Rattle.written_laws.proofs.Lists.{all_both, all_one, all_two, both_by, both_then}
+use Rattle.written_laws.proofs.Locks.{fixed_by_cost_alike, place_kept, ray_alike}
+use Rattle.written_laws.proofs.Naming.{entries_read, sides_read_at, sides_read_there}
 use Rattle.written_laws.proofs.NewIds.{Ids, contents_at, edit_at, id_of, lines_of, new_ids, none_at, one_at, part_at, term_at, terms_at}
-use Rattle.written_laws.proofs.Standing.{AreThere, IsThere, LinesStand, one_part, two_parts}
+use Rattle.written_laws.proofs.Pairs.{all_pairs, at_pairs}
+use Rattle.written_laws.proofs.Standing.{AreOneToOne, AreThere, IsThere, LinesStand, one_part, two_parts}
 
 -- ---- instances at other ids
 abbrev pub reduction_at : Ids → Reduction → Reduction
@@ -60,11 +68,14 @@ reduction_at n (EmptyRow i) = EmptyRow (n.row i)
 reduction_at n (SingletonRow i) = SingletonRow (n.row i)
 reduction_at n (FixedColumn j) = FixedColumn (n.column j)
 reduction_at n (RoundBounds j) = RoundBounds (n.column j)
+reduction_at n (FixedByCost j) = FixedByCost (n.column j)
+reduction_at n (DominatedColumn i j k) = DominatedColumn (n.row i) (n.column j) (n.column k)
 reduction_at n (EmptyColumn j) = EmptyColumn (n.column j)
 
 abbrev pub verdict_at : Ids → Verdict → Verdict
 verdict_at n (CrossedBounds j) = CrossedBounds (n.column j)
 verdict_at n (CrossedSides i) = CrossedSides (n.row i)
+verdict_at n (Ray j) = Ray (n.column j)
 
 abbrev pub instance_at : Ids → Instance → Instance
 instance_at n (at.Reduction r) = at.Reduction (reduction_at n r)
@@ -76,22 +87,30 @@ reduction_heads n (EmptyRow i) = refl
 reduction_heads n (SingletonRow i) = refl
 reduction_heads n (FixedColumn j) = refl
 reduction_heads n (RoundBounds j) = refl
+reduction_heads n (FixedByCost j) = refl
+reduction_heads n (DominatedColumn i j k) = refl
 reduction_heads n (EmptyColumn j) = refl
 
 pub verdict_heads : (n : Ids) (v : Verdict) → looked_at_by (verdict_at n v) ≡ map (part_at n) (looked_at_by v)
 verdict_heads n (CrossedBounds j) = refl
 verdict_heads n (CrossedSides i) = refl
+verdict_heads n (Ray j) = refl
 
-pub reduction_more : (n : Ids) (r : Reduction) (cs : List Contents) → more_of (reduction_at n r) (map (contents_at n) cs) ≡ map (part_at n) (more_of r cs)
-reduction_more n (EmptyRow i) cs = refl
-reduction_more n (SingletonRow i) cs = refl
-reduction_more n (FixedColumn j) cs = refl
-reduction_more n (RoundBounds j) cs = refl
-reduction_more n (EmptyColumn j) cs = refl
+-- what is read by what the heads hold
+module _ (n : Ids) (p : Sparse) (o : AreOneToOne n p) where
+  pub reduction_more : (r : Reduction) → more_of (reduction_at n r) (map (contents_at n) (map (contents_of p) (heads_of r))) ≡ map (part_at n) (more_of r (map (contents_of p) (heads_of r)))
+  reduction_more (EmptyRow i) = refl
+  reduction_more (SingletonRow i) = refl
+  reduction_more (FixedColumn j) = refl
+  reduction_more (RoundBounds j) = refl
+  reduction_more (FixedByCost j) = sides_read_at n p j
+  reduction_more (DominatedColumn i j k) = sides_of_both_at n p o j k
+  reduction_more (EmptyColumn j) = refl
 
-pub verdict_more : (n : Ids) (v : Verdict) (cs : List Contents) → more_by (verdict_at n v) (map (contents_at n) cs) ≡ map (part_at n) (more_by v cs)
-verdict_more n (CrossedBounds j) cs = refl
-verdict_more n (CrossedSides i) cs = refl
+  pub verdict_more : (v : Verdict) → more_by (verdict_at n v) (map (contents_at n) (map (contents_of p) (looked_at_by v))) ≡ map (part_at n) (more_by v (map (contents_of p) (looked_at_by v)))
+  verdict_more (CrossedBounds j) = refl
+  verdict_more (CrossedSides i) = refl
+  verdict_more (Ray j) = sides_read_at n p j
 
 -- what the heads name is live
 pub reduction_names : (p : Sparse) (r : Reduction) → All (IsThere p) (more_of r (map (contents_of p) (heads_of r)))
@@ -99,13 +118,16 @@ reduction_names p (EmptyRow i) = All-nil (IsThere p)
 reduction_names p (SingletonRow i) = All-nil (IsThere p)
 reduction_names p (FixedColumn j) = All-nil (IsThere p)
 reduction_names p (RoundBounds j) = All-nil (IsThere p)
+reduction_names p (FixedByCost j) = sides_read_there p j
+reduction_names p (DominatedColumn i j k) = sides_of_both_there p j k
 reduction_names p (EmptyColumn j) = All-nil (IsThere p)
 
 pub verdict_names : (p : Sparse) (v : Verdict) → All (IsThere p) (more_by v (map (contents_of p) (looked_at_by v)))
 verdict_names p (CrossedBounds j) = All-nil (IsThere p)
 verdict_names p (CrossedSides i) = All-nil (IsThere p)
+verdict_names p (Ray j) = sides_read_there p j
 
--- ---- the conditions look at no id
+-- ---- the conditions are the same
 empty_row_alike : (n : Ids) (a b : Contents) → is_empty_row (contents_at n a) (contents_at n b) ≡ is_empty_row a b
 empty_row_alike n (holding.Entries ts) (holding.Sides l u) = ap (λ y. y && holds_zero l u) (none_at n.column ts)
 empty_row_alike n a b = refl
@@ -134,18 +156,22 @@ crossed_sides_alike : (n : Ids) (a : Contents) → sides_crossed.are_crossed (co
 crossed_sides_alike n (holding.Sides l u) = refl
 crossed_sides_alike n a = refl
 
-pub reduction_holds : (n : Ids) (p : Sparse) (r : Reduction)
-    → holds_of (reduction_at n r) (map (contents_at n) (found_on (heads_of r) (more_of r) p)) ≡ holds_of r (found_on (heads_of r) (more_of r) p)
-reduction_holds n p (EmptyRow i) = empty_row_alike n (contents_of p (Row i)) (contents_of p (Sides i))
-reduction_holds n p (SingletonRow i) = singleton_row_alike n (contents_of p (Row i)) (contents_of p (Sides i))
-reduction_holds n p (FixedColumn j) = fixed_column_alike n (contents_of p (Col j)) (contents_of p (Bounds j))
-reduction_holds n p (RoundBounds j) = round_bounds_alike n (contents_of p (Bounds j))
-reduction_holds n p (EmptyColumn j) = empty_column_alike n (contents_of p (Col j)) (contents_of p (Bounds j))
+module _ (n : Ids) (p : Sparse) (o : AreOneToOne n p) where
+  pub reduction_holds : (r : Reduction) → AreThere p (heads_of r)
+      → holds_of (reduction_at n r) (map (contents_at n) (found_on (heads_of r) (more_of r) p)) ≡ holds_of r (found_on (heads_of r) (more_of r) p)
+  reduction_holds (EmptyRow i) h = empty_row_alike n (contents_of p (Row i)) (contents_of p (Sides i))
+  reduction_holds (SingletonRow i) h = singleton_row_alike n (contents_of p (Row i)) (contents_of p (Sides i))
+  reduction_holds (FixedColumn j) h = fixed_column_alike n (contents_of p (Col j)) (contents_of p (Bounds j))
+  reduction_holds (RoundBounds j) h = round_bounds_alike n (contents_of p (Bounds j))
+  reduction_holds (FixedByCost j) h = fixed_by_cost_alike n (contents_of p (Col j)) (contents_of p (Bounds j)) (map (contents_of p) (sides_of (entries_read p j)))
+  reduction_holds (DominatedColumn i j k) h = dominated_alike n p o i j k (h 1 (Row i) (omega arith)) (h 2 (Row i) (omega arith)) (h 0 (Row i) (omega arith))
+  reduction_holds (EmptyColumn j) h = empty_column_alike n (contents_of p (Col j)) (contents_of p (Bounds j))
 
-pub verdict_holds : (n : Ids) (p : Sparse) (v : Verdict)
-    → holds_by (verdict_at n v) (map (contents_at n) (found_on (looked_at_by v) (more_by v) p)) ≡ holds_by v (found_on (looked_at_by v) (more_by v) p)
-verdict_holds n p (CrossedBounds j) = crossed_bounds_alike n (contents_of p (Bounds j))
-verdict_holds n p (CrossedSides i) = crossed_sides_alike n (contents_of p (Sides i))
+  pub verdict_holds : (v : Verdict) → AreThere p (looked_at_by v)
+      → holds_by (verdict_at n v) (map (contents_at n) (found_on (looked_at_by v) (more_by v) p)) ≡ holds_by v (found_on (looked_at_by v) (more_by v) p)
+  verdict_holds (CrossedBounds j) h = crossed_bounds_alike n (contents_of p (Bounds j))
+  verdict_holds (CrossedSides i) h = crossed_sides_alike n (contents_of p (Sides i))
+  verdict_holds (Ray j) h = ray_alike n (contents_of p (Col j)) (contents_of p (Bounds j)) (map (contents_of p) (sides_of (entries_read p j)))
 
 -- ---- nothing is enabled at what is not live
 pub reduction_there : (p : Sparse) (r : Reduction) → enabled_on p (at.Reduction r) ≡ true → All (IsThere p) (heads_of r)
@@ -153,11 +179,14 @@ reduction_there p (EmptyRow i) e = let on = (empty_row.said p i e).live in all_t
 reduction_there p (SingletonRow i) e = let on = (singleton_row.said p i e).live in all_two (IsThere p) (Row i) (Sides i) on on
 reduction_there p (FixedColumn j) e = let on = (fixed_column.said p j e).live in all_two (IsThere p) (Col j) (Bounds j) on on
 reduction_there p (RoundBounds j) e = all_one (IsThere p) (Bounds j) (round_bounds.said p j e).live
+reduction_there p (FixedByCost j) e = let on = (fixed_by_cost.said p j e).live in all_two (IsThere p) (Col j) (Bounds j) on on
+reduction_there p (DominatedColumn i j k) e = let o = dominated_column.said p i j k e in lines_there p i j k o.row_live o.first_live o.second_live
 reduction_there p (EmptyColumn j) e = let on = (empty_column.said p j e).live in all_two (IsThere p) (Col j) (Bounds j) on on
 
 pub verdict_there : (p : Sparse) (v : Verdict) → enabled_on p (at.Verdict v) ≡ true → All (IsThere p) (looked_at_by v)
 verdict_there p (CrossedBounds j) e = all_one (IsThere p) (Bounds j) (crossed_bounds.said p j e).live
 verdict_there p (CrossedSides i) e = all_one (IsThere p) (Sides i) (crossed_sides.said p i e).live
+verdict_there p (Ray j) e = let on = (ray.said p j e).live in all_two (IsThere p) (Col j) (Bounds j) on on
 
 -- ---- ids that come back
 abbrev pub ComesBack : Ids → Ids → Part → Type 0
@@ -168,11 +197,14 @@ reduction_back n m (EmptyRow i) h = ap (λ k. EmptyRow k) (All-head (ComesBack n
 reduction_back n m (SingletonRow i) h = ap (λ k. SingletonRow k) (All-head (ComesBack n m) (Row i) (Sides i ∷ []) h)
 reduction_back n m (FixedColumn j) h = ap (λ k. FixedColumn k) (All-head (ComesBack n m) (Col j) (Bounds j ∷ []) h)
 reduction_back n m (RoundBounds j) h = ap (λ k. RoundBounds k) (All-head (ComesBack n m) (Bounds j) [] h)
+reduction_back n m (FixedByCost j) h = ap (λ k. FixedByCost k) (All-head (ComesBack n m) (Col j) (Bounds j ∷ []) h)
+reduction_back n m (DominatedColumn i j k) h = λ t. DominatedColumn (h 0 (Row i) (omega arith) t) (h 1 (Row i) (omega arith) t) (h 2 (Row i) (omega arith) t)
 reduction_back n m (EmptyColumn j) h = ap (λ k. EmptyColumn k) (All-head (ComesBack n m) (Col j) (Bounds j ∷ []) h)
 
 pub verdict_back : (n m : Ids) (v : Verdict) → All (ComesBack n m) (looked_at_by v) → verdict_at n (verdict_at m v) ≡ v
 verdict_back n m (CrossedBounds j) h = ap (λ k. CrossedBounds k) (All-head (ComesBack n m) (Bounds j) [] h)
 verdict_back n m (CrossedSides i) h = ap (λ k. CrossedSides k) (All-head (ComesBack n m) (Sides i) [] h)
+verdict_back n m (Ray j) h = ap (λ k. Ray k) (All-head (ComesBack n m) (Col j) (Bounds j ∷ []) h)
 
 -- ---- edits, and the numbers that are computed
 module _ (n : Ids) (p q : Sparse) (s : LinesStand n p q) where
@@ -240,6 +272,8 @@ module _ (n : Ids) (p q : Sparse) (s : LinesStand n p q) where
   edits_stand (SingletonRow i) e = singleton_row_edits i (singleton_row.said p i e)
   edits_stand (FixedColumn j) e = fixed_column_edits j (fixed_column.said p j e).live
   edits_stand (RoundBounds j) e = let c = s.column j (round_bounds.said p j e).live in λ t. SetBounds (n.column j) (rounded_up (c.lower t)) (rounded_down (c.upper t)) ∷ []
+  edits_stand (FixedByCost j) e = ap (λ (o : Option Number). SetBounds (n.column j) o o ∷ []) (place_kept n p q s j (fixed_by_cost.said p j e).live)
+  edits_stand (DominatedColumn i j k) e = let c = s.column k (dominated_column.said p i j k e).second_live in λ t. SetBounds (n.column k) (c.lower t) (c.lower t) ∷ []
   edits_stand (EmptyColumn j) e = ap (λ (o : Option Number). SetBounds (n.column j) o o ∷ []) (place_same j (empty_column.said p j e).live)
 
   pub computes_stand : (r : Reduction) → enabled_on p (at.Reduction r) ≡ true → Computes r p ↔ Computes (reduction_at n r) q
@@ -248,27 +282,52 @@ module _ (n : Ids) (p q : Sparse) (s : LinesStand n p q) where
   computes_stand (SingletonRow i) e = singleton_row_computes i (singleton_row.said p i e)
   computes_stand (FixedColumn j) e = fixed_column_computes j (fixed_column.said p j e).live
   computes_stand (RoundBounds j) e = (λ h. h, λ h. h)
+  computes_stand (FixedByCost j) e = (λ h. h, λ h. h)
+  computes_stand (DominatedColumn i j k) e = (λ h. h, λ h. h)
   computes_stand (EmptyColumn j) e = (λ h. h, λ h. h)
 
 -- ---- the instances at a line: as many at its new id, each there exactly where the line is live
+abbrev pub IsAtLine : Sparse → Rule → ℕ → Instance → Type 0
+IsAtLine p kind k e = ((line_at (lines_of p kind) k).live ≡ true) ↔ AreThere p (heads e)
+
+-- K11 has one for each pair of columns of a row, and these columns are live
+abbrev dominated_in : ℕ → ℕ × ℕ → Instance
+dominated_in i x = at.Reduction (DominatedColumn i x.0 x.1)
+
+dominated_stand : (p q : Sparse) → LinesStand (new_ids p) p q → (i : ℕ) → (row_at p i).live ≡ true
+    → map (dominated_in (rank p.matrix.rows i)) (pairs_of (row_entries q (rank p.matrix.rows i))) ≡ map (instance_at (new_ids p)) (map (dominated_in i) (pairs_of (row_entries p i)))
+dominated_stand p q s i on = let n = new_ids p in
+    ap (λ ts. map (dominated_in (n.row i)) (pairs_of ts)) (s.row i on).entries
+    ∙ at_pairs n.column (dominated_in i) (instance_at n) (dominated_in (n.row i)) (λ x. refl) (row_entries p i)
+
+dominated_at_line : (p : Sparse) (i : ℕ) → All (IsAtLine p rule.DominatedColumn i) (map (dominated_in i) (pairs_of (row_entries p i)))
+dominated_at_line p i = let pairs = pairs_of (row_entries p i) in
+    All-map (IsAtLine p rule.DominatedColumn i) (dominated_in i) pairs (λ a d l.
+    let x = get_or pairs a d in
+    let on = all_pairs (λ j. (column_at p j).live ≡ true) (row_entries p i) (row_entries-live p i) a d l in
+    (λ h. lines_there p i x.0 x.1 h on.0 on.1, λ h. h 0 (Row i) (omega arith)))
+
 pub instances_stand : (p q : Sparse) → LinesStand (new_ids p) p q → (kind : Rule) (k : ℕ) → (line_at (lines_of p kind) k).live ≡ true
     → instances_from q kind (rank (lines_of p kind) k) ≡ map (instance_at (new_ids p)) (instances_from p kind k)
 instances_stand p q s rule.CrossedBounds k on = refl
 instances_stand p q s rule.CrossedSides k on = refl
+instances_stand p q s rule.Ray k on = refl
 instances_stand p q s rule.EmptyRow k on = refl
 instances_stand p q s rule.SingletonRow k on = refl
 instances_stand p q s rule.FixedColumn k on = refl
 instances_stand p q s rule.RoundBounds k on = refl
+instances_stand p q s rule.FixedByCost k on = refl
+instances_stand p q s rule.DominatedColumn k on = dominated_stand p q s k on
 instances_stand p q s rule.EmptyColumn k on = refl
-
-abbrev pub IsAtLine : Sparse → Rule → ℕ → Instance → Type 0
-IsAtLine p kind k e = ((line_at (lines_of p kind) k).live ≡ true) ↔ AreThere p (heads e)
 
 pub instances_at_line : (p : Sparse) (kind : Rule) (k : ℕ) → All (IsAtLine p kind k) (instances_from p kind k)
 instances_at_line p rule.CrossedBounds k = all_one (IsAtLine p rule.CrossedBounds k) (at.Verdict (CrossedBounds k)) (one_part p (Bounds k))
 instances_at_line p rule.CrossedSides k = all_one (IsAtLine p rule.CrossedSides k) (at.Verdict (CrossedSides k)) (one_part p (Sides k))
+instances_at_line p rule.Ray k = all_one (IsAtLine p rule.Ray k) (at.Verdict (Ray k)) (two_parts p (Col k) (Bounds k) (λ h. h))
 instances_at_line p rule.EmptyRow k = all_one (IsAtLine p rule.EmptyRow k) (at.Reduction (EmptyRow k)) (two_parts p (Row k) (Sides k) (λ h. h))
 instances_at_line p rule.SingletonRow k = all_one (IsAtLine p rule.SingletonRow k) (at.Reduction (SingletonRow k)) (two_parts p (Row k) (Sides k) (λ h. h))
 instances_at_line p rule.FixedColumn k = all_one (IsAtLine p rule.FixedColumn k) (at.Reduction (FixedColumn k)) (two_parts p (Col k) (Bounds k) (λ h. h))
 instances_at_line p rule.RoundBounds k = all_one (IsAtLine p rule.RoundBounds k) (at.Reduction (RoundBounds k)) (one_part p (Bounds k))
+instances_at_line p rule.FixedByCost k = all_one (IsAtLine p rule.FixedByCost k) (at.Reduction (FixedByCost k)) (two_parts p (Col k) (Bounds k) (λ h. h))
+instances_at_line p rule.DominatedColumn k = dominated_at_line p k
 instances_at_line p rule.EmptyColumn k = all_one (IsAtLine p rule.EmptyColumn k) (at.Reduction (EmptyColumn k)) (two_parts p (Col k) (Bounds k) (λ h. h))

@@ -1,8 +1,8 @@
 -- A problem without what was deleted: what stands at a live line stands at its new id.
-use Rattle.std.proofs.Common.{◌≡◌, ◌↔◌, ℕ, Bool, true, List, [], ◌∷◌, length, ap, sym, ◌∙◌}
+use Rattle.std.proofs.Common.{◌≡◌, ◌↔◌, ℕ, Bool, true, List, [], ◌∷◌, length, map, refl, ap, ap₂, sym, ◌∙◌}
 use Rattle.std.specs.Prelude.{if◌then◌else◌}
 use Rattle.std.specs.List.{All}
-use Rattle.std.proofs.lemmas.List.Elements.{All-head}
+use Rattle.std.proofs.lemmas.List.Elements.{All-head, All-tail}
 use Rattle.problem_model.specs.declared.part.Contents.{Contents}
 use Rattle.problem_model.specs.declared.part.Contents.TheVariants as holds
 use Rattle.problem_model.specs.declared.part.Part.{Part}
@@ -13,6 +13,7 @@ use Rattle.problem_model.specs.Programs.{live_ids}
 use Rattle.problem_model.specs.Sparse.{Sparse}
 use Rattle.written_laws.proofs.Lists.{all_one, all_two}
 use Rattle.written_laws.proofs.NewIds.{Ids, contents_at, new_ids, part_at, terms_at}
+use Rattle.written_laws.proofs.OneToOne.{IsOneToOne}
 
 -- a part's row or column is live
 abbrev pub IsThere : Sparse → Part → Type 0
@@ -31,6 +32,11 @@ one_part p a = (all_one (IsThere p) a, All-head (IsThere p) a [])
 pub two_parts : (p : Sparse) (a b : Part) → (IsThere p a → IsThere p b) → IsThere p a ↔ All (IsThere p) (a ∷ b ∷ [])
 two_parts p a b f = (λ h. all_two (IsThere p) a b h (f h), All-head (IsThere p) a (b ∷ []))
 
+-- live rows with the same new id are the same row, and so are live columns
+pub record AreOneToOne (n : Ids) (p : Sparse) : Type 0 where
+  pub row : IsOneToOne n.row p.matrix.rows
+  pub column : IsOneToOne n.column p.matrix.columns
+
 -- what stands at row i of p stands at its new id in q
 pub record RowStands (n : Ids) (p q : Sparse) (i : ℕ) : Type 0 where
   pub live : (row_at q (n.row i)).live ≡ true
@@ -46,8 +52,9 @@ pub record ColumnStands (n : Ids) (p q : Sparse) (j : ℕ) : Type 0 where
   pub upper : (bounds_at q (n.column j)).upper ≡ (bounds_at p j).upper
   pub whole : (bounds_at q (n.column j)).whole ≡ (bounds_at p j).whole
 
--- each live row and column stands there
+-- each live row and column stands there, and no two at the same place
 pub record LinesStand (n : Ids) (p q : Sparse) : Type 0 where
+  pub apart : AreOneToOne n p
   pub row : (i : ℕ) → (row_at p i).live ≡ true → RowStands n p q i
   pub column : (j : ℕ) → (column_at p j).live ≡ true → ColumnStands n p q j
 
@@ -59,7 +66,7 @@ pub record IsLeft (p q : Sparse) : Type 0 where
   pub offset : q.offset ≡ p.offset
 
 -- what a line holds, if it is live
-abbrev held : Bool → Contents → Contents
+abbrev pub held : Bool → Contents → Contents
 held on c = if on then c else holds.Gone
 
 module _ (n : Ids) (p q : Sparse) (s : LinesStand n p q) where
@@ -73,3 +80,7 @@ module _ (n : Ids) (p q : Sparse) (s : LinesStand n p q) where
   contents_stand (Bounds j) h = let c = s.column j h in
       (λ t. held (c.live t) (holds.Bounds (c.lower t) (c.upper t) (c.whole t)))
       ∙ sym (ap (λ (on : Bool). contents_at n (held on (holds.Bounds (bounds_at p j).lower (bounds_at p j).upper (bounds_at p j).whole))) h)
+
+  pub all_stand : (ps : List Part) → AreThere p ps → map (contents_of q) (map (part_at n) ps) ≡ map (contents_at n) (map (contents_of p) ps)
+  all_stand [] h = refl
+  all_stand (a ∷ ps) h = ap₂ ◌∷◌ (contents_stand a (All-head (IsThere p) a ps h)) (all_stand ps (All-tail (IsThere p) a ps h))

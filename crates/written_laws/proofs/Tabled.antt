@@ -1,8 +1,8 @@
 -- What the tables say at other ids, with no case: an instance is enabled, and can be applied, at its new ids where it is at its old ones.
-use Rattle.std.proofs.Common.{◌≡◌, ◌↔◌, ℕ, ◌<◌, true, List, [], ◌∷◌, ◌++◌, get_or, length, map, refl, sym, ap, ap₂, ◌∙◌, subst, arith}
+use Rattle.std.proofs.Common.{◌≡◌, ◌↔◌, ℕ, ◌<◌, true, List, ◌++◌, get_or, length, map, sym, ap, ◌∙◌, subst, arith}
 use Rattle.std.specs.List.{All}
 use Rattle.std.proofs.lemmas.List.{map-append}
-use Rattle.std.proofs.lemmas.List.Elements.{All-append, All-head, All-map, All-tail}
+use Rattle.std.proofs.lemmas.List.Elements.{All-append, All-map}
 use Rattle.fractions.specs.declared.Numbers.{Numbers}
 use Rattle.problem_model.specs.declared.part.Contents.{Contents}
 use Rattle.problem_model.specs.declared.part.Part.{Part}
@@ -23,24 +23,24 @@ use Rattle.presolve_model.specs.Tables.{edits, heads, heads_of, holds, more}
 use Rattle.written_laws.proofs.ByCases.{ComesBack, computes_stand, edits_stand, instance_at, reduction_at, reduction_back, reduction_heads, reduction_holds, reduction_more, reduction_names, reduction_there, verdict_back, verdict_heads, verdict_holds, verdict_more, verdict_names, verdict_there}
 use Rattle.written_laws.proofs.EditsAtIds.{edits_fit, edits_written}
 use Rattle.written_laws.proofs.NewIds.{Ids, contents_at, new_ids, old_ids, part_at}
-use Rattle.written_laws.proofs.Standing.{AreThere, IsLeft, IsThere, LinesStand, contents_stand}
+use Rattle.written_laws.proofs.Standing.{AreOneToOne, AreThere, IsLeft, IsThere, LinesStand, all_stand}
 
 -- ---- of instances
 heads_at : (n : Ids) (e : Instance) → heads (instance_at n e) ≡ map (part_at n) (heads e)
 heads_at n (at.Reduction r) = reduction_heads n r
 heads_at n (at.Verdict v) = verdict_heads n v
 
-more_at : (n : Ids) (e : Instance) (cs : List Contents) → more (instance_at n e) (map (contents_at n) cs) ≡ map (part_at n) (more e cs)
-more_at n (at.Reduction r) cs = reduction_more n r cs
-more_at n (at.Verdict v) cs = verdict_more n v cs
+more_at : (n : Ids) (p : Sparse) → AreOneToOne n p → (e : Instance) → more (instance_at n e) (map (contents_at n) (map (contents_of p) (heads e))) ≡ map (part_at n) (more e (map (contents_of p) (heads e)))
+more_at n p o (at.Reduction r) = reduction_more n p o r
+more_at n p o (at.Verdict v) = verdict_more n p o v
 
 names_there : (p : Sparse) (e : Instance) → AreThere p (more e (map (contents_of p) (heads e)))
 names_there p (at.Reduction r) = reduction_names p r
 names_there p (at.Verdict v) = verdict_names p v
 
-holds_at : (n : Ids) (p : Sparse) (e : Instance) → holds (instance_at n e) (map (contents_at n) (found_on (heads e) (more e) p)) ≡ holds e (found_on (heads e) (more e) p)
-holds_at n p (at.Reduction r) = reduction_holds n p r
-holds_at n p (at.Verdict v) = verdict_holds n p v
+holds_at : (n : Ids) (p : Sparse) → AreOneToOne n p → (e : Instance) → AreThere p (heads e) → holds (instance_at n e) (map (contents_at n) (found_on (heads e) (more e) p)) ≡ holds e (found_on (heads e) (more e) p)
+holds_at n p o (at.Reduction r) h = reduction_holds n p o r h
+holds_at n p o (at.Verdict v) h = verdict_holds n p o v h
 
 pub there_where_enabled : (p : Sparse) (e : Instance) → enabled_on p e ≡ true → AreThere p (heads e)
 there_where_enabled p (at.Reduction r) on = reduction_there p r on
@@ -52,25 +52,21 @@ instance_back n m (at.Verdict v) h = ap (λ w. at.Verdict w) (verdict_back n m v
 
 -- ---- from old ids to new ones
 module _ (n : Ids) (p q : Sparse) (s : LinesStand n p q) where
-  all_stand : (ps : List Part) → AreThere p ps → map (contents_of q) (map (part_at n) ps) ≡ map (contents_at n) (map (contents_of p) ps)
-  all_stand [] h = refl
-  all_stand (a ∷ ps) h = ap₂ ◌∷◌ (contents_stand n p q s a (All-head (IsThere p) a ps h)) (all_stand ps (All-tail (IsThere p) a ps h))
-
   -- what is read
   parts_stand : (e : Instance) → AreThere p (heads e) → parts_on (heads (instance_at n e)) (more (instance_at n e)) q ≡ map (part_at n) (reads p e)
   parts_stand e h =
       let f : Instance = instance_at n e in
       let hs : List Part = heads e in
       ap (λ (ps : List Part). ps ++ more f (map (contents_of q) ps)) (heads_at n e)
-      ∙ ap (λ (cs : List Contents). map (part_at n) hs ++ more f cs) (all_stand hs h)
-      ∙ ap (λ (ps : List Part). map (part_at n) hs ++ ps) (more_at n e (map (contents_of p) hs))
+      ∙ ap (λ (cs : List Contents). map (part_at n) hs ++ more f cs) (all_stand n p q s hs h)
+      ∙ ap (λ (ps : List Part). map (part_at n) hs ++ ps) (more_at n p s.apart e)
       ∙ sym (map-append (part_at n) hs (more e (map (contents_of p) hs)))
 
   pub enabled_stands : (e : Instance) → AreThere p (heads e) → enabled_on q (instance_at n e) ≡ enabled_on p e
   enabled_stands e h =
       ap (λ (ps : List Part). holds (instance_at n e) (map (contents_of q) ps)) (parts_stand e h)
-      ∙ ap (holds (instance_at n e)) (all_stand (reads p e) (All-append (IsThere p) (heads e) (more e (map (contents_of p) (heads e))) h (names_there p e)))
-      ∙ holds_at n p e
+      ∙ ap (holds (instance_at n e)) (all_stand n p q s (reads p e) (All-append (IsThere p) (heads e) (more e (map (contents_of p) (heads e))) h (names_there p e)))
+      ∙ holds_at n p s.apart e h
 
   pub applies_stand : (numbers : Numbers) (r : Reduction) → q.offset ≡ p.offset → AreThere p (heads_of r) → CanApply numbers p r ↔ CanApply numbers q (reduction_at n r)
   applies_stand numbers r o h = (there, back)

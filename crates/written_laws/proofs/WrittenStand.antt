@@ -6,6 +6,7 @@ use Rattle.lp_model.specs.LinearProgram.{LinearProgram}
 use Rattle.lp_model.specs.ProgramData.{ProgramData}
 use Rattle.lp_model.specs.Sparse.{Ascends, dense}
 use Rattle.lp_passages.specs.Renumbering.{written}
+use Rattle.problem_model.specs.declared.line.Line.{Line}
 use Rattle.problem_model.specs.Edits.{offset_set}
 use Rattle.problem_model.specs.Problems.{IsSparse, bounds_at, column_at, column_entries, cost_at, row_at, row_entries, sides_at}
 use Rattle.problem_model.specs.Programs.{IsProblemOf, live_ids, rank, renumbered, written_program}
@@ -22,12 +23,17 @@ use Rattle.program_laws.proofs.Renumbering.{ascends-renumbered, dense-renumbered
 use Rattle.program_laws.proofs.WrittenShow.{written_alike}
 use Rattle.rule_words.proofs.Coefficients.{coefficient_in_column, coefficient_in_row, end_live}
 use Rattle.written_laws.proofs.NewIds.{new_ids}
+use Rattle.written_laws.proofs.OneToOne.{IsOneToOne}
 use Rattle.written_laws.proofs.SameTerms.{TellAlike, same_terms}
-use Rattle.written_laws.proofs.Standing.{ColumnStands, IsLeft, RowStands}
+use Rattle.written_laws.proofs.Standing.{AreOneToOne, ColumnStands, IsLeft, RowStands}
 
 -- a problem of the same size is of the program too
 pub still_of : (program : ProgramData) (start p : Sparse) → IsProblemOf program start → SameSize start p → IsOf program p
 still_of program start p h z = record { rows = z.rows ∙ h.rows; columns = z.columns ∙ columns_length program start h; constant = z.constant ∙ h.constant }
+
+-- live lines with the same rank are the same
+ranks_apart : (ls : List Line) → IsOneToOne (rank ls) ls
+ranks_apart ls i k h g e = sym (rank-id ls i h) ∙ ap (slice_index (live_ids ls)) e ∙ rank-id ls k g
 
 module _ (program : ProgramData) (p q : Sparse) (s : IsSparse p) (o : IsOf program p) (h : IsProblemOf (written_program program p) q) where
   abbrev rows : List ℕ
@@ -127,4 +133,5 @@ module _ (program : ProgramData) (p q : Sparse) (s : IsSparse p) (o : IsOf progr
     }
 
   pub written_left : IsLeft p (offset_set q p.offset)
-  written_left = record { stands = record { row = row_stands; column = column_stands }; rows = rows_long; columns = columns_long; offset = refl }
+  written_left = let apart : AreOneToOne (new_ids p) p = record { row = ranks_apart p.matrix.rows; column = ranks_apart p.matrix.columns } in
+      record { stands = record { apart = apart; row = row_stands; column = column_stands }; rows = rows_long; columns = columns_long; offset = refl }
