@@ -1,11 +1,12 @@
 //! Whether the rows of a column take its moves in a direction. Nothing is copied: what is passed over is what stands in deleted rows.
 
-ghost use Rattle.std.specs.Prelude.{◌≡◌, ◌||◌, ◌&&◌, not, true, map};
+ghost use Rattle.std.specs.Prelude.{◌≡◌, ◌||◌, ◌&&◌, not, true, length, map};
+ghost use Rattle.lp_model.specs.Sparse.{Ascends};
 ghost use Rattle.problem_model.specs.declared.part.Part.TheVariants as part;
 ghost use Rattle.problem_model.specs.Matrices.{live_only};
 ghost use Rattle.problem_model.specs.Parts.{contents_of};
 ghost use Rattle.problem_model.specs.Problems.{column_at, row_at};
-ghost use Rattle.rule_words.specs.Reading.{sides_of};
+ghost use Rattle.rule_words.specs.Reading.{sides_of, terms_in};
 ghost use Rattle.dual_laws.specs.Locks.{all_take, are_uncrossed, is_uncrossed};
 ghost use Rattle.dual_rules.specs.Directions.{takes};
 
@@ -77,4 +78,17 @@ pub fn entries(problem: &Problem, column: u32) -> &[Term]
     ensures { result.now ≡ (column_at problem.now column).entries }
 {
     problem.columns()[column as usize].entries.as_slice()
+}
+
+/// The entries of a column, those in deleted rows among them; none if it isn't live.
+pub fn entries_if_live(problem: &Problem, column: u32) -> &[Term]
+    ensures named { live_only problem.now.matrix.rows result.now ≡ terms_in (contents_of problem.now (part.Col column)) }
+    ensures ascend { Ascends 0 (length problem.now.matrix.rows) result.now }
+{
+    problem.is_sparse();
+    if problem.is_column_live(column) {
+        entries(problem, column)
+    } else {
+        &[]
+    }
 }

@@ -6,6 +6,7 @@ ghost use Rattle.presolve_model.specs.Enabled.{enabled_on};
 ghost use Rattle.presolve_model.specs.Tables.{edits, record_of, Computes};
 ghost use Rattle.presolve_model.specs.declared.instance.Instance.TheVariants as at;
 
+use dual_rules::{dominated_column, fixed_by_cost, ray};
 use presolve_model::{Instance, Reduction, Verdict};
 use problem_model::Refusal;
 use rule_words::Change;
@@ -24,6 +25,12 @@ fn is_reduction_enabled(problem: &Problem, reduction: Reduction) -> bool
         Reduction::SingletonRow { row } => singleton_row::is_enabled(problem, row),
         Reduction::FixedColumn { column } => fixed_column::is_enabled(problem, column),
         Reduction::RoundBounds { column } => round_bounds::is_enabled(problem, column),
+        Reduction::FixedByCost { column } => fixed_by_cost::is_enabled(problem, column),
+        Reduction::DominatedColumn {
+            row,
+            better,
+            column,
+        } => dominated_column::is_enabled(problem, row, better, column),
         Reduction::EmptyColumn { column } => empty_column::is_enabled(problem, column),
     }
 }
@@ -34,6 +41,7 @@ fn is_verdict_enabled(problem: &Problem, verdict: Verdict) -> bool
     match verdict {
         Verdict::CrossedBounds { column } => crossed_bounds::is_enabled(problem, column),
         Verdict::CrossedSides { row } => crossed_sides::is_enabled(problem, row),
+        Verdict::Ray { column } => ray::is_enabled(problem, column),
     }
 }
 
@@ -61,6 +69,12 @@ pub fn change(alloc: Global, problem: &Problem, reduction: Reduction) -> Result<
         Reduction::SingletonRow { row } => singleton_row::change(alloc, problem, row),
         Reduction::FixedColumn { column } => fixed_column::change(alloc, problem, column),
         Reduction::RoundBounds { column } => round_bounds::change(alloc, problem, column),
+        Reduction::FixedByCost { column } => fixed_by_cost::change(alloc, problem, column),
+        Reduction::DominatedColumn {
+            row,
+            better,
+            column,
+        } => dominated_column::change(alloc, problem, row, better, column),
         Reduction::EmptyColumn { column } => empty_column::change(alloc, problem, column),
     }
 }

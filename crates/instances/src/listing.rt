@@ -1,21 +1,21 @@
-//! The rules in order.
+//! The rules: their order, which first ids they have and how far these are from what is read, and what verdicts say. A line a rule.
 
-ghost use Rattle.std.specs.Prelude.{◌≡◌, ◌∷◌, []};
-ghost use Rattle.problem_model.specs.Sparse.{Sparse};
-ghost use Rattle.presolve_model.specs.Instances.{instances_from, is_of_rows as of_rows};
+ghost use Rattle.std.specs.Prelude.{◌≡◌};
+ghost use Rattle.presolve_model.specs.Instances.{is_of_rows as of_rows, reach_of as reach};
+ghost use Rattle.presolve_model.specs.Meanings.{says_no_point as no_point};
 ghost use Rattle.presolve_model.specs.Order.{reduction_order, verdict_order};
 
-use presolve_model::{Instance, Reduction, Rule, Verdict};
+use presolve_model::{Reach, Rule, Verdict};
 
 /// The rules of verdicts in order.
-pub fn verdict_rules() -> [Rule; 2]
+pub fn verdict_rules() -> [Rule; 3]
     ensures { result ≡ verdict_order }
 {
-    [Rule::CrossedBounds, Rule::CrossedSides]
+    [Rule::CrossedBounds, Rule::CrossedSides, Rule::Ray]
 }
 
 /// The rules of reductions in order.
-pub fn reduction_rules() -> [Rule; 5]
+pub fn reduction_rules() -> [Rule; 7]
     ensures { result ≡ reduction_order }
 {
     [
@@ -23,6 +23,8 @@ pub fn reduction_rules() -> [Rule; 5]
         Rule::SingletonRow,
         Rule::FixedColumn,
         Rule::RoundBounds,
+        Rule::FixedByCost,
+        Rule::DominatedColumn,
         Rule::EmptyColumn,
     ]
 }
@@ -32,22 +34,39 @@ pub fn is_of_rows(rule: Rule) -> bool
     ensures { result ≡ of_rows rule }
 {
     match rule {
-        Rule::CrossedSides | Rule::EmptyRow | Rule::SingletonRow => true,
-        Rule::CrossedBounds | Rule::FixedColumn | Rule::RoundBounds | Rule::EmptyColumn => false,
+        Rule::CrossedSides | Rule::EmptyRow | Rule::SingletonRow | Rule::DominatedColumn => true,
+        Rule::CrossedBounds
+        | Rule::Ray
+        | Rule::FixedColumn
+        | Rule::RoundBounds
+        | Rule::FixedByCost
+        | Rule::EmptyColumn => false,
     }
 }
 
-/// The instance of a rule at a first id: a line a rule. No rule here has more than one at an id.
-pub fn instance_of(rule: Rule, id: u32) -> Instance
-    ensures { (p : Sparse) → instances_from p rule id ≡ result ∷ [] }
+/// How far the first id of an enabled instance of a rule may be from a part that it reads.
+pub fn reach_of(rule: Rule) -> Reach
+    ensures { result ≡ reach rule }
 {
     match rule {
-        Rule::CrossedBounds => Instance::Verdict(Verdict::CrossedBounds { column: id }),
-        Rule::CrossedSides => Instance::Verdict(Verdict::CrossedSides { row: id }),
-        Rule::EmptyRow => Instance::Reduction(Reduction::EmptyRow { row: id }),
-        Rule::SingletonRow => Instance::Reduction(Reduction::SingletonRow { row: id }),
-        Rule::FixedColumn => Instance::Reduction(Reduction::FixedColumn { column: id }),
-        Rule::RoundBounds => Instance::Reduction(Reduction::RoundBounds { column: id }),
-        Rule::EmptyColumn => Instance::Reduction(Reduction::EmptyColumn { column: id }),
+        Rule::CrossedBounds
+        | Rule::CrossedSides
+        | Rule::EmptyRow
+        | Rule::SingletonRow
+        | Rule::FixedColumn
+        | Rule::RoundBounds
+        | Rule::EmptyColumn => Reach::Here,
+        Rule::Ray | Rule::FixedByCost => Reach::Near,
+        Rule::DominatedColumn => Reach::Far,
+    }
+}
+
+/// Whether a verdict says that no point is feasible. Else it says that none is, or that no cost is the least.
+pub fn says_no_point(verdict: Verdict) -> bool
+    ensures { result ≡ no_point verdict }
+{
+    match verdict {
+        Verdict::CrossedBounds { .. } | Verdict::CrossedSides { .. } => true,
+        Verdict::Ray { .. } => false,
     }
 }

@@ -3,30 +3,27 @@
 ghost use Rattle.std.specs.Prelude.{◌≡◌, map, IfOk};
 ghost use Rattle.problem_model.specs.Reading.{read_of};
 ghost use Rattle.presolve_model.specs.Enabled.{reading_of};
-ghost use Rattle.presolve_model.specs.Tables.{heads};
 
-use crate::first_parts::heads;
+use crate::parts::parts_read;
 use crate::reading::Reading;
 use presolve_model::Instance;
 use problem_commits::read;
-use problem_model::Read;
+use problem_model::{Part, Read};
 use sparse_problem::Problem;
 use std::alloc::{AllocError, Global};
 
-/// Reads what an instance reads first.
-fn read_heads(alloc: Global, problem: &Problem, instance: Instance) -> Result<Vec<Read>, AllocError>
-    ensures { IfOk result (λ reads. reads.items ≡ map (read_of problem.now) (heads instance)) }
+/// Parts as they stand.
+fn read_all(alloc: Global, problem: &Problem, parts: &[Part]) -> Result<Vec<Read>, AllocError>
+    ensures { IfOk result (λ reads. reads.items ≡ map (read_of problem.now) parts.now) }
 {
-    let (first, second) = heads(instance);
-    let mut reads = Vec::with_capacity(alloc, 2)?;
-    reads.push(read(alloc, problem, first)?)?;
-    if let Some(part) = second {
-        reads.push(read(alloc, problem, part)?)?;
+    let mut reads = Vec::with_capacity(alloc, parts.len())?;
+    for part in parts {
+        reads.push(read(alloc, problem, *part)?)?;
     }
     Ok(reads)
 }
 
-/// What an instance reads. No rule here reads more than its heads.
+/// What an instance reads.
 pub fn reading_for(
     alloc: Global,
     problem: &Problem,
@@ -34,5 +31,6 @@ pub fn reading_for(
 ) -> Result<Reading, AllocError>
     ensures { IfOk result (λ reading. reading ≡ reading_of problem.now instance) }
 {
-    Ok(Reading::of(read_heads(alloc, problem, instance)?))
+    let parts = parts_read(alloc, problem, instance)?;
+    Ok(Reading::of(read_all(alloc, problem, parts.as_slice())?))
 }

@@ -8,7 +8,8 @@ ghost use Rattle.presolve_model.specs.Scans.{found_at, found_in, proposal_of};
 
 use crate::chunk::Chunk;
 use crate::enabled::is_enabled;
-use crate::listing::{instance_of, is_of_rows};
+use crate::finding::add_enabled;
+use crate::listing::is_of_rows;
 use crate::proposal::Proposal;
 use crate::reads::reading_for;
 use crate::tally::Tally;
@@ -46,6 +47,24 @@ fn visit(
     Ok(())
 }
 
+/// Adds those of some instances that are enabled.
+fn visit_each(
+    alloc: Global,
+    problem: &Problem,
+    version: u64,
+    instances: &[Instance],
+    found: &mut Vec<Proposal>,
+) -> Result<(), AllocError>
+    ensures { OnOk result (found.new.items ≡ found.old.items ++ map (proposal_of problem.now version) (filter (enabled_on problem.now) instances.now)) }
+{
+    let mut rest = instances;
+    while let [instance, after @ ..] = rest {
+        visit(alloc, problem, version, *instance, found)?;
+        rest = after;
+    }
+    Ok(())
+}
+
 /// Adds the instances of a rule with a first id that are enabled.
 fn visit_from(
     alloc: Global,
@@ -57,7 +76,9 @@ fn visit_from(
 ) -> Result<(), AllocError>
     ensures { OnOk result (found.new.items ≡ found.old.items ++ found_at problem.now version rule (id ∷ [])) }
 {
-    visit(alloc, problem, version, instance_of(rule, id), found)
+    let mut instances = Vec::new(alloc);
+    add_enabled(alloc, problem, rule, id, &mut instances)?;
+    visit_each(alloc, problem, version, instances.as_slice(), found)
 }
 
 /// The enabled instances of a rule at these ids, in their order, each with its reading.

@@ -27,7 +27,7 @@ use Rattle.presolve_model.specs.Stuck.{skipped_on, Stuck}
 use Rattle.presolve_model.specs.Instances.{instances_from}
 use Rattle.presolve_model.proofs.Readings.{reading_agrees}
 use Rattle.history_laws.proofs.Keeping.{sparse_replay}
-use Rattle.round_laws.specs.Choosing.{all_places, AreSorted, HoldsParts, Places, visited}
+use Rattle.round_laws.specs.Choosing.{all_around, AreSorted, Around, HoldsAround, visited}
 use Rattle.round_laws.specs.Passing.{IsSameBook, Passed}
 use Rattle.round_laws.proofs.Choosing.{all_complete, all_sorted, noted_complete}
 use Rattle.round_laws.proofs.Committing.{left_open}
@@ -60,8 +60,8 @@ noted_more p q n m l a h e = subst (λ (k : List Part). AreNoted p q n k × Cont
 sparse_of : (b : Ledger) → Stands b → IsSparse b.problem
 sparse_of b s = subst IsSparse (sym s.problem) (sparse_replay b.numbers b.start b.history s.sound s.replays)
 
-pub ready_first : (b : Ledger) (s : Stamped) (n : Places) → Stands b → ((a : Part) → changes_of b.problem a ≤ length b.history) → b.limit < 2 ^ 64 → s ≡ stamps_of b.problem → n ≡ all_places b.problem → IsReady b s n
-ready_first b s n h counted short es en = subst (λ (x : Stamped). IsReady b x n) (sym es) (subst (λ (m : Places). IsReady b (stamps_of b.problem) m) (sym en) (record {
+pub ready_first : (b : Ledger) (s : Stamped) (n : Around) → Stands b → ((a : Part) → changes_of b.problem a ≤ length b.history) → b.limit < 2 ^ 64 → s ≡ stamps_of b.problem → n ≡ all_around b.problem → IsReady b s n
+ready_first b s n h counted short es en = subst (λ (x : Stamped). IsReady b x n) (sym es) (subst (λ (m : Around). IsReady b (stamps_of b.problem) m) (sym en) (record {
   follows = follows_start b counted short (sparse_of b h);
   stamps = stamped b.problem;
   sorted = all_sorted b.problem;
@@ -69,13 +69,13 @@ ready_first b s n h counted short es en = subst (λ (x : Stamped). IsReady b x n
 }))
 
 -- ---- from one round to the next
-pub ready_next : (b c : Ledger) (s t : Stamped) (n l : Places) (m : List Part) → IsReady b s n → Passed b.problem (visited b.problem n) [] b m c → t ≡ restamped s c.problem m → AreSorted l → HoldsParts m l
+pub ready_next : (b c : Ledger) (s t : Stamped) (n l : Around) (m : List Part) → IsReady b s n → Passed b.problem (visited b.problem n) [] b m c → t ≡ restamped s c.problem m → AreSorted l → HoldsAround c.problem m l
     → c.verdict ≡ None → length c.history < c.limit → IsReady c t l
 ready_next b c s t n l m ready h e sorted holds none room = record {
   follows = follows_next b.problem c h.follows;
   stamps = subst (λ (x : Stamped). AreStampsOf x c.problem) (sym e) (restamped_right b.problem c.problem s m ready.stamps ready.follows.sparse h.follows.sparse h.follows.size h.moved);
   sorted = sorted;
-  complete = noted_complete c.problem m l holds (passed_noted b c n m ready.sorted ready.complete h none room);
+  complete = noted_complete c.problem m l h.follows.sparse holds (passed_noted b c n m ready.sorted ready.complete h none room);
 }
 
 -- a round that applied something
@@ -171,6 +171,9 @@ one_more f g xs i x n m l b c d inside h k =
     let more : flat_map g (take (i + 1) xs) ≡ flat_map g (take i xs) ++ g (get_or xs i x) =
     ap (flat_map g) (take_more xs i x inside) ∙ flat_both g (take i xs) (get_or xs i x ∷ []) ∙ ap (λ (es : List Instance). flat_map g (take i xs) ++ es) (append-nil (g (get_or xs i x))) in
     subst (λ (es : List Instance). Passed f es n b l d) (sym more) (passed_on f (flat_map g (take i xs)) (g (get_or xs i x)) n m l b c d h k)
+
+pub one_instance_more : (f : Sparse) (es : List Instance) (i : ℕ) (e : Instance) (n m l : List Part) (b c d : Ledger) → i < length es → Passed f (take i es) n b m c → Passed f (get_or es i e ∷ []) m c l d → Passed f (take (i + 1) es) n b l d
+one_instance_more f es i e n m l b c d inside h k = subst (λ (fs : List Instance). Passed f fs n b l d) (sym (take_more es i e inside)) (passed_on f (take i es) (get_or es i e ∷ []) n m l b c d h k)
 
 -- a list that is not empty has a first
 pub first_there : (es : List Instance) (d : Instance) → 0 < length es → IsFirst es (Some (get_or es 0 d))

@@ -1,45 +1,20 @@
 //! Instances that are enabled on a problem.
 
-ghost use Rattle.std.specs.Prelude.{◌≡◌, ◌++◌, ◌∷◌, [], IfOk, OnOk};
+ghost use Rattle.std.specs.Prelude.{◌≡◌, ◌++◌, IfOk, OnOk};
 ghost use Rattle.std.specs.List.{filter};
 ghost use Rattle.presolve_model.specs.Enabled.{enabled_on};
 ghost use Rattle.presolve_model.specs.Scans.{instances_at};
 ghost use Rattle.round_laws.specs.Choosing.{instances_of};
 
-use crate::ids::Ids;
-use instances::{instance_of, is_enabled};
+use crate::around::Around;
+use instances::add_enabled;
 use presolve_model::{Instance, Rule};
 use sparse_problem::Problem;
 use std::alloc::{AllocError, Global};
 
-/// Adds an instance, if it is enabled.
-fn add_one(
-    problem: &Problem,
-    instance: Instance,
-    found: &mut Vec<Instance>,
-) -> Result<(), AllocError>
-    ensures { OnOk result (found.new.items ≡ found.old.items ++ filter (enabled_on problem.now) (instance ∷ [])) }
-{
-    if is_enabled(problem, instance) {
-        found.push(instance)?;
-    }
-    Ok(())
-}
-
-/// Adds the instance of a rule at an id, if it is enabled.
-fn add_at(
-    problem: &Problem,
-    rule: Rule,
-    id: u32,
-    found: &mut Vec<Instance>,
-) -> Result<(), AllocError>
-    ensures { OnOk result (found.new.items ≡ found.old.items ++ filter (enabled_on problem.now) (instances_at problem.now rule (id ∷ []))) }
-{
-    add_one(problem, instance_of(rule, id), found)
-}
-
 /// Adds the enabled instances of a rule at these ids.
 fn add_found(
+    alloc: Global,
     problem: &Problem,
     rule: Rule,
     ids: &[u32],
@@ -49,7 +24,7 @@ fn add_found(
 {
     let mut rest = ids;
     while let [id, after @ ..] = rest {
-        add_at(problem, rule, *id, found)?;
+        add_enabled(alloc, problem, rule, *id, found)?;
         rest = after;
     }
     Ok(())
@@ -59,7 +34,7 @@ fn add_found(
 pub fn enabled_of(
     alloc: Global,
     problem: &Problem,
-    ids: &Ids,
+    ids: &Around,
     rules: &[Rule],
 ) -> Result<Vec<Instance>, AllocError>
     ensures { IfOk result (λ found. found.items ≡ filter (enabled_on problem.now) (instances_of problem.now ids.now rules.now)) }
@@ -67,7 +42,7 @@ pub fn enabled_of(
     let mut found = Vec::new(alloc);
     let mut rest = rules;
     while let [rule, after @ ..] = rest {
-        add_found(problem, *rule, ids.of(*rule), &mut found)?;
+        add_found(alloc, problem, *rule, ids.of(*rule), &mut found)?;
         rest = after;
     }
     Ok(found)

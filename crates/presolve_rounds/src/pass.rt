@@ -13,9 +13,9 @@ ghost use Rattle.round_laws.specs.Choosing.{ids_of, instances_of, visited};
 ghost use Rattle.round_laws.specs.Passing.{Follows, IsFresh, Passed};
 ghost use Rattle.presolve_rounds.specs.Stamping.{AreStampsOf};
 
-use crate::ids::Ids;
+use crate::around::Around;
 use crate::stamps::Stamps;
-use instances::{head, instance_of, is_enabled, reduction_rules, verdict_rules};
+use instances::{add_enabled, head, is_enabled, parts_read, reduction_rules, verdict_rules};
 use presolve_model::{Instance, Outcome, Part, Rule};
 use sparse_problem::Problem;
 use std::alloc::{AllocError, Global};
@@ -60,14 +60,34 @@ fn visit(
     if !is_enabled(book.problem(), instance) {
         return Ok(());
     }
-    if !stamps.stand_for(book.problem(), instance) {
+    let parts = parts_read(alloc, book.problem(), instance)?;
+    if !stamps.stand_for(book.problem(), parts.as_slice()) {
         return Ok(());
     }
     meet(alloc, book, frozen, instance, noted)?;
     Ok(())
 }
 
-/// The instances of a rule with a first id.
+/// Instances in turn.
+fn visit_found(
+    alloc: Global,
+    book: &mut Book,
+    frozen: &Snapshot<Problem>,
+    stamps: &Stamps,
+    found: &[Instance],
+    noted: &mut Vec<Part>,
+) -> Result<(), AllocError>
+    requires follows { Follows frozen.now.value book.old }
+    requires stamps { AreStampsOf stamps.now frozen.now.value }
+    ensures { OnOk result (Passed frozen.now.value found.now noted.old.items book.old noted.new.items book.new) }
+{
+    for instance in found {
+        visit(alloc, book, frozen, stamps, *instance, noted)?;
+    }
+    Ok(())
+}
+
+/// The instances of a rule with a first id: those that are enabled now.
 fn visit_at(
     alloc: Global,
     book: &mut Book,
@@ -81,7 +101,9 @@ fn visit_at(
     requires stamps { AreStampsOf stamps.now frozen.now.value }
     ensures { OnOk result (Passed frozen.now.value (instances_from frozen.now.value rule id) noted.old.items book.old noted.new.items book.new) }
 {
-    visit(alloc, book, frozen, stamps, instance_of(rule, id), noted)?;
+    let mut found = Vec::new(alloc);
+    add_enabled(alloc, book.problem(), rule, id, &mut found)?;
+    visit_found(alloc, book, frozen, stamps, found.as_slice(), noted)?;
     Ok(())
 }
 
@@ -112,7 +134,7 @@ fn visit_rule(
     frozen: &Snapshot<Problem>,
     stamps: &Stamps,
     rule: Rule,
-    ids: &Ids,
+    ids: &Around,
     noted: &mut Vec<Part>,
 ) -> Result<(), AllocError>
     requires follows { Follows frozen.now.value book.old }
@@ -130,7 +152,7 @@ fn visit_rules(
     frozen: &Snapshot<Problem>,
     stamps: &Stamps,
     rules: &[Rule],
-    ids: &Ids,
+    ids: &Around,
     noted: &mut Vec<Part>,
 ) -> Result<(), AllocError>
     requires follows { Follows frozen.now.value book.old }
@@ -149,7 +171,7 @@ pub fn pass(
     book: &mut Book,
     frozen: &Snapshot<Problem>,
     stamps: &Stamps,
-    ids: &Ids,
+    ids: &Around,
     noted: &mut Vec<Part>,
 ) -> Result<(), AllocError>
     requires follows { Follows frozen.now.value book.old }

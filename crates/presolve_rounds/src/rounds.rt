@@ -1,8 +1,8 @@
 //! Rounds in order, on one thread.
 //!
 //! A round lists, by its meaning, the enabled instances of the present problem in instance order: each rule's in turn, by ids. It then
-//! commits them in that order. A pass does the same, at those rows and columns alone at which an instance can be enabled: where a part has
-//! changed in the round before, and where an instance was refused.
+//! commits them in that order. A pass does the same, at those rows and columns alone at which an instance can be enabled: near each part that
+//! has changed in the round before, and near a part of what was refused.
 
 ghost use Rattle.std.specs.Prelude.{◌≡◌, ◌≢◌, ◌<◌, ◌≤◌, length, Some, None, IfOk, OnOk};
 ghost use Rattle.problem_model.specs.declared.part.Part.{Part};
@@ -14,8 +14,8 @@ ghost use Rattle.round_laws.specs.Passing.{IsSameBook};
 ghost use Rattle.presolve_rounds.specs.Readiness.{IsReady};
 ghost use Rattle.presolve_rounds.specs.Running.{EndsWith, IsFirst};
 
+use crate::around::Around;
 use crate::found::enabled_of;
-use crate::ids::Ids;
 use crate::pass::pass;
 use crate::stamps::Stamps;
 use instances::{reduction_rules, verdict_rules};
@@ -30,7 +30,7 @@ fn round(
     alloc: Global,
     book: &mut Book,
     stamps: &mut Stamps,
-    ids: &mut Ids,
+    ids: &mut Around,
 ) -> Result<(), AllocError>
     requires ready { IsReady book.old stamps.old ids.old }
     ensures book { OnOk result (IsSameBook book.old book.new) }
@@ -41,7 +41,7 @@ fn round(
     let mut noted = Vec::new(alloc);
     pass(alloc, book, &frozen, stamps, ids, &mut noted)?;
     stamps.refresh(book.problem(), noted.as_slice());
-    *ids = Ids::of_parts(alloc, noted.as_slice())?;
+    *ids = Around::of_parts(alloc, book.problem(), noted.as_slice())?;
     Ok(())
 }
 
@@ -53,7 +53,7 @@ fn count(instances: &[Instance]) -> u64
 }
 
 /// How many reductions are enabled, all of them at these rows and columns.
-fn skipped(alloc: Global, problem: &Problem, ids: &Ids) -> Result<u64, AllocError>
+fn skipped(alloc: Global, problem: &Problem, ids: &Around) -> Result<u64, AllocError>
     requires sorted { AreSorted ids.now }
     requires complete { IsComplete problem.now ids.now }
     ensures { IfOk result (λ skipped. skipped ≡ skipped_on problem.now) }
@@ -76,7 +76,7 @@ fn first_of(instances: &[Instance]) -> Option<Instance>
 fn first_verdict(alloc: Global, problem: &Problem) -> Result<Option<Instance>, AllocError>
     ensures { IfOk result (IsFirst (enabled_verdicts problem.now)) }
 {
-    let all = Ids::all_of(alloc, problem)?;
+    let all = Around::all_of(alloc, problem)?;
     let found = enabled_of(alloc, problem, &all, &verdict_rules())?;
     Ok(first_of(found.as_slice()))
 }
@@ -125,7 +125,7 @@ pub fn run(alloc: Global, book: &mut Book) -> Result<Option<End>, AllocError>
     book.stands();
     let limit = book.limit();
     let mut stamps = Stamps::of(alloc, book.problem())?;
-    let mut ids = Ids::all_of(alloc, book.problem())?;
+    let mut ids = Around::all_of(alloc, book.problem())?;
     while book.applied() < limit {
         let applied = book.applied();
         round(alloc, book, &mut stamps, &mut ids)?;

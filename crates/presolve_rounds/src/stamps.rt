@@ -2,12 +2,10 @@
 
 ghost use Rattle.std.specs.Prelude.{◌≡◌, nat_eq, length, map, slice_index_or, slice_set, IfOk};
 ghost use Rattle.problem_model.specs.Parts.{changes_of};
-ghost use Rattle.presolve_model.specs.Enabled.{reads};
 ghost use Rattle.round_laws.specs.Passing.{are_unchanged};
 ghost use Rattle.presolve_rounds.specs.Stamping.{restamped, stamp_at, stamp_put, stamps_of};
 
-use instances::heads;
-use presolve_model::{Bounds, Instance, Line, Part, Sides};
+use presolve_model::{Bounds, Line, Part, Sides};
 use sparse_problem::Problem;
 use std::alloc::{AllocError, Global};
 use std::marker::Model;
@@ -121,18 +119,18 @@ impl Stamps {
         problem.changes(part) == self.at(part)
     }
 
-    /// Whether no part that an instance reads has changed since.
-    pub fn stand_for(&self, problem: &Problem, instance: Instance) -> bool
-        ensures { result ≡ are_unchanged (stamp_at self.now) problem.now (reads problem.now instance) }
+    /// Whether none of these parts has changed since.
+    pub fn stand_for(&self, problem: &Problem, parts: &[Part]) -> bool
+        ensures { result ≡ are_unchanged (stamp_at self.now) problem.now parts.now }
     {
-        let (first, second) = heads(instance);
-        if !self.stands(problem, first) {
-            return false;
+        let mut rest = parts;
+        while let [part, after @ ..] = rest {
+            if !self.stands(problem, *part) {
+                return false;
+            }
+            rest = after;
         }
-        match second {
-            Some(part) => self.stands(problem, part),
-            None => true,
-        }
+        true
     }
 
     /// Puts right how often these parts have changed.

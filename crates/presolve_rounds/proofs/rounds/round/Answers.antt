@@ -1,7 +1,7 @@
 use Rattle.std.proofs.Common.{List, ap₂, ◌∙◌, subst}
 use Rattle.problem_model.specs.declared.part.Part.{Part}
 use Rattle.problem_model.specs.Sparse.{Sparse}
-use Rattle.round_laws.specs.Choosing.{HoldsParts, visited}
+use Rattle.round_laws.specs.Choosing.{HoldsAround, visited}
 use Rattle.round_laws.specs.Passing.{Passed}
 use Rattle.round_laws.proofs.Rounds.{passed_round}
 use Rattle.presolve_rounds.specs.Stamping.{restamped}
@@ -19,4 +19,4 @@ returns-clause-ready c none room =
     (subst (λ (ps : List Part). Passed c.args.book.now.problem (visited c.args.book.now.problem c.args.ids.now) ps c.args.book.now c.pass.new.noted.items c.pass.new.book) c.new-noted.ensures.items
     (subst (λ (f : Sparse). Passed f (visited f c.args.ids.now) c.new-noted.result.items c.args.book.now c.pass.new.noted.items c.pass.new.book) (c.of-frozen.ensures ∙ c.problem.ensures) c.in_ok-pass.ensures))
     (c.refresh.ensures ∙ ap₂ (λ (p : Sparse) (ps : List Part). restamped c.args.stamps.now p ps) c.problem-2.ensures c.as_slice.ensures.value)
-    c.in_ok-ids.ensures.sorted (subst (λ (ps : List Part). HoldsParts ps c.in_ok-ids.field-0) c.as_slice-2.ensures.value c.in_ok-ids.ensures.holds) none room
+    c.in_ok-ids.ensures.sorted (subst (λ (p : Sparse). HoldsAround p c.pass.new.noted.items c.in_ok-ids.field-0) c.problem-3.ensures (subst (λ (ps : List Part). HoldsAround c.problem-3.result.now ps c.in_ok-ids.field-0) c.as_slice-2.ensures.value c.in_ok-ids.ensures.holds)) none room

@@ -1,6 +1,6 @@
 use Rattle.std.proofs.Common.{◌<◌, length, sym, refl, ap, ◌∙◌, arith}
 use Rattle.presolve_model.specs.Stuck.{skipped_on}
-use Rattle.round_laws.specs.Choosing.{all_places}
+use Rattle.round_laws.specs.Choosing.{all_around}
 use Rattle.round_laws.proofs.Runs.{run_more}
 use Rattle.presolve_rounds.specs.Stamping.{stamps_of}
 use Rattle.presolve_rounds.proofs.Running.{at_fixpoint, more_applied, none_of, ready_first, same_twice}
@@ -12,7 +12,7 @@ loop-book-init c = record {
   limit = c.limit-limit.ensures;
   undecided = c.requires.undecided;
   ready = λ room. ready_first c.args.book.now c.in_ok-stamps.stamps c.in_ok-ids.ids c.stands.ensures.stands c.requires.counted (omega (arith, c.limit-limit.ensures, c.limit-limit.type_inv))
-      (c.in_ok-stamps.ensures ∙ ap stamps_of c.problem.ensures) (c.in_ok-ids.ensures ∙ ap all_places c.problem-2.ensures);
+      (c.in_ok-stamps.ensures ∙ ap stamps_of c.problem.ensures) (c.in_ok-ids.ensures ∙ ap all_around c.problem-2.ensures);
   ordered = λ e d h. h;
 }
 

@@ -1,0 +1,4 @@
+pub mod Merging
+pub mod Pairs
+pub mod Remaining
+pub mod SidesOfBoth

@@ -1,0 +1,162 @@
+-- Pairs of columns.
+use Rattle.std.proofs.Common.{◌≡◌, ℕ, zero, suc, ◌+◌, ◌<◌, Bool, true, false, not, ◌&&◌, ◌||◌, cond, nat_eq, nat_le, List, [], ◌∷◌, ◌++◌, length, map, drop, get_or, append-nil, Option, is_none, refl, sym, ap, ap₂, ◌∙◌, arith}
+use Rattle.std.specs.Prelude.{if◌then◌else◌}
+use Rattle.std.specs.List.{All, filter, flat_map}
+use Rattle.std.proofs.lemmas.Bool.{and_parts}
+use Rattle.std.proofs.lemmas.List.Elements.{All-head, All-tail, filter-append}
+use Rattle.rational.specs.Number.{Number}
+use Rattle.rational.specs.Compare.{le_ℚ}
+use Rattle.lp_model.specs.declared.terms.Term.{Term}
+use Rattle.lp_model.specs.EndTests.{is_apart, is_place}
+use Rattle.lp_model.specs.Sparse.{dense, has}
+use Rattle.problem_model.specs.declared.line.Bounds.{Bounds}
+use Rattle.problem_model.specs.declared.part.Contents.{Contents}
+use Rattle.problem_model.specs.declared.part.Contents.TheVariants as holding
+use Rattle.problem_model.specs.declared.part.Part.{Part}
+use Rattle.problem_model.specs.declared.part.Part.TheVariants as part
+use Rattle.problem_model.specs.Parts.{contents_of}
+use Rattle.problem_model.specs.Problems.{bounds_at, column_at, column_entries, cost_at, row_at, row_entries}
+use Rattle.problem_model.specs.Sparse.{Sparse}
+use Rattle.rule_words.specs.Reading.{terms_in}
+use Rattle.dual_laws.specs.DominatedColumn.{all_take_over, enabled, is_dominated, pairs_of, rows_of_both, share}
+use Rattle.dual_laws.specs.Locks.{are_uncrossed}
+use Rattle.problem_laws.proofs.Entries.{row_entries-live}
+use Rattle.problem_laws.proofs.Terms.{has-cons_same, not_both}
+use Rattle.dual_rules.specs.Merging.{all_admit}
+use Rattle.dual_rules.specs.Pairs.{are_live, dominates, is_short, pair_if, pairs_among, pairs_beside}
+use Rattle.dual_rules.proofs.Remaining.{left, one_more}
+
+-- the tests in another order
+and_none : (b : Bool) → (b && false) ≡ false
+and_none true = refl
+and_none false = refl
+
+regroup : (n s u a l c w m : Bool) → (n && (s && (u && (a && (l && (c && (w && m))))))) ≡ (s && ((n && (u && (a && (l && (c && w))))) && m))
+regroup false s u a l c w m = sym (and_none s)
+regroup true false u a l c w m = refl
+regroup true true false a l c w m = refl
+regroup true true true false l c w m = refl
+regroup true true true true false c w m = refl
+regroup true true true true true false w m = refl
+regroup true true true true true true w m = refl
+
+by_parts : (f : Part → Contents) (j k : ℕ) (row ts us : List Term) (c d : Number) (l u m n : Option Number) (w x : Bool) (r a b : Bool)
+    → is_dominated (if r then holding.Entries row else holding.Gone) (if a then holding.Column ts c else holding.Gone) (if b then holding.Column us d else holding.Gone) (if a then holding.Bounds l u w else holding.Gone) (if b then holding.Bounds m n x else holding.Gone)
+    (map f (map part.Sides (rows_of_both (terms_in (if a then holding.Column ts c else holding.Gone)) (terms_in (if b then holding.Column us d else holding.Gone))))) j k
+    ≡ ((r && (a && b)) && (share row j k && ((not (nat_eq j k) && (is_none u && (is_apart m n && (is_place m x && (le_ℚ c d && (not w || x)))))) && (are_uncrossed (map f (map part.Sides (rows_of_both ts us)))
+    && all_take_over (dense ts) (dense us) (rows_of_both ts us) (map f (map part.Sides (rows_of_both ts us)))))))
+by_parts f j k row ts us c d l u m n w x true true true =
+    regroup (not (nat_eq j k)) (share row j k) (is_none u) (is_apart m n) (is_place m x) (le_ℚ c d) (not w || x)
+    (are_uncrossed (map f (map part.Sides (rows_of_both ts us))) && all_take_over (dense ts) (dense us) (rows_of_both ts us) (map f (map part.Sides (rows_of_both ts us))))
+by_parts f j k row ts us c d l u m n w x true true false = refl
+by_parts f j k row ts us c d l u m n w x true false b = refl
+by_parts f j k row ts us c d l u m n w x false a b = refl
+
+pub enabled_is : (p : Sparse) (i j k : ℕ) → enabled p i j k ≡ (are_live p i j k && (share (row_entries p i) j k && dominates p j k))
+enabled_is p i j k = by_parts (contents_of p) j k (row_entries p i) (column_entries p j) (column_entries p k) (cost_at p j) (cost_at p k) (bounds_at p j).lower (bounds_at p j).upper (bounds_at p k).lower (bounds_at p k).upper
+    (bounds_at p j).whole (bounds_at p k).whole (row_at p i).live (column_at p j).live (column_at p k).live
+
+-- ---- lists of pairs
+abbrev Pair : Type 0
+Pair = ℕ × ℕ
+
+none_kept : (P : Pair → Bool) (xs : List Pair) → ((x : Pair) → P x ≡ false) → filter P xs ≡ []
+none_kept P [] h = refl
+none_kept P (x ∷ xs) h = ap (λ (b : Bool). cond b (x ∷ filter P xs) (filter P xs)) (h x) ∙ none_kept P xs h
+
+-- a column with an upper bound dominates none
+dominates_none : (p : Sparse) (j k : ℕ) → is_none (bounds_at p j).upper ≡ false → dominates p j k ≡ false
+dominates_none p j k e = by (not (nat_eq j k)) (is_none (bounds_at p j).upper) e
+  where
+    by : (n u : Bool) → u ≡ false → ((n && (u && (is_apart (bounds_at p k).lower (bounds_at p k).upper && (is_place (bounds_at p k).lower (bounds_at p k).whole && (le_ℚ (cost_at p j) (cost_at p k) && (not (bounds_at p j).whole || (bounds_at p k).whole))))))
+        && all_admit p (column_entries p j) (column_entries p k)) ≡ false
+    by false u f = refl
+    by true false f = refl
+    by true true f = absurd (not_both refl f)
+
+pub none_beside : (p : Sparse) (j : ℕ) (ts : List Term) → is_none (bounds_at p j).upper ≡ false → pairs_beside p j ts ≡ []
+none_beside p j [] e = refl
+none_beside p j (t ∷ ts) e = ap (λ (b : Bool). cond b ((j, t.id) ∷ pairs_beside p j ts) (pairs_beside p j ts)) (dominates_none p j t.id e) ∙ none_beside p j ts e
+
+pub at_once : (p : Sparse) (j : ℕ) (ts : List Term) (x : List Pair) (b : Bounds) (q : Bool) → q ≡ is_none b.upper → b ≡ bounds_at p j → q ≡ false → x ≡ x ++ pairs_beside p j ts
+at_once p j ts x b q e f g = sym (ap (λ (l : List Pair). x ++ l) (none_beside p j ts (sym (e ∙ ap (λ (o : Bounds). is_none o.upper) f) ∙ g)) ∙ append-nil x)
+
+beside_step : (p : Sparse) (j : ℕ) (t : Term) (ts : List Term) → pairs_beside p j (t ∷ ts) ≡ pair_if (dominates p j t.id) j t.id ++ pairs_beside p j ts
+beside_step p j t ts = by (dominates p j t.id)
+  where
+    by : (b : Bool) → cond b ((j, t.id) ∷ pairs_beside p j ts) (pairs_beside p j ts) ≡ pair_if b j t.id ++ pairs_beside p j ts
+    by true = refl
+    by false = refl
+
+-- one more
+pub beside_more : (p : Sparse) (j : ℕ) (ts : List Term) (i : ℕ) (t : Term) (x y z : List Pair) → i < length ts → t ≡ get_or ts i t → x ++ pairs_beside p j (drop i ts) ≡ z → y ≡ x ++ pair_if (dominates p j t.id) j t.id
+    → y ++ pairs_beside p j (drop (i + 1) ts) ≡ z
+beside_more p j ts i t x y z l e h g = one_more x y (pairs_beside p j (drop i ts)) (pair_if (dominates p j t.id) j t.id) (pairs_beside p j (drop (i + 1) ts)) z h
+    (ap (pairs_beside p j) (left ts i t l e) ∙ beside_step p j t (drop (i + 1) ts)) g
+
+pub among_more : (p : Sparse) (us ts : List Term) (i : ℕ) (t : Term) (x y z : List Pair) → i < length ts → t ≡ get_or ts i t → x ++ pairs_among p (drop i ts) us ≡ z → y ≡ x ++ pairs_beside p t.id us
+    → y ++ pairs_among p (drop (i + 1) ts) us ≡ z
+among_more p us ts i t x y z l e h g = one_more x y (pairs_among p (drop i ts) us) (pairs_beside p t.id us) (pairs_among p (drop (i + 1) ts) us) z h
+    (ap (λ (vs : List Term). pairs_among p vs us) (left ts i t l e) ∙ filter-append (λ (q : Pair). dominates p q.0 q.1) (map (λ (u : Term). (t.id, u.id)) us) (flat_map (λ (v : Term). map (λ (u : Term). (v.id, u.id)) us) (drop (i + 1) ts))) g
+
+-- ---- the pairs of a row
+not_short : (p : Sparse) (i j k : ℕ) → is_short p i ≡ false → enabled p i j k ≡ false
+not_short p i j k e = enabled_is p i j k ∙ by (row_at p i).live (nat_le (length (row_entries p i)) 64) e
+  where
+    by : (r s : Bool) → (r && s) ≡ false → ((r && ((column_at p j).live && (column_at p k).live)) && ((s && (has j (row_entries p i) && has k (row_entries p i))) && dominates p j k)) ≡ false
+    by false s f = refl
+    by true true f = absurd (not_both refl f)
+    by true false f = and_none ((column_at p j).live && (column_at p k).live)
+
+pub none_at : (p : Sparse) (i : ℕ) → is_short p i ≡ false → [] ≡ filter (λ x. enabled p i x.0 x.1) (pairs_of (row_entries p i))
+none_at p i e = sym (none_kept (λ x. enabled p i x.0 x.1) (pairs_of (row_entries p i)) (λ x. not_short p i x.0 x.1 e))
+
+more : (k : ℕ) (t : Term) (ts : List Term) → has k ts ≡ true → has k (t ∷ ts) ≡ true
+more k t ts e = by (nat_eq t.id k)
+  where
+    by : (b : Bool) → (b || has k ts) ≡ true
+    by true = refl
+    by false = e
+
+-- in a live row that is short, two of its columns are an enabled pair where the first dominates the second
+module _ (p : Sparse) (i : ℕ) (short : is_short p i ≡ true) where
+  abbrev ts : List Term
+  ts = row_entries p i
+
+  pair_is : (j k : ℕ) → (column_at p j).live ≡ true → (column_at p k).live ≡ true → has j ts ≡ true → has k ts ≡ true → enabled p i j k ≡ dominates p j k
+  pair_is j k a b c d = let e = and_parts (row_at p i).live (nat_le (length ts) 64) short in
+      enabled_is p i j k ∙ ap₂ (λ (x y : Bool). x && (y && dominates p j k))
+      (ap₂ (λ (x y : Bool). x && y) e.0 (ap₂ (λ (x y : Bool). x && y) a b))
+      (ap₂ (λ (x y : Bool). x && y) e.1 (ap₂ (λ (x y : Bool). x && y) c d))
+
+  -- terms of the row
+  InRow : Term → Type 0
+  InRow t = ((column_at p t.id).live ≡ true) × (has t.id ts ≡ true)
+
+  beside_is : (t : Term) (us : List Term) → InRow t → All InRow us → filter (λ x. enabled p i x.0 x.1) (map (λ (u : Term). (t.id, u.id)) us) ≡ pairs_beside p t.id us
+  unfolding InRow
+  beside_is t [] a h = refl
+  beside_is t (u ∷ us) a h = let b = All-head InRow u us h in
+      ap₂ (λ (q : Bool) (l : List Pair). cond q ((t.id, u.id) ∷ l) l) (pair_is t.id u.id a.0 b.0 a.1 b.1) (beside_is t us a (All-tail InRow u us h))
+
+  among_is : (vs us : List Term) → All InRow vs → All InRow us → filter (λ x. enabled p i x.0 x.1) (flat_map (λ (v : Term). map (λ (u : Term). (v.id, u.id)) us) vs) ≡ pairs_among p vs us
+  among_is [] us a b = refl
+  among_is (v ∷ vs) us a b =
+      filter-append (λ (q : Pair). enabled p i q.0 q.1) (map (λ (u : Term). (v.id, u.id)) us) (flat_map (λ (w : Term). map (λ (u : Term). (w.id, u.id)) us) vs)
+      ∙ ap₂ (λ (l m : List Pair). l ++ m) (beside_is v us (All-head InRow v vs a) b) (among_is vs us (All-tail InRow v vs a) b)
+      ∙ sym (filter-append (λ (q : Pair). dominates p q.0 q.1) (map (λ (u : Term). (v.id, u.id)) us) (flat_map (λ (w : Term). map (λ (u : Term). (w.id, u.id)) us) vs))
+
+  all_in_row : All InRow ts
+  unfolding InRow
+  all_in_row = λ n d l. (row_entries-live p i n d l, named ts n d l)
+    where
+      named : (us : List Term) (n : ℕ) (d : Term) → n < length us → has (get_or us n d).id us ≡ true
+      named [] n d l = absurd (omega (arith, l))
+      named (u ∷ us) zero d l = has-cons_same u.id u us refl
+      named (u ∷ us) (suc n) d l = more (get_or us n d).id u us (named us n d (omega (arith, l)))
+
+  pairs_are : pairs_among p ts ts ≡ filter (λ x. enabled p i x.0 x.1) (pairs_of ts)
+  pairs_are = sym (among_is ts ts all_in_row all_in_row)
+
+pub pairs_found : (p : Sparse) (i : ℕ) (us : List Term) (x y : List Pair) → is_short p i ≡ true → us ≡ row_entries p i → x ≡ [] → y ≡ x ++ pairs_among p us us → y ≡ filter (λ x. enabled p i x.0 x.1) (pairs_of (row_entries p i))
+pairs_found p i us x y s e f g = g ∙ ap₂ (λ (l : List Pair) (vs : List Term). l ++ pairs_among p vs vs) f e ∙ pairs_are p i s

@@ -1,0 +1,26 @@
+use Rattle.std.proofs.Common.{ap, sym, arith, length, subst}
+use Rattle.lp_model.specs.Sparse.{Ascends}
+use Rattle.dual_rules.proofs.Merging.{ascends_past, first_is, goes_on, refused}
+use Rattle.dual_rules.proofs.both_columns.rows_admit.Goals as goal
+
+pub loop-row-preserved : goal.loop-row-preserved
+loop-row-preserved c = let p = c.args.problem.now in let n = length p.matrix.rows in let i = c.loop-row.invariant in
+    let f = first_is n c.in-Some.row c.loop-row.rest.now c.loop-row.rest_of_others.now i.entries i.others (sym c.in-Some.ensures) in
+    record {
+      same = goes_on p n c.in-Some.row c.loop-row.rest.now c.loop-row.rest_of_others.now c.value_there-better.result c.value_there-worse.result c.row_passes.result _ f
+          c.value_there-better.ensures c.value_there-worse.ensures c.row_passes.ensures i.same c.past-rest.result.now c.past-rest_of_others.result.now c.past-rest.ensures c.past-rest_of_others.ensures c.if-not-row_passes.false;
+      entries = subst (Ascends 0 n) (sym c.past-rest.ensures) (ascends_past c.in-Some.row 0 n c.loop-row.rest.now i.entries);
+      others = subst (Ascends 0 n) (sym c.past-rest_of_others.ensures) (ascends_past c.in-Some.row 0 n c.loop-row.rest_of_others.now i.others);
+    }
+
+pub returns-then-not-row_passes : goal.returns-then-not-row_passes
+returns-then-not-row_passes c = let p = c.args.problem.now in let n = length p.matrix.rows in let i = c.loop-row.invariant in
+    let f = first_is n c.in-Some.row c.loop-row.rest.now c.loop-row.rest_of_others.now i.entries i.others (sym c.in-Some.ensures) in
+    refused p n c.in-Some.row c.loop-row.rest.now c.loop-row.rest_of_others.now c.value_there-better.result c.value_there-worse.result c.row_passes.result _ f
+    c.value_there-better.ensures c.value_there-worse.ensures c.row_passes.ensures i.same c.if-not-row_passes.true
+
+pub loop-row-smaller : goal.loop-row-smaller
+loop-row-smaller c = let p = c.args.problem.now in let n = length p.matrix.rows in let i = c.loop-row.invariant in
+    let f = first_is n c.in-Some.row c.loop-row.rest.now c.loop-row.rest_of_others.now i.entries i.others (sym c.in-Some.ensures) in
+    let a = ap length c.past-rest.ensures in let b = ap length c.past-rest_of_others.ensures in
+    omega (arith, f.fewer, a, b)

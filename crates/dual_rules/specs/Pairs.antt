@@ -1,0 +1,38 @@
+-- Pairs of columns of a row.
+use Rattle.std.specs.Prelude.{ℕ, Bool, not, ◌&&◌, ◌||◌, nat_eq, nat_le, List, [], ◌∷◌, length, map, is_none, if◌then◌else◌}
+use Rattle.std.specs.List.{filter, flat_map}
+use Rattle.rational.specs.Compare.{le_ℚ}
+use Rattle.lp_model.specs.declared.terms.Term.{Term}
+use Rattle.lp_model.specs.EndTests.{is_apart, is_place}
+use Rattle.problem_model.specs.Problems.{bounds_at, column_at, column_entries, cost_at, row_at, row_entries}
+use Rattle.problem_model.specs.Sparse.{Sparse}
+use Rattle.dual_rules.specs.Merging.{all_admit}
+
+-- what is asked of the bounds and costs of j and k
+abbrev pub is_better : Sparse → ℕ → ℕ → Bool
+is_better p j k = not (nat_eq j k) && (is_none (bounds_at p j).upper && (is_apart (bounds_at p k).lower (bounds_at p k).upper && (is_place (bounds_at p k).lower (bounds_at p k).whole
+    && (le_ℚ (cost_at p j) (cost_at p k) && (not (bounds_at p j).whole || (bounds_at p k).whole)))))
+
+-- and of their rows too: j dominates k
+abbrev pub dominates : Sparse → ℕ → ℕ → Bool
+dominates p j k = is_better p j k && all_admit p (column_entries p j) (column_entries p k)
+
+-- the row and both columns are live
+abbrev pub are_live : Sparse → ℕ → ℕ → ℕ → Bool
+are_live p i j k = (row_at p i).live && ((column_at p j).live && (column_at p k).live)
+
+-- a row is live, and has at most 64 entries
+abbrev pub is_short : Sparse → ℕ → Bool
+is_short p i = (row_at p i).live && nat_le (length (row_entries p i)) 64
+
+-- a pair of columns, or none
+abbrev pub pair_if : Bool → ℕ → ℕ → List (ℕ × ℕ)
+pair_if b j k = if b then (j, k) ∷ [] else []
+
+-- the pairs of a column with others that it dominates
+abbrev pub pairs_beside : Sparse → ℕ → List Term → List (ℕ × ℕ)
+pairs_beside p j us = filter (λ x. dominates p x.0 x.1) (map (λ u. (j, u.id)) us)
+
+-- and those of several columns
+abbrev pub pairs_among : Sparse → List Term → List Term → List (ℕ × ℕ)
+pairs_among p ts us = filter (λ x. dominates p x.0 x.1) (flat_map (λ t. map (λ u. (t.id, u.id)) us) ts)

@@ -1,0 +1,12 @@
+use Rattle.std.proofs.Common.{◌≡◌, ◌++◌, length, map}
+use Rattle.std.specs.List.{filter}
+use Rattle.presolve_model.specs.Enabled.{enabled_on}
+use Rattle.presolve_model.specs.Scans.{proposal_of}
+use Rattle.instances.proofs.scans.visit_each.Given as goal
+
+-- those so far, and those among the instances that are left
+abbrev pub invariant-loop-rest : goal.invariant-loop-rest
+invariant-loop-rest l = l.found.items ++ map (proposal_of l.problem l.version) (filter (enabled_on l.problem) l.rest) ≡ l.fn.found.items ++ map (proposal_of l.problem l.version) (filter (enabled_on l.problem) l.instances)
+
+abbrev pub decreases-loop-rest : goal.decreases-loop-rest
+decreases-loop-rest l = length l.rest
