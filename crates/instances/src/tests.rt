@@ -36,13 +36,16 @@ const COLUMNS: [(&[u8], Quotient, Option<Quotient>, bool); 4] = [
 ];
 
 /// Where each rule is enabled.
-const FOUND: [(Rule, &[u32]); 7] = [
+const FOUND: [(Rule, &[u32]); 10] = [
     (Rule::CrossedBounds, &[3]),
     (Rule::CrossedSides, &[2]),
+    (Rule::Ray, &[]),
     (Rule::EmptyRow, &[1]),
     (Rule::SingletonRow, &[0]),
     (Rule::FixedColumn, &[1]),
     (Rule::RoundBounds, &[0]),
+    (Rule::FixedByCost, &[0, 2]),
+    (Rule::DominatedColumn, &[]),
     (Rule::EmptyColumn, &[2]),
 ];
 
@@ -139,10 +142,13 @@ fn id_of(instance: Instance) -> u32 {
     match instance {
         Instance::Reduction(Reduction::EmptyRow { row })
         | Instance::Reduction(Reduction::SingletonRow { row })
+        | Instance::Reduction(Reduction::DominatedColumn { row, .. })
         | Instance::Verdict(Verdict::CrossedSides { row }) => row,
         Instance::Reduction(Reduction::FixedColumn { column })
         | Instance::Reduction(Reduction::RoundBounds { column })
+        | Instance::Reduction(Reduction::FixedByCost { column })
         | Instance::Reduction(Reduction::EmptyColumn { column })
+        | Instance::Verdict(Verdict::Ray { column })
         | Instance::Verdict(Verdict::CrossedBounds { column }) => column,
     }
 }
