@@ -155,6 +155,9 @@ pub none_of : (o v : Option Verdict) → o ≡ v → false ≡ is_some o → v �
 none_of o None e h = refl
 none_of o (Some x) e h = absurd (let f = ap is_some e in let g : false ≡ true = h ∙ f in cc)
 
+pub some_of : (o v : Option Verdict) → o ≡ v → true ≡ is_some o → v ≢ None
+some_of o v e h f = absurd (let g : true ≡ false = h ∙ ap is_some (e ∙ f) in cc)
+
 -- books that were opened alike one after the other
 pub same_twice : (a b c : Ledger) → IsSameBook a b → IsSameBook b c → IsSameBook a c
 same_twice a b c x y = record { start = y.start ∙ x.start; numbers = y.numbers ∙ x.numbers; limit = y.limit ∙ x.limit }

@@ -1,4 +1,5 @@
-use Rattle.std.proofs.Common.{◌≡◌, false, sym, ap, ◌∙◌}
+use Rattle.std.proofs.Common.{◌≡◌, false, List, sym, ap, ap₂, ◌∙◌}
+use Rattle.problem_model.specs.declared.part.Part.{Part}
 use Rattle.problem_model.specs.Sparse.{Sparse}
 use Rattle.problem_laws.proofs.Terms.{not_both}
 use Rattle.presolve_model.specs.Enabled.{enabled_on, reads}
@@ -15,12 +16,15 @@ returns-then-not-is_enabled c =
 
 pub returns-then-not-stand_for : goal.returns-then-not-stand_for
 returns-then-not-stand_for c =
-    let moved : are_unchanged (stamp_at c.args.stamps.now) c.args.book.now.problem (reads c.args.book.now.problem c.args.instance) ≡ false =
-    ap (λ (p : Sparse). are_unchanged (stamp_at c.args.stamps.now) p (reads p c.args.instance)) (sym c.problem-2.ensures) ∙ sym c.stand_for.ensures ∙ c.if-not-stand_for.true in
+    let told : c.stand_for.result ≡ are_unchanged (stamp_at c.args.stamps.now) c.args.book.now.problem (reads c.args.book.now.problem c.args.instance) =
+    c.stand_for.ensures ∙ ap₂ (λ (p : Sparse) (ps : List Part). are_unchanged (stamp_at c.args.stamps.now) p ps) c.problem-3.ensures
+    (c.as_slice.ensures.value ∙ c.in_ok-parts.ensures ∙ ap (λ (p : Sparse). reads p c.args.instance) c.problem-2.ensures) in
     met_over c.args.frozen.now.value c.args.instance c.args.noted.now.items c.args.book.now c.requires.follows
-    (λ on. changed_stale (stamp_at c.args.stamps.now) c.args.frozen.now.value c.args.book.now.problem c.requires.follows.later c.requires.stamps.tell c.args.instance moved)
+    (λ on. changed_stale (stamp_at c.args.stamps.now) c.args.frozen.now.value c.args.book.now.problem c.requires.follows.later c.requires.stamps.tell c.args.instance (sym told ∙ c.if-not-stand_for.true))
 
 pub meet-requires-clause-fresh : goal.meet-requires-clause-fresh
 meet-requires-clause-fresh c =
-    unchanged_fresh (stamp_at c.args.stamps.now) c.args.frozen.now.value c.args.book.now.problem c.requires.follows.later c.requires.stamps.tell c.args.instance
-    (ap (λ (p : Sparse). are_unchanged (stamp_at c.args.stamps.now) p (reads p c.args.instance)) (sym c.problem-2.ensures) ∙ sym c.stand_for.ensures ∙ c.if-not-stand_for.false)
+    let told : c.stand_for.result ≡ are_unchanged (stamp_at c.args.stamps.now) c.args.book.now.problem (reads c.args.book.now.problem c.args.instance) =
+    c.stand_for.ensures ∙ ap₂ (λ (p : Sparse) (ps : List Part). are_unchanged (stamp_at c.args.stamps.now) p ps) c.problem-3.ensures
+    (c.as_slice.ensures.value ∙ c.in_ok-parts.ensures ∙ ap (λ (p : Sparse). reads p c.args.instance) c.problem-2.ensures) in
+    unchanged_fresh (stamp_at c.args.stamps.now) c.args.frozen.now.value c.args.book.now.problem c.requires.follows.later c.requires.stamps.tell c.args.instance (sym told ∙ c.if-not-stand_for.false)

@@ -1,4 +1,4 @@
-use Rattle.std.proofs.Common.{List, subst}
+use Rattle.std.proofs.Common.{◌≡◌, ◌++◌, List, ap, ◌∙◌, subst}
 use Rattle.std.specs.List.{filter}
 use Rattle.problem_model.specs.Sparse.{Sparse}
 use Rattle.presolve_model.specs.declared.instance.Instance.{Instance}
@@ -9,4 +9,11 @@ use Rattle.round_laws.proofs.Thinning.{passed_found}
 use Rattle.presolve_rounds.proofs.pass.visit_at.Goals as goal
 
 pub returns : goal.returns
-returns c = ?
+returns c =
+    let p : Sparse = c.args.book.now.problem in
+    let found : c.as_slice.result.now ≡ filter (enabled_on p) (instances_from p c.args.rule c.args.id) =
+    c.as_slice.ensures.value ∙ c.in_ok-add_enabled.ensures
+    ∙ ap (λ (es : List Instance). es ++ filter (enabled_on c.problem.result.now) (instances_from c.problem.result.now c.args.rule c.args.id)) c.new-found.ensures.items
+    ∙ ap (λ (q : Sparse). filter (enabled_on q) (instances_from q c.args.rule c.args.id)) c.problem.ensures in
+    passed_found c.args.frozen.now.value c.args.rule c.args.id c.args.noted.now.items c.visit_found.new.noted.items c.args.book.now c.visit_found.new.book c.requires.follows
+    (subst (λ (es : List Instance). Passed c.args.frozen.now.value es c.args.noted.now.items c.args.book.now c.visit_found.new.noted.items c.visit_found.new.book) found c.in_ok-visit_found.ensures)

@@ -1,10 +1,12 @@
-use Rattle.std.proofs.Common.{◌<◌, length, sym, refl, ap, ◌∙◌, arith}
+use Rattle.std.proofs.Common.{◌≡◌, ◌<◌, length, None, Some, sym, refl, ap, ◌∙◌, subst, arith}
 use Rattle.presolve_model.specs.Stuck.{skipped_on}
-use Rattle.round_laws.specs.Choosing.{all_around}
-use Rattle.round_laws.proofs.Runs.{run_more}
+use Rattle.round_laws.specs.Choosing.{all_around, IsComplete}
+use Rattle.round_laws.proofs.Runs.{run_more, run_stops}
 use Rattle.presolve_rounds.specs.Stamping.{stamps_of}
-use Rattle.presolve_rounds.proofs.Running.{at_fixpoint, more_applied, none_of, ready_first, same_twice}
+use Rattle.presolve_rounds.proofs.Running.{at_fixpoint, more_applied, none_of, ready_first, same_twice, some_of}
 use Rattle.presolve_rounds.proofs.rounds.run.Goals as goal
+use Rattle.problem_model.specs.Sparse.{Sparse}
+use Rattle.presolve_model.specs.declared.conclusion.End.TheVariants.{Fixpoint}
 
 pub loop-book-init : goal.loop-book-init
 loop-book-init c = record {
@@ -45,3 +47,27 @@ returns-then-applied-clause-end c =
     at_fixpoint b d c.in_ok-skipped.skipped c.loop-book.invariant.undecided (omega (arith, c.loop-book-test.true, c.applied.ensures, c.loop-book.invariant.limit)) c.in_ok-round.ensures.committed
     (none_of c.verdict.result d.verdict c.verdict.ensures c.if-is_some.ensures) (sym c.applied-in-loop-book.ensures ∙ c.if-applied.true ∙ c.applied-applied.ensures)
     (c.in_ok-skipped.ensures ∙ ap skipped_on c.problem-then-applied.ensures)
+
+pub returns-then-is_some-clause-ordered : goal.returns-then-is_some-clause-ordered
+returns-then-is_some-clause-ordered c =
+    let b = c.loop-book.book in
+    let d = c.round.new.book in
+    c.loop-book.invariant.ordered None d (run_stops b d None (omega (arith, c.loop-book-test.true, c.applied.ensures, c.loop-book.invariant.limit)) c.in_ok-round.ensures.committed
+    (some_of c.verdict.result d.verdict c.verdict.ensures c.if-is_some.ensures))
+
+pub skipped-requires-clause-complete : goal.skipped-requires-clause-complete
+skipped-requires-clause-complete c =
+    let b = c.loop-book.book in
+    let d = c.round.new.book in
+    let long : length d.history ≡ length b.history = sym c.applied-in-loop-book.ensures ∙ c.if-applied.true ∙ c.applied-applied.ensures in
+    let room : length d.history < d.limit = omega (arith, long, c.loop-book-test.true, c.applied.ensures, c.loop-book.invariant.limit, c.in_ok-round.ensures.book.limit) in
+    let ready = c.in_ok-round.ensures.ready (none_of c.verdict.result d.verdict c.verdict.ensures c.if-is_some.ensures) room in
+    subst (λ (p : Sparse). IsComplete p c.round.new.ids) (sym c.problem-then-applied.ensures) ready.complete
+
+pub returns-then-applied-clause-ordered : goal.returns-then-applied-clause-ordered
+returns-then-applied-clause-ordered c =
+    let b = c.loop-book.book in
+    let d = c.round.new.book in
+    let long : length d.history ≡ length b.history = sym c.applied-in-loop-book.ensures ∙ c.if-applied.true ∙ c.applied-applied.ensures in
+    c.loop-book.invariant.ordered (Some (Fixpoint c.in_ok-skipped.skipped)) d (run_stops b d (Some (Fixpoint c.in_ok-skipped.skipped)) (omega (arith, c.loop-book-test.true, c.applied.ensures, c.loop-book.invariant.limit)) c.in_ok-round.ensures.committed
+    (none_of c.verdict.result d.verdict c.verdict.ensures c.if-is_some.ensures, long, c.in_ok-skipped.ensures ∙ ap skipped_on c.problem-then-applied.ensures))
