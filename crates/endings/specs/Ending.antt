@@ -1,7 +1,7 @@
 -- The status of an ending, and what is printed at it.
 use Rattle.std.specs.Prelude.{ℕ, Bool, true, false, List, [], ◌∷◌, ◌++◌, codes}
 use Rattle.endings.specs.declared.ending.Ending.{Ending}
-use Rattle.endings.specs.declared.ending.Ending.TheVariants.{Done, Usage, Refused, ReadFault, WriteFault, NoMemory, NoRoom, RecordsRefused, SolutionRefused, Violated, Infeasible}
+use Rattle.endings.specs.declared.ending.Ending.TheVariants.{Done, Usage, Refused, ReadFault, WriteFault, NoMemory, NoRoom, RecordsRefused, SolutionRefused, Violated, Infeasible, UnboundedOrInfeasible}
 
 abbrev pub status_of : Ending → ℕ
 status_of (Done text) = 0
@@ -15,6 +15,7 @@ status_of (RecordsRefused line) = 7
 status_of (SolutionRefused line) = 8
 status_of (Violated line) = 9
 status_of Infeasible = 20
+status_of UnboundedOrInfeasible = 21
 
 -- ---- the lines that hold no number and no name
 abbrev pub usage_line : List ℕ
@@ -32,6 +33,9 @@ no_memory_line = codes "no memory" ++ 10 ∷ []
 abbrev pub infeasible_line : List ℕ
 infeasible_line = codes "infeasible" ++ 10 ∷ []
 
+abbrev pub unbounded_line : List ℕ
+unbounded_line = codes "unbounded or infeasible" ++ 10 ∷ []
+
 abbrev pub text_of : Ending → List ℕ
 text_of (Done text) = text.items
 text_of Usage = usage_line
@@ -44,6 +48,7 @@ text_of (RecordsRefused line) = line.items
 text_of (SolutionRefused line) = line.items
 text_of (Violated line) = line.items
 text_of Infeasible = infeasible_line
+text_of UnboundedOrInfeasible = unbounded_line
 
 -- ---- by cases of the status
 -- the first where the test holds, else the second

@@ -27,6 +27,8 @@ pub enum Ending {
     Violated(Vec<u8>),
     /// The program has no feasible point.
     Infeasible,
+    /// The program has no feasible point, or none of least cost: each feasible point gives others of any cost.
+    UnboundedOrInfeasible,
 }
 
 impl Ending {
@@ -48,6 +50,7 @@ impl Ending {
             Ending::SolutionRefused(_) => 8,
             Ending::Violated(_) => 9,
             Ending::Infeasible => 20,
+            Ending::UnboundedOrInfeasible => 21,
         }
     }
 
@@ -67,6 +70,7 @@ impl Ending {
             Ending::SolutionRefused(line) => line.as_slice(),
             Ending::Violated(line) => line.as_slice(),
             Ending::Infeasible => b"infeasible\n",
+            Ending::UnboundedOrInfeasible => b"unbounded or infeasible\n",
         }
     }
 }
