@@ -31,4 +31,6 @@ pub enum Presolved {
     Reduced(ReducedProgram),
     /// It has no feasible point.
     Infeasible(DecidedProgram),
+    /// It has no feasible point, or none of least cost: each feasible point gives others of any cost.
+    UnboundedOrInfeasible(DecidedProgram),
 }

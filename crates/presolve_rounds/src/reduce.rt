@@ -1,8 +1,6 @@
 //! Presolve of a program.
 
 ghost use Rattle.std.specs.Prelude.{◌≡◌, ◌≢◌, ◌<◌, ◌^◌, length, IfOk, None, Some};
-ghost use Rattle.lp_model.specs.Meaning.{meaning};
-ghost use Rattle.lp_model.specs.Verdicts.{NoPoint};
 ghost use Rattle.lp_model.specs.Writable.{EntriesAscend, Writable};
 ghost use Rattle.problem_model.specs.Programs.{IsProblemOf};
 ghost use Rattle.presolve_model.specs.Conclusions.{Concluded, Decided};
@@ -13,6 +11,7 @@ ghost use Rattle.presolve_rounds.specs.Running.{EndsWith};
 use crate::labels::records_of;
 use crate::outcome::{DecidedProgram, Presolved, ReducedProgram};
 use crate::rounds::run;
+use instances::says_no_point;
 use lp_model::Program;
 use presolve_model::{End, Options};
 use sparse_problem::Problem;
@@ -64,8 +63,7 @@ fn decided(program: &Program, book: Book) -> DecidedProgram
     requires start { IsProblemOf program.now book.start }
     requires decided { book.verdict ≢ None }
     requires runs { RunsTo (record { numbers = book.numbers; limit = book.limit }) program.now None book }
-    ensures told { Decided (record { numbers = book.numbers; limit = book.limit }) program.now result.history.items result.verdict }
-    ensures no_point { NoPoint (meaning program.now) }
+    ensures { Decided (record { numbers = book.numbers; limit = book.limit }) program.now result.history.items result.verdict }
 {
     let _ = program;
     book.stands();
@@ -79,7 +77,21 @@ fn decided(program: &Program, book: Book) -> DecidedProgram
     }
 }
 
-/// Reduces a program by the rules for one row or one column, until none is left that could be applied or the limit is reached.
+/// What a decision says of its program.
+fn concluded(program: &Program, options: &Options, made: DecidedProgram) -> Presolved
+    requires { Decided options.now program.now made.history.items made.verdict }
+    ensures { Concludes options.now program.now result }
+{
+    let _ = program;
+    let _ = options;
+    if says_no_point(made.verdict) {
+        Presolved::Infeasible(made)
+    } else {
+        Presolved::UnboundedOrInfeasible(made)
+    }
+}
+
+/// Reduces a program by the rules that there are, until it is decided, or no rule is left that could be applied, or the limit is reached.
 ///
 /// # Errors
 /// For want of memory.
@@ -94,6 +106,6 @@ pub fn presolve(alloc: Global, program: Program, options: &Options) -> Result<Pr
     let end = run(alloc, &mut book)?;
     match end {
         Some(end) => Ok(Presolved::Reduced(reduced(alloc, &program, book, end)?)),
-        None => Ok(Presolved::Infeasible(decided(&program, book))),
+        None => Ok(concluded(&program, options, decided(&program, book))),
     }
 }

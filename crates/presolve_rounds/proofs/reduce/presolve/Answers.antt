@@ -35,10 +35,8 @@ pub decided-requires-clause-runs : goal.decided-requires-clause-runs
 decided-requires-clause-runs c =
     runs_to c.args.program c.args.options.now c.in_ok-book.book c.run.new.book c.in_ok-end.end None c.in_ok-book.ensures.start c.in_ok-book.ensures.new c.in_ok-end.ensures.book c.in-None.is c.in_ok-end.ensures.ordered
 
-pub returns : goal.returns
-returns c = (
-  subst (λ (o : Options). Decided o c.args.program c.decided.result.history.items c.decided.result.verdict)
-      (same_options c.args.options.now c.in_ok-book.book c.run.new.book c.in_ok-book.ensures.new c.in_ok-end.ensures.book)
-      c.decided.ensures.told,
-  c.decided.ensures.no_point,
-)
+pub concluded-requires : goal.concluded-requires
+concluded-requires c =
+    subst (λ (o : Options). Decided o c.args.program c.decided.result.history.items c.decided.result.verdict)
+    (same_options c.args.options.now c.in_ok-book.book c.run.new.book c.in_ok-book.ensures.new c.in_ok-end.ensures.book)
+    c.decided.ensures
