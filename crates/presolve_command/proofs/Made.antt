@@ -17,23 +17,22 @@ use Rattle.presolve_rounds.specs.declared.outcome.DecidedProgram.{DecidedProgram
 use Rattle.presolve_rounds.specs.declared.outcome.ReducedProgram.{ReducedProgram}
 use Rattle.presolve_command.specs.declared.reduce.Texts.{Texts}
 use Rattle.presolve_command.specs.declared.reduce.NotReduced.{NotReduced}
-use Rattle.presolve_command.specs.declared.reduce.NotReduced.TheVariants.{Fault, Infeasible, NoMemory}
-use Rattle.presolve_command.specs.Texts.{IsConcluded, IsDecided, IsMade, IsReduced, Outcome, options_for, TextIsDecided}
+use Rattle.presolve_command.specs.declared.reduce.NotReduced.TheVariants.{Fault, Infeasible, UnboundedOrInfeasible, NoMemory}
+use Rattle.presolve_command.specs.Texts.{IsConcluded, IsMade, IsReduced, Outcome, options_for, ProgramIsInfeasible, ProgramIsUnboundedOrInfeasible, TextIsInfeasible, TextIsUnboundedOrInfeasible}
 
 pub made_reduced : (dialect : Dialect) (limit : ℕ) (text : List ℕ) (program : ProgramData) (r : Result Texts NotReduced)
     → IsProgramOf dialect text program → IsMade (options_for dialect limit) program r → IsReduced dialect limit text r
 made_reduced dialect limit text program (Ok texts) read made = (made.0, (read.0, made.1 ∙ read.1), made.2)
 made_reduced dialect limit text program (Err (Fault fault)) read made = absurd made
-made_reduced dialect limit text program (Err Infeasible) read made = (read.0, subst (IsDecided (options_for dialect limit)) read.1 made)
+made_reduced dialect limit text program (Err Infeasible) read made = (read.0, subst (ProgramIsInfeasible (options_for dialect limit)) read.1 made)
+made_reduced dialect limit text program (Err UnboundedOrInfeasible) read made = (read.0, subst (ProgramIsUnboundedOrInfeasible (options_for dialect limit)) read.1 made)
 made_reduced dialect limit text program (Err NoMemory) read made = tt
 
--- what a read gave has a program that is decided: so has what is told
-pub decided_read : (limit : ℕ) (told : Told) (most_reductions : ℕ) (d e : Dialect) (held text : List ℕ) → Gives told held → length held ≤ limit → d ≡ e → text ≡ held → TextIsDecided d most_reductions text
-    → Reads limit told (λ t. TextIsDecided e most_reductions t)
-decided_read limit told most_reductions d e held text gives most same is h =
-    let P : Dialect → Type 0 = λ x. TextIsDecided x most_reductions text in
-    let Q : List ℕ → Type 0 = λ t. TextIsDecided e most_reductions t in
-    given_reads limit told held Q gives most (subst Q is (subst P same h))
+-- what is said of what a read gave, as one dialect says, is said of what is told, as the same dialect says
+pub said_read : (Said : Dialect → List ℕ → Type 0) (limit : ℕ) (told : Told) (d e : Dialect) (held text : List ℕ) → Gives told held → length held ≤ limit → d ≡ e → text ≡ held → Said d text
+    → Reads limit told (Said e)
+said_read Said limit told d e held text gives most same is h =
+    given_reads limit told held (Said e) gives most (subst (Said e) is (subst (λ (x : Dialect). Said x text) same h))
 
 -- what was concluded as one dialect says was concluded as the same dialect says
 pub concluded_so : (o : Outcome) (limit : ℕ) (program records printed : List ℕ) {d e : Dialect} → d ≡ e → IsConcluded (options_for d limit) o program records printed
@@ -51,10 +50,18 @@ pub concluded_with : (options : Options) (program : ProgramData) (made : Reduced
 concluded_with options program made ended same h = subst (λ (x : End). Concluded options program made.program made.records x) (sym same) h
 
 -- what is said of a text where it is not reduced for want of a feasible point
-pub infeasible_said : (dialect : Dialect) (limit : ℕ) (text : List ℕ) (n : NotReduced) → n ≡ Infeasible → IsReduced dialect limit text (Err n) → TextIsDecided dialect limit text
+pub infeasible_said : (dialect : Dialect) (limit : ℕ) (text : List ℕ) (n : NotReduced) → n ≡ Infeasible → IsReduced dialect limit text (Err n) → TextIsInfeasible dialect limit text
 infeasible_said dialect limit text n is h = subst (λ (x : NotReduced). IsReduced dialect limit text (Err x)) is h
 
+-- the same for want of a feasible point, or of one of least cost
+pub unbounded_said : (dialect : Dialect) (limit : ℕ) (text : List ℕ) (n : NotReduced) → n ≡ UnboundedOrInfeasible → IsReduced dialect limit text (Err n) → TextIsUnboundedOrInfeasible dialect limit text
+unbounded_said dialect limit text n is h = subst (λ (x : NotReduced). IsReduced dialect limit text (Err x)) is h
+
 -- what presolve says where it gives a decided program
-pub decided_of : (options : Options) (program : ProgramData) (p : Presolved) (made : DecidedProgram) → p ≡ presolved.Infeasible made → Concludes options program p → IsDecided options program
-decided_of options program p made is h = let k = subst (λ (x : Presolved). Concludes options program x) is h in
-    record { history = made.history.items; verdict = made.verdict; decided = k.0; no_point = k.1 }
+pub infeasible_of : (options : Options) (program : ProgramData) (p : Presolved) (made : DecidedProgram) → p ≡ presolved.Infeasible made → Concludes options program p → ProgramIsInfeasible options program
+infeasible_of options program p made is h = let k = subst (λ (x : Presolved). Concludes options program x) is h in
+    record { history = made.history.items; verdict = made.verdict; decided = k.0; says = k.1; no_point = k.2 }
+
+pub unbounded_of : (options : Options) (program : ProgramData) (p : Presolved) (made : DecidedProgram) → p ≡ presolved.UnboundedOrInfeasible made → Concludes options program p → ProgramIsUnboundedOrInfeasible options program
+unbounded_of options program p made is h = let k = subst (λ (x : Presolved). Concludes options program x) is h in
+    record { history = made.history.items; verdict = made.verdict; decided = k.0; says = k.1; endless = k.2 }

@@ -3,12 +3,12 @@ use Rattle.std.specs.Prelude.{◌≡◌, ◌≢◌, ◌⊎◌, ℕ, ◌==◌, Li
 use Rattle.file_ports.specs.Ports.{Moment, Unsettled, KeepsOthers, Written}
 use Rattle.command_line.specs.Line.{PresolveNames}
 use Rattle.endings.specs.Dialects.{dialect_of}
-use Rattle.endings.specs.Ending.{When, infeasible_line, no_memory_line, read_fault_line, write_fault_line}
+use Rattle.endings.specs.Ending.{When, infeasible_line, no_memory_line, read_fault_line, unbounded_line, write_fault_line}
 use Rattle.endings.specs.Moments.{FailsToRead, FailsToWrite, IsQuiet, IsThere, KeepsAllBut, Reads}
 use Rattle.endings.specs.ProgramTexts.{IsProgramOf, SaysFaultOf}
 use Rattle.endings.specs.declared.reads.TheConstants.{INPUT_LIMIT}
 use Rattle.presolve_model.specs.declared.conclusion.Options.{Options}
-use Rattle.presolve_command.specs.Texts.{Outcome, IsConcluded, options_for, TextIsDecided}
+use Rattle.presolve_command.specs.Texts.{Outcome, IsConcluded, options_for, TextIsInfeasible, TextIsUnboundedOrInfeasible}
 
 -- what presolve is told by the words
 abbrev pub options_in : PresolveNames → Options
@@ -35,7 +35,12 @@ SaysFault names said before now = SaysFaultOf INPUT_LIMIT (dialect_of names.opti
 
 -- IN's text has no fault, and its program is decided: it has no feasible point
 abbrev pub IsInfeasible : PresolveNames → Moment → Type 0
-IsInfeasible names before = Reads INPUT_LIMIT (before.told names.input) (λ text. TextIsDecided (dialect_of names.options) names.options.limit text)
+IsInfeasible names before = Reads INPUT_LIMIT (before.told names.input) (λ text. TextIsInfeasible (dialect_of names.options) names.options.limit text)
+
+-- the same, and it has no feasible point, or none of least cost
+abbrev pub IsUnboundedOrInfeasible : PresolveNames → Moment → Type 0
+IsUnboundedOrInfeasible names before =
+    Reads INPUT_LIMIT (before.told names.input) (λ text. TextIsUnboundedOrInfeasible (dialect_of names.options) names.options.limit text)
 
 -- a write of a name failed: what it tells is not told, or as before
 abbrev pub FailsAt : List ℕ → Moment → Moment → Type 0
@@ -61,7 +66,8 @@ SaysPresolve names status printed before now =
     (When (status == 4) (IsUnwritten names before now × (printed ≡ write_fault_line))
     (When (status == 5) (IsQuiet before now × (printed ≡ no_memory_line))
     (When (status == 20) (IsInfeasible names before × IsQuiet before now × (printed ≡ infeasible_line))
-    ⊥)))))
+    (When (status == 21) (IsUnboundedOrInfeasible names before × IsQuiet before now × (printed ≡ unbounded_line))
+    ⊥))))))
 
 -- the same; and where IN could be read, it isn't told as missing
 pub record EndsPresolve (names : PresolveNames) (status : ℕ) (printed : List ℕ) (before now : Moment) : Type 0 where

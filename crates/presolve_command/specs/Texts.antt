@@ -1,9 +1,9 @@
 -- The texts that a presolve writes and prints.
-use Rattle.std.specs.Prelude.{◌≡◌, ℕ, ◌-◌, ◌^◌, List, length, min, Some, None, Result, Ok, Err}
+use Rattle.std.specs.Prelude.{◌≡◌, ℕ, ◌-◌, ◌^◌, true, false, List, length, min, Some, None, Result, Ok, Err}
 use Rattle.std.specs.List.{sum_by}
 use Rattle.lp_model.specs.ProgramData.{ProgramData}
 use Rattle.lp_model.specs.Meaning.{meaning}
-use Rattle.lp_model.specs.Verdicts.{NoPoint}
+use Rattle.lp_model.specs.Verdicts.{NoPoint, NoPointOrEndless}
 use Rattle.fractions.specs.declared.Numbers.{Numbers}
 use Rattle.mps_profile.specs.Reading.{first_fault}
 use Rattle.mps_profile.specs.Program.{program_of}
@@ -13,6 +13,7 @@ use Rattle.mps_profile.specs.declared.dialect.Dialect.{Dialect}
 use Rattle.presolve_model.specs.declared.instance.Reduction.{Reduction}
 use Rattle.presolve_model.specs.declared.instance.Verdict.{Verdict}
 use Rattle.presolve_model.specs.Conclusions.{Concluded, Decided}
+use Rattle.presolve_model.specs.Meanings.{says_no_point}
 use Rattle.presolve_model.specs.declared.conclusion.Options.{Options}
 use Rattle.mps_writer.specs.MpsText.{mps_text}
 use Rattle.record_file.specs.RecordText.{record_text}
@@ -23,7 +24,7 @@ use Rattle.endings.specs.ProgramTexts.{IsProgramOf}
 use Rattle.presolve_command.specs.declared.report.Report.{Report}
 use Rattle.presolve_command.specs.declared.reduce.Texts.{Texts}
 use Rattle.presolve_command.specs.declared.reduce.NotReduced.{NotReduced}
-use Rattle.presolve_command.specs.declared.reduce.NotReduced.TheVariants.{Fault, Infeasible, NoMemory}
+use Rattle.presolve_command.specs.declared.reduce.NotReduced.TheVariants.{Fault, Infeasible, UnboundedOrInfeasible, NoMemory}
 use Rattle.presolve_command.specs.Report.{report_text}
 
 -- a program, what is left of it, the records of how that came about, and the report
@@ -76,34 +77,50 @@ pub record IsConcluded (options : Options) (outcome : Outcome) (program records 
   pub reads_back : ReadsBack options.numbers outcome program
   pub comes_back : ComesBack outcome program records
 
--- presolve, told this, decides the program: it has no feasible point
-pub record IsDecided (options : Options) (program : ProgramData) : Type 0 where
+-- presolve, told this, decides the program by a verdict that says that no point is feasible: none is
+pub record ProgramIsInfeasible (options : Options) (program : ProgramData) : Type 0 where
   pub history : List Reduction
   pub verdict : Verdict
   pub decided : Decided options program history verdict
+  pub says : says_no_point verdict ≡ true
   pub no_point : NoPoint (meaning program)
 
--- what is made of a program: the texts of an outcome of it, or that it is decided
+-- presolve, told this, decides the program by a verdict of the other kind: each feasible point, if there is one, gives others of any cost
+pub record ProgramIsUnboundedOrInfeasible (options : Options) (program : ProgramData) : Type 0 where
+  pub history : List Reduction
+  pub verdict : Verdict
+  pub decided : Decided options program history verdict
+  pub says : says_no_point verdict ≡ false
+  pub endless : NoPointOrEndless program.sense (meaning program)
+
+-- what is made of a program: the texts of an outcome of it, or that it is decided, in one way or the other
 abbrev pub IsMade : Options → ProgramData → Result Texts NotReduced → Type 0
 IsMade options program (Ok texts) =
     (outcome : Outcome) × (outcome.source ≡ program) × IsConcluded options outcome texts.program.items texts.records.items texts.report.items
 IsMade options program (Err (Fault fault)) = ⊥
-IsMade options program (Err Infeasible) = IsDecided options program
+IsMade options program (Err Infeasible) = ProgramIsInfeasible options program
+IsMade options program (Err UnboundedOrInfeasible) = ProgramIsUnboundedOrInfeasible options program
 IsMade options program (Err NoMemory) = Unit {0}
 
 -- what presolve is told of a text that is read so
 abbrev pub options_for : Dialect → ℕ → Options
 options_for dialect limit = record { numbers = dialect.numbers; limit = limit }
 
--- a text has no fault, and its program is decided
-abbrev pub TextIsDecided : Dialect → ℕ → List ℕ → Type 0
-TextIsDecided dialect limit text = (first_fault dialect text ≡ None) × IsDecided (options_for dialect limit) (program_of dialect text)
+-- a text has no fault, and its program is found to have no feasible point
+abbrev pub TextIsInfeasible : Dialect → ℕ → List ℕ → Type 0
+TextIsInfeasible dialect limit text = (first_fault dialect text ≡ None) × ProgramIsInfeasible (options_for dialect limit) (program_of dialect text)
 
--- what is made of a text: the texts of an outcome of its program, that this is decided, or the text's first fault
+-- a text has no fault, and its program is found to have no feasible point, or none of least cost
+abbrev pub TextIsUnboundedOrInfeasible : Dialect → ℕ → List ℕ → Type 0
+TextIsUnboundedOrInfeasible dialect limit text =
+    (first_fault dialect text ≡ None) × ProgramIsUnboundedOrInfeasible (options_for dialect limit) (program_of dialect text)
+
+-- what is made of a text: the texts of an outcome of its program, that this is decided, in one way or the other, or the text's first fault
 abbrev pub IsReduced : Dialect → ℕ → List ℕ → Result Texts NotReduced → Type 0
 IsReduced dialect limit text (Ok texts) =
     (outcome : Outcome) × IsProgramOf dialect text outcome.source
     × IsConcluded (options_for dialect limit) outcome texts.program.items texts.records.items texts.report.items
 IsReduced dialect limit text (Err (Fault fault)) = first_fault dialect text ≡ Some (fault.kind, fault.line)
-IsReduced dialect limit text (Err Infeasible) = TextIsDecided dialect limit text
+IsReduced dialect limit text (Err Infeasible) = TextIsInfeasible dialect limit text
+IsReduced dialect limit text (Err UnboundedOrInfeasible) = TextIsUnboundedOrInfeasible dialect limit text
 IsReduced dialect limit text (Err NoMemory) = Unit {0}

@@ -30,7 +30,7 @@ fn write_both<F: Files>(
     files.write(records, &texts.records)
 }
 
-/// Reads a program, writes the reduced one and its records; nothing where it has no feasible point. All that is written and printed is made before the first write.
+/// Reads a program, writes the reduced one and its records; nothing where it has no feasible point, or none of least cost. All that is written and printed is made before the first write.
 pub fn presolve<F: Files>(
     alloc: Global,
     words: &PresolveWords<'_>,
@@ -52,6 +52,7 @@ pub fn presolve<F: Files>(
         Ok(texts) => texts,
         Err(NotReduced::Fault(fault)) => return Ok(Ending::Refused(fault_line(alloc, fault)?)),
         Err(NotReduced::Infeasible) => return Ok(Ending::Infeasible),
+        Err(NotReduced::UnboundedOrInfeasible) => return Ok(Ending::UnboundedOrInfeasible),
         Err(NotReduced::NoMemory) => return Err(AllocError),
     };
     match write_both(words.output, words.records, &texts, files) {

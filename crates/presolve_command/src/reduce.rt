@@ -33,6 +33,8 @@ pub enum NotReduced {
     Fault(MpsFault),
     /// The text's program has no feasible point.
     Infeasible,
+    /// The text's program has no feasible point, or none of least cost.
+    UnboundedOrInfeasible,
     NoMemory,
 }
 
@@ -152,6 +154,7 @@ fn reduce_program(alloc: Global, program: Program, options: &Options) -> Result<
             Ok(texts)
         }
         Ok(Presolved::Infeasible(_decided)) => Err(NotReduced::Infeasible),
+        Ok(Presolved::UnboundedOrInfeasible(_decided)) => Err(NotReduced::UnboundedOrInfeasible),
         Err(AllocError) => Err(NotReduced::NoMemory),
     }
 }
@@ -159,7 +162,7 @@ fn reduce_program(alloc: Global, program: Program, options: &Options) -> Result<
 /// Reads a program, reduces it by as many reductions as the limit allows, and makes the texts of what is left.
 ///
 /// # Errors
-/// The first fault of the text, that the program has no feasible point, or want of memory.
+/// The first fault of the text, that the program has no feasible point, that it has none or none of least cost, or want of memory.
 pub fn reduce(alloc: Global, text: &[u8], dialect: Dialect, limit: u64) -> Result<Texts, NotReduced>
     requires { length text.now < 2 ^ 32 }
     ensures { IsReduced dialect limit text.now result }

@@ -3,8 +3,9 @@ use Rattle.command_line.specs.Seen.{names_of}
 use Rattle.endings.specs.declared.reads.TheConstants.{INPUT_LIMIT}
 use Rattle.endings.proofs.Earlier.{finds_there, program_read}
 use Rattle.presolve_command.specs.Presolved.{IsMadeOf}
+use Rattle.presolve_command.specs.Texts.{TextIsInfeasible, TextIsUnboundedOrInfeasible}
 use Rattle.presolve_command.proofs.Before.{fails_earlier, others_earlier, written_earlier}
-use Rattle.presolve_command.proofs.Made.{concluded_so, decided_read, infeasible_said}
+use Rattle.presolve_command.proofs.Made.{concluded_so, infeasible_said, said_read, unbounded_said}
 use Rattle.presolve_command.proofs.command.presolve.Goals as goal
 
 pub returns-in-Ok-write_both-clause-ends : goal.returns-in-Ok-write_both-clause-ends
@@ -54,10 +55,26 @@ pub returns-in-Err-Infeasible-clause-ends : goal.returns-in-Err-Infeasible-claus
 returns-in-Err-Infeasible-clause-ends g c =
     let names = names_of c.args.words.now in
     let before = g.F.Files.moment c.args.files.now in
+    let limit = names.options.limit in
     record {
       says = (
-        decided_read INPUT_LIMIT (before.told names.input) names.options.limit _ _ c.in-Ok.text.items _ c.in-Ok.ensures.bytes c.in-Ok.ensures.most c.dialect_of.ensures c.deref.ensures.value
+        said_read (λ d t. TextIsInfeasible d limit t) INPUT_LIMIT (before.told names.input) _ _ c.in-Ok.text.items _ c.in-Ok.ensures.bytes c.in-Ok.ensures.most c.dialect_of.ensures c.deref.ensures.value
             (infeasible_said c.dialect_of.result c.args.words.now.options.limit c.deref.result.now c.in-Err-Infeasible.field-0 c.in-Err-Infeasible.field-0-is c.in-Err-Infeasible.ensures),
+        c.read.ensures.kept,
+        refl,
+      );
+      read = λ a b. finds_there INPUT_LIMIT names.input before before (Some c.in-Ok.text.items) (c.in-Ok.ensures.bytes, c.in-Ok.ensures.most);
+    }
+
+pub returns-in-Err-UnboundedOrInfeasible-clause-ends : goal.returns-in-Err-UnboundedOrInfeasible-clause-ends
+returns-in-Err-UnboundedOrInfeasible-clause-ends g c =
+    let names = names_of c.args.words.now in
+    let before = g.F.Files.moment c.args.files.now in
+    let limit = names.options.limit in
+    record {
+      says = (
+        said_read (λ d t. TextIsUnboundedOrInfeasible d limit t) INPUT_LIMIT (before.told names.input) _ _ c.in-Ok.text.items _ c.in-Ok.ensures.bytes c.in-Ok.ensures.most c.dialect_of.ensures c.deref.ensures.value
+            (unbounded_said c.dialect_of.result c.args.words.now.options.limit c.deref.result.now c.in-Err-UnboundedOrInfeasible.field-0 c.in-Err-UnboundedOrInfeasible.field-0-is c.in-Err-UnboundedOrInfeasible.ensures),
         c.read.ensures.kept,
         refl,
       );

@@ -1,6 +1,6 @@
 use Rattle.std.proofs.Common.{refl}
 use Rattle.mps_round_trip.proofs.Widths.{widths_fit}
-use Rattle.presolve_command.proofs.Made.{concluded_of, concluded_with, decided_of}
+use Rattle.presolve_command.proofs.Made.{concluded_of, concluded_with, infeasible_of, unbounded_of}
 use Rattle.presolve_command.proofs.PlainKept.{comes_back, reads_back}
 use Rattle.presolve_command.specs.Texts.{Outcome}
 use Rattle.presolve_command.proofs.reduce.reduce_program.Goals as goal
@@ -30,4 +30,8 @@ texts_of-requires c =
     widths_fit c.args.options.now.numbers c.in-Ok-Reduced.made.program concluded.writable
 
 pub returns-in-Ok-Infeasible : goal.returns-in-Ok-Infeasible
-returns-in-Ok-Infeasible c = decided_of c.args.options.now c.args.program c.in-Ok-Infeasible.field-0 c.in-Ok-Infeasible._decided c.in-Ok-Infeasible.field-0-is c.in-Ok-Infeasible.ensures
+returns-in-Ok-Infeasible c = infeasible_of c.args.options.now c.args.program c.in-Ok-Infeasible.field-0 c.in-Ok-Infeasible._decided c.in-Ok-Infeasible.field-0-is c.in-Ok-Infeasible.ensures
+
+pub returns-in-Ok-UnboundedOrInfeasible : goal.returns-in-Ok-UnboundedOrInfeasible
+returns-in-Ok-UnboundedOrInfeasible c =
+    unbounded_of c.args.options.now c.args.program c.in-Ok-UnboundedOrInfeasible.field-0 c.in-Ok-UnboundedOrInfeasible._decided c.in-Ok-UnboundedOrInfeasible.field-0-is c.in-Ok-UnboundedOrInfeasible.ensures
