@@ -5,7 +5,7 @@ use Rattle.command_line.specs.Line.{PostsolveNames, PresolveNames, Request, Pres
 use Rattle.endings.specs.Ending.{status_of, text_of}
 use Rattle.endings.specs.Moments.{IsQuiet, KeepsAllBut}
 use Rattle.endings.specs.declared.ending.Ending.{Ending}
-use Rattle.endings.specs.declared.ending.Ending.TheVariants.{Done, Usage, Refused, ReadFault, WriteFault, NoMemory, NoRoom, RecordsRefused, SolutionRefused, Violated, Infeasible}
+use Rattle.endings.specs.declared.ending.Ending.TheVariants.{Done, Usage, Refused, ReadFault, WriteFault, NoMemory, NoRoom, RecordsRefused, SolutionRefused, Violated, Infeasible, UnboundedOrInfeasible}
 use Rattle.presolve_command.specs.Presolved.{EndsPresolve, FailsBetween}
 use Rattle.postsolve_command.specs.Postsolved.{EndsPostsolve}
 use Rattle.papilo.specs.Runs.{Ends, KeepsUnasked}
@@ -23,6 +23,7 @@ quiet_refused (RecordsRefused line) before now ends = absurd ends
 quiet_refused (SolutionRefused line) before now ends = absurd ends
 quiet_refused (Violated line) before now ends = absurd ends
 quiet_refused Infeasible before now ends = absurd ends
+quiet_refused UnboundedOrInfeasible before now ends = absurd ends
 
 quiet_presolve : (names : PresolveNames) (ending : Ending) (before now : Moment) → EndsPresolve names (status_of ending) (text_of ending) before now
     → (status_of ending ≡ 0 → ⊥) → (status_of ending ≡ 4 → ⊥) → IsQuiet before now
@@ -37,6 +38,7 @@ quiet_presolve names (RecordsRefused line) before now ends done unwritten = absu
 quiet_presolve names (SolutionRefused line) before now ends done unwritten = absurd ends.says
 quiet_presolve names (Violated line) before now ends done unwritten = absurd ends.says
 quiet_presolve names Infeasible before now ends done unwritten = ends.says.1
+quiet_presolve names UnboundedOrInfeasible before now ends done unwritten = ends.says.1
 
 quiet_postsolve : (names : PostsolveNames) (ending : Ending) (before now : Moment) → EndsPostsolve names (status_of ending) (text_of ending) before now
     → (status_of ending ≡ 0 → ⊥) → (status_of ending ≡ 4 → ⊥) → IsQuiet before now
@@ -51,6 +53,7 @@ quiet_postsolve names (RecordsRefused line) before now ends done unwritten = end
 quiet_postsolve names (SolutionRefused line) before now ends done unwritten = ends.says.1
 quiet_postsolve names (Violated line) before now ends done unwritten = absurd ends.says
 quiet_postsolve names Infeasible before now ends done unwritten = absurd ends.says
+quiet_postsolve names UnboundedOrInfeasible before now ends done unwritten = absurd ends.says
 
 pub quiet : (asked : Option Request) (ending : Ending) (before now : Moment) → Ends asked (status_of ending) (text_of ending) before now
     → (status_of ending ≡ 0 → ⊥) → (status_of ending ≡ 4 → ⊥) → IsQuiet before now
@@ -80,6 +83,7 @@ kept_presolve names (RecordsRefused line) before now ends = absurd ends.says
 kept_presolve names (SolutionRefused line) before now ends = absurd ends.says
 kept_presolve names (Violated line) before now ends = absurd ends.says
 kept_presolve names Infeasible before now ends = λ other a b. told_still before now ends.says.1 other
+kept_presolve names UnboundedOrInfeasible before now ends = λ other a b. told_still before now ends.says.1 other
 
 kept_postsolve : (names : PostsolveNames) (ending : Ending) (before now : Moment) → EndsPostsolve names (status_of ending) (text_of ending) before now
     → KeepsOthers before.told now.told names.result
@@ -94,6 +98,7 @@ kept_postsolve names (RecordsRefused line) before now ends = λ other a. told_st
 kept_postsolve names (SolutionRefused line) before now ends = λ other a. told_still before now ends.says.1 other
 kept_postsolve names (Violated line) before now ends = absurd ends.says
 kept_postsolve names Infeasible before now ends = absurd ends.says
+kept_postsolve names UnboundedOrInfeasible before now ends = absurd ends.says
 
 pub kept : (asked : Option Request) (ending : Ending) (before now : Moment) → Ends asked (status_of ending) (text_of ending) before now → KeepsUnasked asked before now
 kept None ending before now ends = quiet_refused ending before now ends

@@ -4,7 +4,7 @@ use Rattle.file_ports.specs.Ports.{Moment}
 use Rattle.command_line.specs.Line.{Request, Presolve, Check, Postsolve}
 use Rattle.endings.specs.Ending.{status_of}
 use Rattle.endings.specs.declared.ending.Ending.{Ending}
-use Rattle.endings.specs.declared.ending.Ending.TheVariants.{Done, Usage, Refused, ReadFault, WriteFault, NoMemory, NoRoom, RecordsRefused, SolutionRefused, Violated, Infeasible}
+use Rattle.endings.specs.declared.ending.Ending.TheVariants.{Done, Usage, Refused, ReadFault, WriteFault, NoMemory, NoRoom, RecordsRefused, SolutionRefused, Violated, Infeasible, UnboundedOrInfeasible}
 use Rattle.papilo.specs.Runs.{AreThere, Ends, IsUnwritten}
 
 -- the same at an equal status
@@ -36,7 +36,7 @@ there (Some (Check names)) status printed before now h a b = h.read a b
 there (Some (Postsolve names)) status printed before now h a b = h.read a b
 
 -- the statuses that there are
-pub status_known : (ending : Ending) (status : ℕ) → status ≡ status_of ending → (status ≤ 9) ⊎ (status ≡ 20)
+pub status_known : (ending : Ending) (status : ℕ) → status ≡ status_of ending → (status ≤ 9) ⊎ (status ≡ 20) ⊎ (status ≡ 21)
 status_known (Done text) status is = inl (omega arith)
 status_known Usage status is = inl (omega arith)
 status_known (Refused line) status is = inl (omega arith)
@@ -47,4 +47,5 @@ status_known (NoRoom line) status is = inl (omega arith)
 status_known (RecordsRefused line) status is = inl (omega arith)
 status_known (SolutionRefused line) status is = inl (omega arith)
 status_known (Violated line) status is = inl (omega arith)
-status_known Infeasible status is = inr is
+status_known Infeasible status is = inr (inl is)
+status_known UnboundedOrInfeasible status is = inr (inr is)

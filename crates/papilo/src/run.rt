@@ -51,7 +51,7 @@ pub fn run<R, F: Files, S: Sink, G: Gate>(
         × Grown (S.taken out.old) (S.taken out.new) printed }
     ensures unwritten { result ≡ 4 → IsUnwritten (asked (texts words.now)) (F.moment files.old) (F.moment files.new) ⊎ Rose (S.faults out.old) (S.faults out.new) }
     ensures refused { result ≡ 1 → AreRefused (texts words.now) }
-    ensures known { (result ≤ 9) ⊎ (result ≡ 20) }
+    ensures known { (result ≤ 9) ⊎ (result ≡ 20) ⊎ (result ≡ 21) }
 
     // And of the files.
     ensures quiet { result ≢ 0 → result ≢ 4 → IsQuiet (F.moment files.old) (F.moment files.new) }
