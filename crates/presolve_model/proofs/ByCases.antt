@@ -1,7 +1,8 @@
 -- The laws of the tables by cases: one line a rule.
-use Rattle.std.proofs.Common.{◌≡◌, ◌<◌, true, [], ◌∷◌, refl, sym, subst, arith, true≢false}
-use Rattle.std.specs.List.{Contains}
+use Rattle.std.proofs.Common.{◌≡◌, ◌<◌, ℕ, true, List, [], ◌∷◌, refl, sym, ap, subst, arith, true≢false}
+use Rattle.std.specs.List.{All, Contains}
 use Rattle.rational.specs.Number.{Number}
+use Rattle.fractions.specs.declared.Numbers.{Numbers}
 use Rattle.lp_model.specs.declared.program.Sense.{Sense}
 use Rattle.lp_model.specs.LinearProgram.{LinearProgram}
 use Rattle.lp_model.specs.Reductions.{Reduces}
@@ -11,6 +12,10 @@ use Rattle.lp_model.specs.declared.program.Sense.TheVariants.{Min}
 use Rattle.lp_model.specs.Turning.{minimizing}
 use Rattle.lp_passages.proofs.Turns.{either_in, no_point_in}
 use Rattle.lp_theory.proofs.Verdicts.{no_point_back, no_point_or_endless_back}
+use Rattle.problem_model.specs.declared.part.Contents.{Contents}
+use Rattle.problem_model.specs.declared.part.Contents.TheVariants as holding
+use Rattle.problem_model.specs.declared.part.Read.{Read}
+use Rattle.problem_model.specs.NewNumbers.{EditFits, EditsAreWritten}
 use Rattle.problem_model.specs.Problems.{IsSparse, row_entries}
 use Rattle.problem_model.specs.Showing.{shown}
 use Rattle.problem_model.specs.Sparse.{Sparse}
@@ -33,11 +38,12 @@ use Rattle.presolve_model.specs.declared.instance.Reduction.{Reduction}
 use Rattle.presolve_model.specs.declared.instance.Reduction.TheVariants.{EmptyRow, SingletonRow, FixedColumn, RoundBounds, FixedByCost, DominatedColumn, EmptyColumn}
 use Rattle.presolve_model.specs.declared.instance.Verdict.{Verdict}
 use Rattle.presolve_model.specs.declared.instance.Verdict.TheVariants.{CrossedBounds, CrossedSides, Ray}
-use Rattle.presolve_model.specs.Enabled.{enabled_on}
-use Rattle.presolve_model.specs.Instances.{instances_from, id_count, rule_of, rule_at, id_at}
+use Rattle.presolve_model.specs.Changes.{ChangeFits, ChangeIsWritten}
+use Rattle.presolve_model.specs.Enabled.{enabled_on, reading_of}
+use Rattle.presolve_model.specs.Instances.{instances_from, id_count, rests_on_reading, rule_of, rule_at, id_at}
 use Rattle.presolve_model.specs.Meanings.{Meant, says_no_point}
 use Rattle.presolve_model.specs.Order.{verdict_order, reduction_order}
-use Rattle.presolve_model.specs.Tables.{edits, record_of}
+use Rattle.presolve_model.specs.Tables.{Computes, edits, record_of}
 use Rattle.presolve_model.proofs.Lists.{contains_map, contains_pair}
 
 -- ---- what each rule owes
@@ -117,3 +123,34 @@ pub meant_either : (v : Verdict) (d : Sense) (M : LinearProgram) → Meant v d M
 meant_either (CrossedBounds j) d M h = λ x f. absurd (h x f)
 meant_either (CrossedSides i) d M h = λ x f. absurd (h x f)
 meant_either (Ray j) d M h = h
+
+-- ---- where a rule's refusals rest on what is read: an enabled instance that reads the same has edits whose numbers have room, and can be
+-- written, alike
+abbrev IsAlike : Numbers → Sparse → Sparse → Reduction → Type 0
+IsAlike numbers p q r = (ChangeFits r q → ChangeFits r p) × (ChangeIsWritten numbers r q → ChangeIsWritten numbers r p)
+
+abbrev holds_first : Contents → List Read → Contents
+holds_first c [] = c
+holds_first c (r ∷ rs) = r.contents
+
+bounds_alike : (numbers : Numbers) (p q : Sparse) (j : ℕ) → enabled_on p (at.Reduction (RoundBounds j)) ≡ true → reading_of q (at.Reduction (RoundBounds j)) ≡ reading_of p (at.Reduction (RoundBounds j)) → IsAlike numbers p q (RoundBounds j)
+unfolding edits Computes
+bounds_alike numbers p q j e h =
+    let same : edits (RoundBounds j) q ≡ edits (RoundBounds j) p = round_bounds.edits_same p q j e (ap (holds_first holding.Gone) h) in (
+      λ fits. record { computes = tt; edits = record { each = subst (All EditFits) same fits.edits.each; offset = tt } },
+      λ written. subst (EditsAreWritten numbers) same written,
+    )
+
+pub refusals_rest : (numbers : Numbers) (p q : Sparse) (r : Reduction) → rests_on_reading (rule_of r) ≡ true → enabled_on p (at.Reduction r) ≡ true → reading_of q (at.Reduction r) ≡ reading_of p (at.Reduction r) → IsAlike numbers p q r
+refusals_rest numbers p q (EmptyRow i) t e h = absurd (true≢false (sym t))
+refusals_rest numbers p q (SingletonRow i) t e h = absurd (true≢false (sym t))
+refusals_rest numbers p q (FixedColumn j) t e h = absurd (true≢false (sym t))
+refusals_rest numbers p q (RoundBounds j) t e h = bounds_alike numbers p q j e h
+refusals_rest numbers p q (FixedByCost j) t e h = absurd (true≢false (sym t))
+refusals_rest numbers p q (DominatedColumn i j k) t e h = absurd (true≢false (sym t))
+refusals_rest numbers p q (EmptyColumn j) t e h = absurd (true≢false (sym t))
+
+pub verdicts_do_not_rest : (v : Verdict) → rests_on_reading (rule_at (at.Verdict v)) ≡ true → ⊥
+verdicts_do_not_rest (CrossedBounds j) t = true≢false (sym t)
+verdicts_do_not_rest (CrossedSides i) t = true≢false (sym t)
+verdicts_do_not_rest (Ray j) t = true≢false (sym t)

@@ -28,9 +28,11 @@ use Rattle.presolve_model.specs.declared.instance.Instance.{Instance}
 use Rattle.presolve_model.specs.declared.instance.Instance.TheVariants as at
 use Rattle.presolve_model.specs.Tables.{heads, more, holds, edits, record_of}
 use Rattle.presolve_model.specs.Changes.{changed, added, ChangeFits, ChangeIsWritten}
-use Rattle.presolve_model.specs.Enabled.{reads, enabled_on, Enabled}
-use Rattle.presolve_model.proofs.ByCases.{reductions_owe}
-use Rattle.presolve_model.proofs.Readings.{heads_taken}
+use Rattle.presolve_model.specs.Enabled.{reads, reading_of, enabled_on, Enabled}
+use Rattle.presolve_model.specs.Instances.{rests_on_reading, rule_of}
+use Rattle.presolve_model.specs.Replay.{CanApply}
+use Rattle.presolve_model.proofs.ByCases.{reductions_owe, refusals_rest}
+use Rattle.presolve_model.proofs.Readings.{enabled_same, heads_taken, reads_told}
 
 module _ (p : Sparse) (r : Reduction) where
   pub adds : (changed r p).offset ≡ p.offset +ℚ added r p
@@ -74,3 +76,10 @@ enabled_by p e rs a h =
     let first : take (length (heads e)) cs ≡ map (contents_of p) (heads e) = ap (take (length (heads e))) (read ∙ ap (map (contents_of p)) h.parts) ∙ heads_taken p (heads e) tail in
     let parts : ps ≡ reads p e = h.parts ∙ ap (λ hs. heads e ++ more e hs) first in
     ap (holds e) (ap (map (contents_of p)) (sym parts) ∙ sym read) ∙ h.holds
+
+-- ---- where refusals rest on the reading, what reads the same can be applied alike
+pub applied_alike : (numbers : Numbers) (p q : Sparse) (r : Reduction) → rests_on_reading (rule_of r) ≡ true → reading_of q (at.Reduction r) ≡ reading_of p (at.Reduction r) → CanApply numbers q r → CanApply numbers p r
+applied_alike numbers p q r t h can =
+    let on : enabled_on p (at.Reduction r) ≡ true = enabled_same q p (at.Reduction r) (reads_told q p (at.Reduction r) (sym h)) ∙ can.enabled in
+    let alike = refusals_rest numbers p q r t on h in
+    record { enabled = on; fits = alike.0 can.fits; written = alike.1 can.written }

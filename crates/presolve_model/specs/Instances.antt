@@ -53,6 +53,19 @@ reach_of rule.FixedByCost = Near
 reach_of rule.DominatedColumn = Far
 reach_of rule.EmptyColumn = Here
 
+-- whether a refusal of a rule's instances, for a number that is past or can't be written, rests on what they read alone
+abbrev pub rests_on_reading : Rule → Bool
+rests_on_reading rule.CrossedBounds = false
+rests_on_reading rule.CrossedSides = false
+rests_on_reading rule.Ray = false
+rests_on_reading rule.EmptyRow = false
+rests_on_reading rule.SingletonRow = false
+rests_on_reading rule.FixedColumn = false
+rests_on_reading rule.RoundBounds = true
+rests_on_reading rule.FixedByCost = false
+rests_on_reading rule.DominatedColumn = false
+rests_on_reading rule.EmptyColumn = false
+
 -- how many there are
 abbrev pub id_count : Sparse → Rule → ℕ
 id_count p r = if is_of_rows r then length p.matrix.rows else length p.matrix.columns

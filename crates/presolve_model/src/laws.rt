@@ -30,9 +30,10 @@ ghost use Rattle.presolve_model.specs.declared.instance.Reduction.{Reduction};
 ghost use Rattle.presolve_model.specs.declared.instance.Verdict.{Verdict};
 ghost use Rattle.presolve_model.specs.Changes.{added, changed, ChangeFits, ChangeIsWritten};
 ghost use Rattle.presolve_model.specs.Enabled.{Enabled, enabled_on, reading_of, reads};
+ghost use Rattle.presolve_model.specs.Instances.{rests_on_reading, rule_of};
 ghost use Rattle.presolve_model.specs.Meanings.{Meant};
 ghost use Rattle.presolve_model.specs.Order.{reduction_order, verdict_order};
-ghost use Rattle.presolve_model.specs.Replay.{replay, Replays};
+ghost use Rattle.presolve_model.specs.Replay.{CanApply, replay, Replays};
 ghost use Rattle.presolve_model.specs.Scans.{all_ids, listed, proposal_of};
 ghost use Rattle.presolve_model.specs.Stuck.{skipped_on};
 ghost use Rattle.presolve_model.specs.Tables.{record_of};
@@ -74,6 +75,14 @@ pub fn verdicts_mean()
 /// What is enabled on a reading is enabled on each problem that agrees with it.
 pub fn agreeing_readings_enable()
     ensures { (p : Sparse) (e : Instance) (rs : List Read) → Agrees p rs → Enabled e rs → enabled_on p e ≡ true }
+{}
+
+/// Where the refusals of a rule rest on what its instances read: where an enabled one reads the same on two problems, its numbers have room
+/// on both or on neither, and can be written on both or on neither; so it can be applied on both or on neither.
+pub fn refusals_rest_on_readings()
+    ensures fits { (p q : Sparse) (r : Reduction) → rests_on_reading (rule_of r) ≡ true → enabled_on p (at.Reduction r) ≡ true → reading_of q (at.Reduction r) ≡ reading_of p (at.Reduction r) → ChangeFits r q → ChangeFits r p }
+    ensures written { (numbers : Numbers) (p q : Sparse) (r : Reduction) → rests_on_reading (rule_of r) ≡ true → enabled_on p (at.Reduction r) ≡ true → reading_of q (at.Reduction r) ≡ reading_of p (at.Reduction r) → ChangeIsWritten numbers r q → ChangeIsWritten numbers r p }
+    ensures applied { (numbers : Numbers) (p q : Sparse) (r : Reduction) → rests_on_reading (rule_of r) ≡ true → reading_of q (at.Reduction r) ≡ reading_of p (at.Reduction r) → CanApply numbers q r → CanApply numbers p r }
 {}
 
 /// A look at all first ids lists each enabled instance with its reading, and as many reductions as are enabled.

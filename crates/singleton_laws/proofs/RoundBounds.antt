@@ -1,14 +1,18 @@
 -- K4.
-use Rattle.std.proofs.Common.{◌≡◌, ℕ, Bool, true, false, ◌&&◌, List, [], ◌∷◌, Option, refl, sym, ap, ap₂, subst}
+use Rattle.std.proofs.Common.{◌≡◌, ℕ, Bool, true, false, ◌&&◌, List, [], ◌∷◌, Option, refl, sym, ap, ap₂, ◌∙◌, subst}
 use Rattle.std.specs.Prelude.{if◌then◌else◌}
 use Rattle.rational.specs.Number.{Number, zero_ℚ}
 use Rattle.lp_model.specs.declared.program.Sense.TheVariants.{Min}
 use Rattle.lp_model.specs.Edits.{with_bounds}
 use Rattle.lp_columns.specs.RoundBounds.{rounded_up, rounded_down, bounds_rounded}
 use Rattle.lp_columns.proofs.RoundBounds.{bounds_rounded_reduce}
+use Rattle.problem_model.specs.declared.edit.Edit.{Edit}
 use Rattle.problem_model.specs.declared.edit.Edit.TheVariants.{SetBounds}
+use Rattle.problem_model.specs.declared.part.Contents.{Contents}
 use Rattle.problem_model.specs.declared.part.Contents.TheVariants as holding
+use Rattle.problem_model.specs.declared.part.Part.TheVariants as part
 use Rattle.problem_model.specs.EditedPrograms.{programs_edited}
+use Rattle.problem_model.specs.Parts.{contents_of}
 use Rattle.problem_model.specs.Problems.{column_at, bounds_at}
 use Rattle.problem_model.specs.Showing.{end_if, shown}
 use Rattle.problem_model.specs.Sparse.{Sparse}
@@ -46,3 +50,16 @@ owes p j s e = let b = said p j e in record {
   names = (none_on p.matrix.rows, one_on p.matrix.columns j b.live);
   deletes = refl;
 }
+
+-- ---- its edits are those of what the bounds hold, so where these hold the same its edits are the same
+abbrev edits_of : ℕ → Contents → List Edit
+edits_of j (holding.Bounds l u w) = SetBounds j (rounded_up l) (rounded_down u) ∷ []
+edits_of j other = []
+
+edits_told : (p : Sparse) (j : ℕ) → (column_at p j).live ≡ true → edits_of j (contents_of p (part.Bounds j)) ≡ edits p j
+edits_told p j live = ap (λ (on : Bool). edits_of j (if on then holding.Bounds (bounds_at p j).lower (bounds_at p j).upper (bounds_at p j).whole else holding.Gone)) live
+
+pub edits_same : (p q : Sparse) (j : ℕ) → enabled p j ≡ true → contents_of q (part.Bounds j) ≡ contents_of p (part.Bounds j) → edits q j ≡ edits p j
+edits_same p q j e h =
+    let there : enabled q j ≡ true = ap is_to_be_rounded h ∙ e in
+    sym (edits_told q j (said q j there).live) ∙ ap (edits_of j) h ∙ edits_told p j (said p j e).live
