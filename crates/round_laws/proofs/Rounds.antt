@@ -1,11 +1,10 @@
 -- A pass is a round; and what a round that applied nothing says.
-use Rattle.std.proofs.Common.{◌≡◌, ◌⊎◌, inl, inr, ℕ, zero, suc, ◌+◌, ◌<◌, ◌≤◌, Bool, true, false, List, [], ◌∷◌, ◌++◌, length, Some, None, sym, refl, ap, ap₂, ◌∙◌, subst, arith, length-append}
+use Rattle.std.proofs.Common.{◌≡◌, ◌⊎◌, inl, inr, ℕ, zero, suc, ◌+◌, ◌<◌, ◌≤◌, Bool, true, false, List, [], ◌∷◌, ◌++◌, length, map, Some, None, sym, refl, ap, ap₂, ◌∙◌, subst, arith, length-append, true≢false}
 use Rattle.std.specs.Prelude.{if◌then◌else◌}
 use Rattle.std.specs.List.{Contains, filter}
 use Rattle.std.proofs.lemmas.List.{append-nil}
-use Rattle.std.proofs.lemmas.List.Elements.{Contains-append_left, Contains-append_right}
+use Rattle.std.proofs.lemmas.List.Elements.{Contains-append_left, Contains-append_right, filter-append}
 use Rattle.std.proofs.lemmas.Option.{none-some}
-use Rattle.problem_model.specs.declared.part.Part.{Part}
 use Rattle.problem_model.specs.Sparse.{Sparse}
 use Rattle.presolve_model.specs.declared.instance.Instance.{Instance}
 use Rattle.presolve_model.specs.declared.instance.Instance.TheVariants as at
@@ -14,42 +13,73 @@ use Rattle.presolve_model.specs.declared.outcome.Outcome.{Outcome}
 use Rattle.presolve_model.specs.Commits.{CanWrite, Fits, IsOpen, left_by, with_instance}
 use Rattle.presolve_model.specs.Enabled.{enabled_on}
 use Rattle.presolve_model.specs.Given.{Proposed}
+use Rattle.presolve_model.specs.Instances.{id_at, rule_at}
 use Rattle.presolve_model.specs.Ledger.{instance_count, Ledger}
 use Rattle.presolve_model.specs.Order.{reduction_order, verdict_order}
 use Rattle.presolve_model.specs.Ordered.{Committed, enabled_verdicts, round_list}
 use Rattle.presolve_model.specs.Scans.{all_ids, all_of, listed, proposal_of}
 use Rattle.presolve_model.specs.Stuck.{IsUndecided, Stuck}
 use Rattle.presolve_model.proofs.ByCases.{reductions_ordered, verdicts_listed, verdicts_ordered}
-use Rattle.presolve_model.proofs.Listing.{among_all, reduction_listed, verdict_listed}
+use Rattle.presolve_model.proofs.Listing.{among_all, listed_is, reduction_listed, verdict_listed}
 use Rattle.presolve_model.proofs.Readings.{reading_agrees}
-use Rattle.round_laws.specs.Choosing.{AreSorted, instances_of, IsComplete, Around, proposals, visited}
-use Rattle.round_laws.specs.Passing.{IsFresh, IsNoted, Passed, Tracks}
-use Rattle.round_laws.proofs.Choosing.{among_there, listed_there}
+use Rattle.round_laws.specs.Choosing.{AreSorted, ids_of, instances_of, IsComplete, Around, proposals, visited}
+use Rattle.round_laws.specs.Marks.{IsAsleep, IsMarked, Marks}
+use Rattle.round_laws.specs.Passing.{IsTracked, Passed, Tracks}
+use Rattle.round_laws.proofs.Choosing.{among_there, enabled_kept_there, is_there}
 use Rattle.round_laws.proofs.Committing.{left_how, left_open, proposals_append, same_reads}
+use Rattle.round_laws.proofs.ShortLists.{contains_in}
+use Rattle.round_laws.proofs.Thinning.{committed_more, IsIdle}
 
--- ---- a pass over rows and columns where each enabled instance is is a round
-pub passed_round : (b c : Ledger) (n : Around) (noted m : List Part) → AreSorted n → IsComplete b.problem n → Passed b.problem (visited b.problem n) noted b m c → Committed b (round_list b) c
-passed_round b c n noted m sorted complete h =
+-- ---- a pass over rows and columns where each enabled instance is, or sleeps, is a round
+-- all instances, in their order
+abbrev all_instances : Sparse → List Instance
+all_instances p = all_of p verdict_order ++ all_of p reduction_order
+
+listed_all : (p : Sparse) (v : ℕ) → proposals p v (all_instances p) ≡ listed p v (all_ids p) verdict_order ++ listed p v (all_ids p) reduction_order
+listed_all p v =
+    proposals_append p v (all_of p verdict_order) (all_of p reduction_order)
+    ∙ ap₂ (λ (xs ys : List Proposed). xs ++ ys) (sym (listed_is p v (all_ids p) verdict_order)) (sym (listed_is p v (all_ids p) reduction_order))
+
+-- what is enabled of those that are looked at, and of all that have their first id there
+visited_kept : (p : Sparse) (n : Around) (v : ℕ) → AreSorted n → proposals p v (visited p n) ≡ proposals p v (filter (is_there n) (all_instances p))
+visited_kept p n v sorted =
+    let both : filter (enabled_on p) (visited p n) ≡ filter (enabled_on p) (filter (is_there n) (all_instances p)) =
+    filter-append (enabled_on p) (instances_of p n verdict_order) (instances_of p n reduction_order)
+    ∙ ap₂ (λ (xs ys : List Instance). xs ++ ys) (enabled_kept_there p n sorted verdict_order) (enabled_kept_there p n sorted reduction_order)
+    ∙ sym (filter-append (enabled_on p) (filter (is_there n) (all_of p verdict_order)) (filter (is_there n) (all_of p reduction_order)))
+    ∙ ap (filter (enabled_on p)) (sym (filter-append (is_there n) (all_of p verdict_order) (all_of p reduction_order))) in
+    ap (map (proposal_of p v)) both
+
+pub passed_round : (b c : Ledger) (n : Around) (k m : Marks) → AreSorted n → IsComplete b.numbers b.problem n k.asleep → Passed b.problem (visited b.problem n) k b m c → Committed b (round_list b) c
+passed_round b c n k m sorted complete h =
     let v : ℕ = instance_count b in
-    let p : Sparse = b.problem in
-    let same : proposals p v (visited p n) ≡ round_list b =
-    proposals_append p v (instances_of p n verdict_order) (instances_of p n reduction_order)
-    ∙ ap₂ (λ (xs ys : List Proposed). xs ++ ys) (listed_there p n sorted complete v verdict_order) (listed_there p n sorted complete v reduction_order) in
-    subst (λ (ps : List Proposed). Committed b ps c) same (h.committed v)
-
-visited_there : (p : Sparse) (n : Around) → AreSorted n → IsComplete p n → (e : Instance) → enabled_on p e ≡ true → Contains (visited p n) e
-visited_there p n sorted complete (at.Verdict v) on = Contains-append_left (instances_of p n verdict_order) (instances_of p n reduction_order) (at.Verdict v) (among_there p n sorted complete verdict_order (at.Verdict v) on (verdicts_ordered v))
-visited_there p n sorted complete (at.Reduction r) on = Contains-append_right (instances_of p n verdict_order) (instances_of p n reduction_order) (at.Reduction r) (among_there p n sorted complete reduction_order (at.Reduction r) on (reductions_ordered r))
-
--- and what it notes is read by each enabled instance, if the run goes on
-pub passed_noted : (b c : Ledger) (n : Around) (m : List Part) → AreSorted n → IsComplete b.problem n → Passed b.problem (visited b.problem n) [] b m c → c.verdict ≡ None → length c.history < c.limit
-    → (e : Instance) → enabled_on c.problem e ≡ true → IsNoted c.problem m e
-passed_noted b c n m sorted complete h none room e on = by (h.tracks [] start none room e on)
+    let kept : Committed b (proposals b.problem v (filter (is_there n) (all_instances b.problem))) c = subst (λ (ps : List Proposed). Committed b ps c) (visited_kept b.problem n v sorted) (h.committed v) in
+    subst (λ (ps : List Proposed). Committed b ps c) (listed_all b.problem v) (committed_more b.problem v c (is_there n) (all_instances b.problem) b h.before out kept)
   where
-    start : Tracks b.problem [] (visited b.problem n ++ []) b
-    start none' room' x on' = inr (subst (λ (es : List Instance). Contains es x) (sym (append-nil (visited b.problem n))) (visited_there b.problem n sorted complete x on'), same_reads b.problem b.problem x refl)
+    out : (e : Instance) → enabled_on b.problem e ≡ true → is_there n e ≡ false → IsIdle b.problem b e
+    out e on off = by (complete e on)
+      where
+        by : Contains (ids_of n (rule_at e)) (id_at e) ⊎ IsAsleep b.numbers b.problem k.asleep e → IsIdle b.problem b e
+        by (inl there) = absurd (true≢false (sym (contains_in (ids_of n (rule_at e)) (id_at e) there) ∙ off))
+        by (inr asleep) = inr asleep.1
 
-    by : IsNoted c.problem m e ⊎ (Contains [] e × IsFresh b.problem c.problem e) → IsNoted c.problem m e
+visited_there : (p : Sparse) (n : Around) → AreSorted n → (e : Instance) → enabled_on p e ≡ true → Contains (ids_of n (rule_at e)) (id_at e) → Contains (visited p n) e
+visited_there p n sorted (at.Verdict v) on there = Contains-append_left (instances_of p n verdict_order) (instances_of p n reduction_order) (at.Verdict v) (among_there p n sorted verdict_order (at.Verdict v) on there (verdicts_ordered v))
+visited_there p n sorted (at.Reduction r) on there = Contains-append_right (instances_of p n verdict_order) (instances_of p n reduction_order) (at.Reduction r) (among_there p n sorted reduction_order (at.Reduction r) on there (reductions_ordered r))
+
+-- and each enabled instance is marked after it, if the run goes on
+pub passed_marked : (b c : Ledger) (n : Around) (k m : Marks) → AreSorted n → IsComplete b.numbers b.problem n k.asleep → Passed b.problem (visited b.problem n) k b m c → c.verdict ≡ None → length c.history < c.limit
+    → (e : Instance) → enabled_on c.problem e ≡ true → IsMarked c.numbers c.problem m e
+passed_marked b c n k m sorted complete h none room e on = by (h.tracks [] start none room e on)
+  where
+    start : Tracks b.problem k (visited b.problem n ++ []) b
+    start none' room' x on' = first (complete x on')
+      where
+        first : Contains (ids_of n (rule_at x)) (id_at x) ⊎ IsAsleep b.numbers b.problem k.asleep x → IsTracked b.problem k (visited b.problem n ++ []) b x
+        first (inl there) = inr (subst (λ (es : List Instance). Contains es x) (sym (append-nil (visited b.problem n))) (visited_there b.problem n sorted x on' there), same_reads b.problem b.problem x refl)
+        first (inr asleep) = inl (inr asleep)
+
+    by : IsTracked b.problem m [] c e → IsMarked c.numbers c.problem m e
     by (inl x) = x
     by (inr (x, y)) = absurd (omega (arith, x.1))
 

@@ -1,8 +1,8 @@
 -- What lists contain.
 use Rattle.std.proofs.Common.{◌≡◌, ◌≢◌, ◌⊎◌, inl, inr, ℕ, zero, suc, Bool, true, false, List, [], ◌∷◌, ◌++◌, map, refl, ap, ◌∙◌, sym, subst, arith}
-use Rattle.std.specs.Prelude.{if◌then◌else◌}
-use Rattle.std.specs.List.{Contains, filter}
-use Rattle.std.proofs.lemmas.Bool.{cases_eq}
+use Rattle.std.specs.Prelude.{◌&&◌, if◌then◌else◌, nat_eq}
+use Rattle.std.specs.List.{Contains, filter, flat_map}
+use Rattle.std.proofs.lemmas.Bool.{cases_eq, eq-eqb, ne_eqb}
 use Rattle.lp_model.specs.declared.terms.Term.{Term}
 use Rattle.lp_model.specs.Sparse.{has}
 use Rattle.problem_laws.proofs.Terms.{has-cons_same, has-cons_other}
@@ -69,6 +69,70 @@ passes_still t (x ∷ xs) ys y h c = by (t x) refl (first_or_behind x (xs ++ ys)
     by true g (inr n) rest = let (k, l, e) = rest n in (suc k, omega (arith, l), e)
     by false g (inl e) rest = absurd (let d = sym g ∙ ap t e ∙ h in cc)
     by false g (inr n) rest = rest n
+
+-- ---- what a flat map contains comes from somewhere
+later_in : {Y : Type 0} (u y : Y) (us vs : List Y) → Contains us y ⊎ Contains vs y → Contains (u ∷ us) y ⊎ Contains vs y
+later_in u y us vs (inl (i, m, g)) = inl (suc i, omega (arith, m), g)
+later_in u y us vs (inr d) = inr d
+
+in_either : {Y : Type 0} (us vs : List Y) (y : Y) → Contains (us ++ vs) y → Contains us y ⊎ Contains vs y
+in_either [] vs y c = inr c
+in_either (u ∷ us) vs y (zero, l, e) = inl (0, omega arith, e)
+in_either (u ∷ us) vs y (suc k, l, e) = later_in u y us vs (in_either us vs y (k, omega (arith, l), e))
+
+abbrev pub ComesFrom : {X Y : Type 0} → (X → List Y) → List X → Y → Type 0
+ComesFrom f xs y = (x : _) × Contains xs x × Contains (f x) y
+
+from_first : {X Y : Type 0} (f : X → List Y) (x : X) (xs : List X) (y : Y) → Contains (f x) y ⊎ Contains (flat_map f xs) y → (Contains (flat_map f xs) y → ComesFrom f xs y) → ComesFrom f (x ∷ xs) y
+from_first f x xs y (inl d) ih = (x, (0, omega arith, refl), d)
+from_first f x xs y (inr d) ih = let k = ih d in (k.0, (suc k.1.0, (let l = k.1.1 in omega (arith, l)), k.1.2), k.2)
+
+pub comes_from : {X Y : Type 0} (f : X → List Y) (xs : List X) (y : Y) → Contains (flat_map f xs) y → ComesFrom f xs y
+comes_from f [] y c = absurd (omega (arith, c.1))
+comes_from f (x ∷ xs) y c = from_first f x xs y (in_either (f x) (flat_map f xs) y c) (comes_from f xs y)
+
+-- ---- two tests, one after the other
+pub filter_both : {X : Type 0} (t u : X → Bool) (xs : List X) → filter (λ x. t x && u x) xs ≡ filter u (filter t xs)
+filter_both t u [] = refl
+filter_both t u (x ∷ xs) = by (t x) (u x) refl (filter_both t u xs)
+  where
+    by : (a b : Bool) → u x ≡ b → filter (λ y. t y && u y) xs ≡ filter u (filter t xs)
+        → (if a && b then x ∷ filter (λ y. t y && u y) xs else filter (λ y. t y && u y) xs) ≡ filter u (if a then x ∷ filter t xs else filter t xs)
+    by true true h ih = ap (λ (ys : List _). x ∷ ys) ih ∙ ap (λ (s : Bool). if s then x ∷ filter u (filter t xs) else filter u (filter t xs)) (sym h)
+    by true false h ih = ih ∙ ap (λ (s : Bool). if s then x ∷ filter u (filter t xs) else filter u (filter t xs)) (sym h)
+    by false b h ih = ih
+
+-- a test that all pass
+pub filter_all : {X : Type 0} (t u : X → Bool) (xs : List X) → ((x : X) → Contains xs x → t x ≡ true) → filter (λ x. t x && u x) xs ≡ filter u xs
+filter_all t u [] h = refl
+filter_all t u (x ∷ xs) h = by (t x) (u x) (h x (0, omega arith, refl)) (filter_all t u xs (λ y (k, l, e). h y (suc k, omega (arith, l), e)))
+  where
+    by : (a b : Bool) → a ≡ true → filter (λ y. t y && u y) xs ≡ filter u xs → (if a && b then x ∷ filter (λ y. t y && u y) xs else filter (λ y. t y && u y) xs) ≡ (if b then x ∷ filter u xs else filter u xs)
+    by true true e ih = ap (λ (ys : List _). x ∷ ys) ih
+    by true false e ih = ih
+    by false b e ih = absurd (let g = e in cc)
+
+-- ---- a number is among some
+abbrev pub is_in : List ℕ → ℕ → Bool
+is_in [] k = false
+is_in (x ∷ xs) k = if nat_eq x k then true else is_in xs k
+
+pub in_contains : (xs : List ℕ) (k : ℕ) → is_in xs k ≡ true → Contains xs k
+in_contains [] k h = absurd (let g = h in cc)
+in_contains (x ∷ xs) k h = by (cases_eq x k) (in_contains xs k)
+  where
+    by : (x ≡ k) ⊎ (x ≢ k) → (is_in xs k ≡ true → Contains xs k) → Contains (x ∷ xs) k
+    by (inl e) rest = (0, omega arith, e)
+    by (inr n) rest = let (i, l, e) = rest (sym (ap (λ (b : Bool). if b then true else is_in xs k) (ne_eqb x k n)) ∙ h) in (suc i, omega (arith, l), e)
+
+pub contains_in : (xs : List ℕ) (k : ℕ) → Contains xs k → is_in xs k ≡ true
+contains_in [] k c = absurd (none_in k c)
+contains_in (x ∷ xs) k c = by (cases_eq x k) (first_or_behind x xs k c) (contains_in xs k)
+  where
+    by : (x ≡ k) ⊎ (x ≢ k) → (x ≡ k) ⊎ Contains xs k → (Contains xs k → is_in xs k ≡ true) → (if nat_eq x k then true else is_in xs k) ≡ true
+    by (inl e) d rest = ap (λ (b : Bool). if b then true else is_in xs k) (eq-eqb x k e)
+    by (inr n) (inl e) rest = absurd (n e)
+    by (inr n) (inr d) rest = ap (λ (b : Bool). if b then true else is_in xs k) (ne_eqb x k n) ∙ rest d
 
 -- ---- terms
 pub has_of : (ts : List Term) (t : Term) → Contains ts t → has t.id ts ≡ true

@@ -1,9 +1,11 @@
 -- Those of some instances that are enabled on the present problem are met in place of all of them: what is left out would be stale at its turn.
-use Rattle.std.proofs.Common.{◌≡◌, ◌≢◌, ◌⊎◌, inl, inr, ℕ, zero, suc, ◌-◌, ◌^◌, ◌<◌, ◌≤◌, Bool, true, false, List, [], ◌∷◌, ◌++◌, length, map, refl, sym, ap, ap₂, ◌∙◌, subst, arith, true≢false}
+use Rattle.std.proofs.Common.{◌≡◌, ◌≢◌, ◌⊎◌, inl, inr, ℕ, zero, suc, ◌-◌, ◌^◌, ◌<◌, ◌≤◌, Bool, true, false, List, [], ◌∷◌, ◌++◌, length, map, Option, Some, None, refl, sym, ap, ap₂, ◌∙◌, subst, arith, true≢false}
 use Rattle.std.specs.Prelude.{if◌then◌else◌}
 use Rattle.std.specs.List.{Contains, filter}
+use Rattle.std.proofs.lemmas.Bool.{cases_lt}
 use Rattle.std.proofs.lemmas.List.Elements.{Contains-append_cases, Contains-append_right}
 use Rattle.std.proofs.lemmas.Simd.{map-map}
+use Rattle.fractions.specs.declared.Numbers.{Numbers}
 use Rattle.problem_model.specs.declared.part.Part.{Part}
 use Rattle.problem_model.specs.declared.part.Read.{Read}
 use Rattle.problem_model.specs.Parts.{changes_of}
@@ -13,7 +15,8 @@ use Rattle.presolve_model.specs.declared.instance.Instance.{Instance}
 use Rattle.presolve_model.specs.declared.instance.Instance.TheVariants as at
 use Rattle.presolve_model.specs.declared.instance.Rule.{Rule}
 use Rattle.presolve_model.specs.declared.outcome.Outcome.{Outcome}
-use Rattle.presolve_model.specs.declared.outcome.Outcome.TheVariants.{NoMemory}
+use Rattle.presolve_model.specs.declared.instance.Verdict.{Verdict}
+use Rattle.presolve_model.specs.declared.outcome.Outcome.TheVariants.{Closed, Full, Past, NotDecimal, NoMemory}
 use Rattle.presolve_model.specs.Changes.{changed}
 use Rattle.presolve_model.specs.Commits.{Allows, CanWrite, Fits, IsOpen, left_by, with_instance}
 use Rattle.presolve_model.specs.Enabled.{enabled_on, reading_of, reads}
@@ -24,9 +27,10 @@ use Rattle.presolve_model.specs.Ordered.{Committed}
 use Rattle.presolve_model.specs.Scans.{proposal_of}
 use Rattle.presolve_model.proofs.Tabled.{counted_changed}
 use Rattle.round_laws.specs.Choosing.{proposals}
-use Rattle.round_laws.specs.Passing.{Follows, IsFresh, IsLaterAt, IsNoted, Passed, Tracks}
+use Rattle.round_laws.specs.Marks.{IsRefused, Marks, RestsOnReading}
+use Rattle.round_laws.specs.Passing.{Follows, IsFresh, IsLaterAt, IsTracked, Passed, Tracks}
 use Rattle.round_laws.proofs.Alike.{IsAlikeFrom, NoneStands}
-use Rattle.round_laws.proofs.Committing.{committed_append, committed_same, fresh_enables, fresh_parts, left_how, left_open, passed_over, proposals_append, refused_how, stays_or_differs}
+use Rattle.round_laws.proofs.Committing.{committed_append, committed_same, fresh_enables, fresh_parts, fresh_reads, left_how, left_open, passed_over, proposals_append, refused_how, stays_or_differs}
 use Rattle.round_laws.proofs.Places.{from_stand}
 use Rattle.round_laws.proofs.ShortLists.{passes_still}
 use Rattle.round_laws.proofs.Turns.{Moved, follows_applied, moved}
@@ -72,13 +76,15 @@ still_moved f p q a h few low l (inl g) = let m : changes_of q a ≡ changes_of 
 still_moved f p q a h few low l (inr g) = omega (arith, l, g, few, low)
 
 -- ---- from a book to the one that a commit leaves
-abbrev GoesTo : Sparse → Ledger → Ledger → Type 0
-GoesTo f b c = Follows f c × ((ps : List Part) → HasMoved f b.problem ps → HasMoved f c.problem ps)
+record GoesTo (f : Sparse) (b c : Ledger) : Type 0 where
+  follows : Follows f c
+  moved : (ps : List Part) → HasMoved f b.problem ps → HasMoved f c.problem ps
+  numbers : c.numbers ≡ b.numbers
 
 module _ (f : Sparse) (b : Ledger) (h : Follows f b) where
   goes_on : (e : Instance) → enabled_on b.problem e ≡ true → IsOpen b (proposal_of f 0 e) → GoesTo f b (with_instance b e)
-  goes_on (at.Verdict v) on k = (record { later = h.later; counted = h.counted; short = h.short; sparse = h.sparse; size = h.size }, λ ps x. x)
-  goes_on (at.Reduction r) on k = (follows_applied f b r h on k.room, λ ps (a, c, l). (a, c, by a l))
+  goes_on (at.Verdict v) on k = record { follows = record { later = h.later; counted = h.counted; short = h.short; sparse = h.sparse; size = h.size }; moved = λ ps x. x; numbers = refl }
+  goes_on (at.Reduction r) on k = record { follows = follows_applied f b r h on k.room; moved = λ ps (a, c, l). (a, c, by a l); numbers = refl }
     where
       by : (a : Part) → changes_of f a < changes_of b.problem a → changes_of f a < changes_of (changed r b.problem) a
       by a l = still_moved f b.problem (changed r b.problem) a (length b.history) (h.counted a) (let room : length b.history < b.limit = k.room in omega (arith, room, h.short)) l (moved b.problem (changed r b.problem) a (counted_changed b.problem r h.sparse on a))
@@ -87,7 +93,7 @@ module _ (f : Sparse) (b : Ledger) (h : Follows f b) where
   goes_to v e o on n a = by (left_how b (proposal_of f v e) o a)
     where
       by : (left_by b (proposal_of f v e) o ≡ b) ⊎ (IsOpen b (proposal_of f v e) × Fits e b.problem × CanWrite b e) → GoesTo f b (left_by b (proposal_of f v e) o)
-      by (inl same) = subst (GoesTo f b) (sym same) (h, λ ps x. x)
+      by (inl same) = subst (GoesTo f b) (sym same) (record { follows = h; moved = λ ps x. x; numbers = refl })
       by (inr k) = subst (GoesTo f b) (sym (left_open b (proposal_of f v e) o n a k.0 k.1 k.2))
           (goes_on e (fresh_enables f b.problem e k.0.agrees ∙ on) (record { undecided = k.0.undecided; room = k.0.room; agrees = k.0.agrees }))
 
@@ -98,30 +104,56 @@ proposals_with f v e es on = ap (λ (t : Bool). map (proposal_of f v) (if t then
 proposals_without : (f : Sparse) (v : ℕ) (e : Instance) (es : List Instance) → enabled_on f e ≡ false → proposals f v (e ∷ es) ≡ proposals f v es
 proposals_without f v e es off = ap (λ (t : Bool). map (proposal_of f v) (if t then e ∷ filter (enabled_on f) es else filter (enabled_on f) es)) off
 
--- ---- what is left out reads a part that has changed: its commits change nothing
+-- ---- what is left out reads a part that has changed, or is refused as long as it reads what it read on f: its commits change nothing
+abbrev pub IsIdle : Sparse → Ledger → Instance → Type 0
+IsIdle f b e = HasMoved f b.problem (reads f e) ⊎ RestsOnReading b.numbers f e
+
+abbrev StaysBy : Ledger → Proposed → Type 0
+StaysBy b p = (o : Outcome) × (o ≢ NoMemory) × Allows b p o × (left_by b p o ≡ b)
+
+module _ (f : Sparse) (v : ℕ) (b : Ledger) where
+  -- its numbers are refused, if a verdict or the limit does not come first
+  refused_for : (e : Instance) → IsFresh f b.problem e → IsRefused b.numbers b.problem e → StaysBy b (proposal_of f v e)
+  refused_for (at.Verdict x) fresh refused = absurd refused
+  refused_for (at.Reduction r) fresh refused = by b.verdict refl (cases_lt (length b.history) b.limit) refused
+    where
+      by : (x : Option Verdict) → b.verdict ≡ x → (length b.history < b.limit) ⊎ (b.limit ≤ length b.history) → IsRefused b.numbers b.problem (at.Reduction r) → StaysBy b (proposal_of f v (at.Reduction r))
+      by (Some x) e room n = (Closed x, (λ y. cc), e, refl)
+      by None e (inr full) n = (Full, (λ y. cc), (e, full), refl)
+      by None e (inl room) (inl past) = (Past, (λ y. cc), (record { undecided = e; room = room; agrees = fresh }, past), refl)
+      by None e (inl room) (inr (fits, unwritten)) = (NotDecimal, (λ y. cc), (record { undecided = e; room = room; agrees = fresh }, fits, unwritten), refl)
+
+  idle_stays : (e : Instance) → ((a : Part) → IsLaterAt f b.problem a) → IsIdle f b e → StaysBy b (proposal_of f v e)
+  idle_stays e later idle = by idle (stays_or_differs f b.problem (reads f e) later)
+    where
+      by : IsIdle f b e → Agrees b.problem (reading_of f e) ⊎ ((n : ℕ) × DiffersAt b.problem (reading_of f e) n) → StaysBy b (proposal_of f v e)
+      by (inl moved) (inl fresh) = absurd (moved_stale f b.problem e moved fresh)
+      by (inr rests) (inl fresh) = refused_for e fresh (rests b.problem (fresh_reads f b.problem e fresh))
+      by either (inr d) = refused_how b (proposal_of f v e) d
+
 module _ (f : Sparse) (v : ℕ) (c : Ledger) (keep : Instance → Bool) where
   abbrev LeftOut : Ledger → Type 0
-  LeftOut b = (e : Instance) → enabled_on f e ≡ true → keep e ≡ false → HasMoved f b.problem (reads f e)
+  LeftOut b = (e : Instance) → enabled_on f e ≡ true → keep e ≡ false → IsIdle f b e
 
   abbrev More : List Instance → Type 0
   More es = (b : Ledger) → Follows f b → LeftOut b → Committed b (proposals f v (filter keep es)) c → Committed b (proposals f v es) c
 
-  committed_more : (es : List Instance) → More es
+  left_out_on : (b d : Ledger) → GoesTo f b d → LeftOut b → LeftOut d
+  left_out_on b d g out e on off = by (out e on off)
+    where
+      by : IsIdle f b e → IsIdle f d e
+      by (inl m) = inl (g.moved (reads f e) m)
+      by (inr rests) = inr (subst (λ (k : Numbers). RestsOnReading k f e) (sym g.numbers) rests)
+
+  pub committed_more : (es : List Instance) → More es
   committed_more [] b h out k = k
   committed_more (e ∷ es) b h out k = by (committed_more es) (keep e) refl (enabled_on f e) refl k
     where
-      refused : HasMoved f b.problem (reads f e) → (o : Outcome) × (o ≢ NoMemory) × Allows b (proposal_of f v e) o × (left_by b (proposal_of f v e) o ≡ b)
-      refused m = stale (stays_or_differs f b.problem (reads f e) h.later)
-        where
-          stale : Agrees b.problem (reading_of f e) ⊎ ((n : ℕ) × DiffersAt b.problem (reading_of f e) n) → (o : Outcome) × (o ≢ NoMemory) × Allows b (proposal_of f v e) o × (left_by b (proposal_of f v e) o ≡ b)
-          stale (inl fresh) = absurd (moved_stale f b.problem e m fresh)
-          stale (inr d) = refused_how b (proposal_of f v e) d
-
       met : More es → enabled_on f e ≡ true → Committed b (proposal_of f v e ∷ proposals f v (filter keep es)) c → Committed b (proposal_of f v e ∷ proposals f v es) c
-      met more on (o, n, a, rest) = let g = goes_to f b h v e o on n a in (o, n, a, more (left_by b (proposal_of f v e) o) g.0 (λ x y z. g.1 (reads f x) (out x y z)) rest)
+      met more on (o, n, a, rest) = let g = goes_to f b h v e o on n a in (o, n, a, more (left_by b (proposal_of f v e) o) g.follows (left_out_on b (left_by b (proposal_of f v e) o) g out) rest)
 
-      over : Committed b (proposals f v es) c → HasMoved f b.problem (reads f e) → Committed b (proposal_of f v e ∷ proposals f v es) c
-      over rest m = let r = refused m in (r.0, r.1, r.2, subst (λ (x : Ledger). Committed x (proposals f v es) c) (sym r.3) rest)
+      over : Committed b (proposals f v es) c → IsIdle f b e → Committed b (proposal_of f v e ∷ proposals f v es) c
+      over rest m = let r = idle_stays f v b e h.later m in (r.0, r.1, r.2, subst (λ (x : Ledger). Committed x (proposals f v es) c) (sym r.3) rest)
 
       with_it : enabled_on f e ≡ true → Committed b (proposal_of f v e ∷ proposals f v es) c → Committed b (proposals f v (e ∷ es)) c
       with_it on x = subst (λ (ps : List Proposed). Committed b ps c) (sym (proposals_with f v e es on)) x
@@ -136,10 +168,11 @@ module _ (f : Sparse) (v : ℕ) (c : Ledger) (keep : Instance → Bool) where
       by more false x false y d = without_it y (more b h out d)
 
 -- ---- a pass over those that are enabled is one over all
-passed_all : (f : Sparse) (es : List Instance) (n m : List Part) (b c : Ledger) → Follows f b → Passed f (filter (enabled_on b.problem) es) n b m c → Passed f es n b m c
+passed_all : (f : Sparse) (es : List Instance) (n m : Marks) (b c : Ledger) → Follows f b → Passed f (filter (enabled_on b.problem) es) n b m c → Passed f es n b m c
 passed_all f es n m b c h k = record {
   book = k.book;
-  committed = λ v. committed_more f v c (enabled_on b.problem) es b h (λ e on off. not_enabled_moved f b.problem e h.later on off) (k.committed v);
+  before = k.before;
+  committed = λ v. committed_more f v c (enabled_on b.problem) es b h (λ e on off. inl (not_enabled_moved f b.problem e h.later on off)) (k.committed v);
   follows = k.follows;
   tracks = λ rest t. k.tracks rest (fewer rest t);
   moved = k.moved;
@@ -149,7 +182,7 @@ passed_all f es n m b c h k = record {
     fewer : (rest : List Instance) → Tracks f n (es ++ rest) b → Tracks f n (filter (enabled_on b.problem) es ++ rest) b
     fewer rest t none room x on = by (t none room x on)
       where
-        by : IsNoted b.problem n x ⊎ (Contains (es ++ rest) x × IsFresh f b.problem x) → IsNoted b.problem n x ⊎ (Contains (filter (enabled_on b.problem) es ++ rest) x × IsFresh f b.problem x)
+        by : IsTracked f n (es ++ rest) b x → IsTracked f n (filter (enabled_on b.problem) es ++ rest) b x
         by (inl a) = inl a
         by (inr (among, fresh)) = inr (passes_still (enabled_on b.problem) es rest x on among, fresh)
 
@@ -163,9 +196,10 @@ module _ (f : Sparse) (b : Ledger) (h : Follows f b) (v : ℕ) where
   none_left : (c : Ledger) (es : List Instance) → NoneStands f b.problem es → Committed b (proposals f v es) c → c ≡ b
   none_left c es none k = committed_same b c b (proposals f v es) k (none_commits es none)
 
-passed_either : (f : Sparse) (es fs : List Instance) (n m : List Part) (b c : Ledger) → Follows f b → NoneStands f b.problem es → NoneStands f b.problem fs → Passed f fs n b m c → Passed f es n b m c
+passed_either : (f : Sparse) (es fs : List Instance) (n m : Marks) (b c : Ledger) → Follows f b → NoneStands f b.problem es → NoneStands f b.problem fs → Passed f fs n b m c → Passed f es n b m c
 passed_either f es fs n m b c h none nor k = record {
   book = k.book;
+  before = k.before;
   committed = λ v. subst (Committed b (proposals f v es)) (sym (none_left f b h v c fs nor (k.committed v))) (none_commits f b h v es none);
   follows = k.follows;
   tracks = λ rest t. k.tracks rest (other rest t);
@@ -176,16 +210,16 @@ passed_either f es fs n m b c h none nor k = record {
     other : (rest : List Instance) → Tracks f n (es ++ rest) b → Tracks f n (fs ++ rest) b
     other rest t free room x on = by (t free room x on)
       where
-        behind : IsFresh f b.problem x → Contains es x ⊎ Contains rest x → IsNoted b.problem n x ⊎ (Contains (fs ++ rest) x × IsFresh f b.problem x)
+        behind : IsFresh f b.problem x → Contains es x ⊎ Contains rest x → IsTracked f n (fs ++ rest) b x
         behind fresh (inl c) = absurd (none x c on fresh)
         behind fresh (inr c) = inr (Contains-append_right fs rest x c, fresh)
 
-        by : IsNoted b.problem n x ⊎ (Contains (es ++ rest) x × IsFresh f b.problem x) → IsNoted b.problem n x ⊎ (Contains (fs ++ rest) x × IsFresh f b.problem x)
+        by : IsTracked f n (es ++ rest) b x → IsTracked f n (fs ++ rest) b x
         by (inl a) = inl a
         by (inr (among, fresh)) = behind fresh (Contains-append_cases es rest x among)
 
 -- ---- the instances of a rule with a first id, those of the present problem in place of those of f
-pub passed_found : (f : Sparse) (r : Rule) (k : ℕ) (n m : List Part) (b c : Ledger) → Follows f b → Passed f (filter (enabled_on b.problem) (instances_from b.problem r k)) n b m c → Passed f (instances_from f r k) n b m c
+pub passed_found : (f : Sparse) (r : Rule) (k : ℕ) (n m : Marks) (b c : Ledger) → Follows f b → Passed f (filter (enabled_on b.problem) (instances_from b.problem r k)) n b m c → Passed f (instances_from f r k) n b m c
 passed_found f r k n m b c h passed = by (from_stand f b.problem h.later r k) (passed_all f (instances_from b.problem r k) n m b c h passed)
   where
     by : IsAlikeFrom f b.problem (instances_from f r k) (instances_from b.problem r k) → Passed f (instances_from b.problem r k) n b m c → Passed f (instances_from f r k) n b m c

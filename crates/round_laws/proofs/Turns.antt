@@ -1,5 +1,5 @@
 -- An instance at its turn: what it leaves of the book, and what is noted.
-use Rattle.std.proofs.Common.{◌≡◌, ◌≢◌, ◌⊎◌, inl, inr, ℕ, ◌+◌, ◌-◌, ◌^◌, ◌<◌, ◌≤◌, Bool, true, false, List, [], ◌∷◌, ◌++◌, length, None, sym, refl, ap, ap₂, ◌∙◌, subst, arith, length-append}
+use Rattle.std.proofs.Common.{◌≡◌, ◌≢◌, ◌⊎◌, inl, inr, ℕ, ◌+◌, ◌-◌, ◌^◌, ◌<◌, ◌≤◌, Bool, true, false, List, [], ◌∷◌, ◌++◌, length, None, sym, refl, ap, ap₂, ◌∙◌, subst, arith, length-append, true≢false}
 use Rattle.std.specs.List.{Contains}
 use Rattle.std.proofs.lemmas.List.Elements.{Contains-append_left}
 use Rattle.std.proofs.lemmas.Option.{none-some}
@@ -24,15 +24,19 @@ use Rattle.presolve_model.specs.declared.outcome.Outcome.TheVariants.{Closed, Fu
 use Rattle.presolve_model.specs.Changes.{changed}
 use Rattle.presolve_model.specs.Commits.{Allows, left_by, with_instance}
 use Rattle.presolve_model.specs.Enabled.{enabled_on}
+use Rattle.presolve_model.specs.Instances.{rests_on_reading, rule_at}
 use Rattle.presolve_model.specs.Ledger.{Ledger}
 use Rattle.presolve_model.specs.Ordered.{Committed}
 use Rattle.presolve_model.specs.Scans.{proposal_of}
 use Rattle.presolve_model.specs.Tables.{heads, more}
+use Rattle.presolve_model.proofs.ByCases.{refusals_rest, verdicts_do_not_rest}
+use Rattle.presolve_model.proofs.Readings.{enabled_same, reads_told}
 use Rattle.presolve_model.proofs.Tabled.{counted_changed, same_size, sound_changed}
 use Rattle.round_laws.specs.Choosing.{proposals}
-use Rattle.round_laws.specs.Passing.{Follows, IsFresh, IsLaterAt, IsNoted, IsSameBook, Passed}
+use Rattle.round_laws.specs.Marks.{Grows, IsMarked, IsNoted, is_refusal, Marks, RestsOnReading}
+use Rattle.round_laws.specs.Passing.{Follows, IsFresh, IsLaterAt, IsSameBook, Passed}
 use Rattle.round_laws.proofs.Committing.{passed_at, passed_over}
-use Rattle.round_laws.proofs.Tracking.{tracks_changed, tracks_more, tracks_noted, tracks_over}
+use Rattle.round_laws.proofs.Tracking.{grows_none, tracks_changed, tracks_marked, tracks_more, tracks_over}
 
 -- ---- a part stands, or has changed once more
 abbrev pub Moved : Sparse → Sparse → Part → Type 0
@@ -82,50 +86,66 @@ follows_applied f b r h on room =
       size = record { rows = size.rows ∙ h.size.rows; columns = size.columns ∙ h.size.columns; constant = size.constant ∙ h.size.constant };
     }
 
+-- ---- a refusal that rests on the reading is the same wherever it is read
+module _ (b : Ledger) where
+  past_rests : (e : Instance) (w : ℕ) → rests_on_reading (rule_at e) ≡ true → enabled_on b.problem e ≡ true → Allows b (proposal_of b.problem w e) Past → RestsOnReading b.numbers b.problem e
+  past_rests (at.Reduction r) w t on ok = λ q same. inl (λ fits. ok.1 ((refusals_rest b.numbers b.problem q r t on same).0 fits))
+  past_rests (at.Verdict v) w t on ok = absurd (verdicts_do_not_rest v t)
+
+  not_decimal_rests : (e : Instance) (w : ℕ) → rests_on_reading (rule_at e) ≡ true → enabled_on b.problem e ≡ true → Allows b (proposal_of b.problem w e) NotDecimal → RestsOnReading b.numbers b.problem e
+  not_decimal_rests (at.Reduction r) w t on ok = λ q same. inr (
+    (refusals_rest b.numbers q b.problem r t (enabled_same b.problem q (at.Reduction r) (reads_told b.problem q (at.Reduction r) same) ∙ on) (sym same)).0 ok.1,
+    λ written. ok.2 ((refusals_rest b.numbers b.problem q r t on same).1 written),
+  )
+  not_decimal_rests (at.Verdict v) w t on ok = absurd (verdicts_do_not_rest v t)
+
 -- ---- an instance at its turn
 same_book : (b : Ledger) → IsSameBook b b
 same_book b = record { start = refl; numbers = refl; limit = refl }
 
 -- it is stale, or isn't enabled
-pub met_over : (f : Sparse) (e : Instance) (n : List Part) (b : Ledger) → Follows f b → (enabled_on b.problem e ≡ true → IsFresh f b.problem e → ⊥) → Passed f (e ∷ []) n b n b
+pub met_over : (f : Sparse) (e : Instance) (n : Marks) (b : Ledger) → Follows f b → (enabled_on b.problem e ≡ true → IsFresh f b.problem e → ⊥) → Passed f (e ∷ []) n b n b
 met_over f e n b h skip = record {
   book = same_book b;
+  before = h;
   committed = λ v. passed_over f b v e h.later skip;
   follows = h;
   tracks = λ rest t. tracks_over f n e rest b t skip;
   moved = λ a. inl refl;
-  grows = λ a x. x;
+  grows = grows_none n;
 }
 
 -- a head of an instance is noted
 pub noted_head : (p : Sparse) (m : List Part) (e : Instance) (a : Part) → Contains (heads e) a → Contains m a → IsNoted p m e
 noted_head p m e a h c = (a, Contains-append_left (heads e) (more e _) a h, c)
 
-module _ (f : Sparse) (n m : List Part) (b : Ledger) (h : Follows f b) (kept : (a : Part) → Contains n a → Contains m a) where
+module _ (f : Sparse) (n m : Marks) (b : Ledger) (h : Follows f b) (kept : Grows n m) where
   -- the book stays
-  met_still : (e : Instance) → IsNoted b.problem m e → ((v : ℕ) → Committed b (proposals f v (e ∷ [])) b) → Passed f (e ∷ []) n b m b
-  met_still e noted k = record {
+  met_still : (e : Instance) → IsMarked b.numbers b.problem m e → ((v : ℕ) → Committed b (proposals f v (e ∷ [])) b) → Passed f (e ∷ []) n b m b
+  met_still e marked k = record {
     book = same_book b;
+    before = h;
     committed = k;
     follows = h;
-    tracks = λ rest t. tracks_noted f m e rest b (tracks_more f n m (e ∷ rest) b kept t) noted;
+    tracks = λ rest t. tracks_marked f m e rest b (tracks_more f n m (e ∷ rest) b kept t) marked;
     moved = λ a. inl refl;
     grows = kept;
   }
 
   -- a reduction is applied
-  met_applied : (r : Reduction) → enabled_on b.problem (at.Reduction r) ≡ true → b.verdict ≡ None → length b.history < b.limit → AreNoted b.problem (changed r b.problem) n m → IsNoted (changed r b.problem) m (at.Reduction r)
+  met_applied : (r : Reduction) → enabled_on b.problem (at.Reduction r) ≡ true → b.verdict ≡ None → length b.history < b.limit → AreNoted b.problem (changed r b.problem) n.noted m.noted → IsNoted (changed r b.problem) m.noted (at.Reduction r)
       → ((v : ℕ) → Committed b (proposals f v (at.Reduction r ∷ [])) (with_instance b (at.Reduction r))) → Passed f (at.Reduction r ∷ []) n b m (with_instance b (at.Reduction r))
   met_applied r on none room noted own k = record {
     book = record { start = refl; numbers = refl; limit = refl };
+    before = h;
     committed = k;
     follows = follows_applied f b r h on room;
-    tracks = λ rest t. tracks_noted f m (at.Reduction r) rest (with_instance b (at.Reduction r)) (tracks_changed f n m (at.Reduction r ∷ rest) b (with_instance b (at.Reduction r)) noted none room t) own;
+    tracks = λ rest t. tracks_marked f m (at.Reduction r) rest (with_instance b (at.Reduction r)) (tracks_changed f n m (at.Reduction r ∷ rest) b (with_instance b (at.Reduction r)) noted refl kept.asleep none room t) (inl own);
     moved = λ a. by a (noted.changed a);
     grows = kept;
   }
     where
-      by : (a : Part) → (read_of (changed r b.problem) a ≡ read_of b.problem a) ⊎ Contains m a → (changes_of (changed r b.problem) a ≡ changes_of b.problem a) ⊎ Contains m a
+      by : (a : Part) → (read_of (changed r b.problem) a ≡ read_of b.problem a) ⊎ Contains m.noted a → (changes_of (changed r b.problem) a ≡ changes_of b.problem a) ⊎ Contains m.noted a
       by a (inl e) = inl (ap (λ (x : Read). x.changes) e)
       by a (inr c) = inr c
 
@@ -133,6 +153,7 @@ module _ (f : Sparse) (n m : List Part) (b : Ledger) (h : Follows f b) (kept : (
   met_verdict : (x : Verdict) → ((v : ℕ) → Committed b (proposals f v (at.Verdict x ∷ [])) (with_instance b (at.Verdict x))) → Passed f (at.Verdict x ∷ []) n b m (with_instance b (at.Verdict x))
   met_verdict x k = record {
     book = record { start = refl; numbers = refl; limit = refl };
+    before = h;
     committed = k;
     follows = record { later = h.later; counted = h.counted; short = h.short; sparse = h.sparse; size = h.size };
     tracks = λ rest t none room. absurd (none-some x (sym none));
@@ -141,24 +162,40 @@ module _ (f : Sparse) (n m : List Part) (b : Ledger) (h : Follows f b) (kept : (
   }
 
 -- it is enabled and its parts stand: whatever the answer is
-module _ (f : Sparse) (w : ℕ) (n m : List Part) (b : Ledger) (h : Follows f b) (e : Instance) (fresh : IsFresh f b.problem e) (on : enabled_on b.problem e ≡ true) where
-  met_by : (o : Outcome) → o ≢ NoMemory → Allows b (proposal_of b.problem w e) o → AreNoted b.problem (left_by b (proposal_of b.problem w e) o).problem n m → (a : Part) → Contains (heads e) a → Contains m a
+module _ (f : Sparse) (w : ℕ) (n m : Marks) (b : Ledger) (h : Follows f b) (e : Instance) (fresh : IsFresh f b.problem e) (on : enabled_on b.problem e ≡ true) where
+  met_by : (o : Outcome) → o ≢ NoMemory → Allows b (proposal_of b.problem w e) o → AreNoted b.problem (left_by b (proposal_of b.problem w e) o).problem n.noted m.noted → Grows n m → (a : Part) → Contains (heads e) a → Contains m.noted a
       → Passed f (e ∷ []) n b m (left_by b (proposal_of b.problem w e) o)
-  met_by (Closed x) mem ok noted a own c = met_still f n m b h noted.kept e (noted_head b.problem m e a own c) (λ v. passed_at f b v w e (Closed x) fresh on mem ok)
-  met_by Full mem ok noted a own c = met_still f n m b h noted.kept e (noted_head b.problem m e a own c) (λ v. passed_at f b v w e Full fresh on mem ok)
-  met_by (Stale k) mem ok noted a own c = met_still f n m b h noted.kept e (noted_head b.problem m e a own c) (λ v. passed_at f b v w e (Stale k) fresh on mem ok)
-  met_by Past mem ok noted a own c = met_still f n m b h noted.kept e (noted_head b.problem m e a own c) (λ v. passed_at f b v w e Past fresh on mem ok)
-  met_by NotDecimal mem ok noted a own c = met_still f n m b h noted.kept e (noted_head b.problem m e a own c) (λ v. passed_at f b v w e NotDecimal fresh on mem ok)
-  met_by (Applied k) mem ok noted a own c = by e fresh on ok noted own
+  met_by (Closed x) mem ok noted kept a own c = met_still f n m b h kept e (inl (noted_head b.problem m.noted e a own c)) (λ v. passed_at f b v w e (Closed x) fresh on mem ok)
+  met_by Full mem ok noted kept a own c = met_still f n m b h kept e (inl (noted_head b.problem m.noted e a own c)) (λ v. passed_at f b v w e Full fresh on mem ok)
+  met_by (Stale k) mem ok noted kept a own c = met_still f n m b h kept e (inl (noted_head b.problem m.noted e a own c)) (λ v. passed_at f b v w e (Stale k) fresh on mem ok)
+  met_by Past mem ok noted kept a own c = met_still f n m b h kept e (inl (noted_head b.problem m.noted e a own c)) (λ v. passed_at f b v w e Past fresh on mem ok)
+  met_by NotDecimal mem ok noted kept a own c = met_still f n m b h kept e (inl (noted_head b.problem m.noted e a own c)) (λ v. passed_at f b v w e NotDecimal fresh on mem ok)
+  met_by (Applied k) mem ok noted kept a own c = by e fresh on ok noted own
     where
-      by : (e : Instance) → IsFresh f b.problem e → enabled_on b.problem e ≡ true → Allows b (proposal_of b.problem w e) (Applied k) → AreNoted b.problem (with_instance b e).problem n m → Contains (heads e) a
+      by : (e : Instance) → IsFresh f b.problem e → enabled_on b.problem e ≡ true → Allows b (proposal_of b.problem w e) (Applied k) → AreNoted b.problem (with_instance b e).problem n.noted m.noted → Contains (heads e) a
           → Passed f (e ∷ []) n b m (with_instance b e)
-      by (at.Reduction r) fresh on ok noted own = met_applied f n m b h noted.kept r on ok.0.undecided ok.0.room noted (noted_head (changed r b.problem) m (at.Reduction r) a own c) (λ v. passed_at f b v w (at.Reduction r) (Applied k) fresh on mem ok)
-      by (at.Verdict x) fresh on ok noted own = met_verdict f n m b h noted.kept x (λ v. passed_at f b v w (at.Verdict x) (Applied k) fresh on mem ok)
-  met_by NoMemory mem ok noted a own c = absurd (mem refl)
+      by (at.Reduction r) fresh on ok noted own = met_applied f n m b h kept r on ok.0.undecided ok.0.room noted (noted_head (changed r b.problem) m.noted (at.Reduction r) a own c) (λ v. passed_at f b v w (at.Reduction r) (Applied k) fresh on mem ok)
+      by (at.Verdict x) fresh on ok noted own = met_verdict f n m b h kept x (λ v. passed_at f b v w (at.Verdict x) (Applied k) fresh on mem ok)
+  met_by NoMemory mem ok noted kept a own c = absurd (mem refl)
 
-pub met : (f : Sparse) (w : ℕ) (n m : List Part) (b c : Ledger) (e : Instance) (o : Outcome) (a : Part) → Follows f b → IsFresh f b.problem e → enabled_on b.problem e ≡ true → o ≢ NoMemory → Allows b (proposal_of b.problem w e) o
-    → c ≡ left_by b (proposal_of b.problem w e) o → AreNoted b.problem c.problem n m → Contains (heads e) a → Contains m a → Passed f (e ∷ []) n b m c
-met f w n m b c e o a h fresh on mem ok left noted own there =
+  -- it is refused for a number, and sleeps
+  asleep_by : (o : Outcome) → is_refusal o ≡ true → rests_on_reading (rule_at e) ≡ true → Allows b (proposal_of b.problem w e) o → Grows n m → (a : Part) → Contains (heads e) a → Contains m.asleep a
+      → Passed f (e ∷ []) n b m (left_by b (proposal_of b.problem w e) o)
+  asleep_by (Closed x) refused rests ok kept a own c = absurd (true≢false (sym refused))
+  asleep_by Full refused rests ok kept a own c = absurd (true≢false (sym refused))
+  asleep_by (Stale k) refused rests ok kept a own c = absurd (true≢false (sym refused))
+  asleep_by Past refused rests ok kept a own c = met_still f n m b h kept e (inr (noted_head b.problem m.asleep e a own c, past_rests b e w rests on ok)) (λ v. passed_at f b v w e Past fresh on (λ x. cc) ok)
+  asleep_by NotDecimal refused rests ok kept a own c = met_still f n m b h kept e (inr (noted_head b.problem m.asleep e a own c, not_decimal_rests b e w rests on ok)) (λ v. passed_at f b v w e NotDecimal fresh on (λ x. cc) ok)
+  asleep_by (Applied k) refused rests ok kept a own c = absurd (true≢false (sym refused))
+  asleep_by NoMemory refused rests ok kept a own c = absurd (true≢false (sym refused))
+
+pub met : (f : Sparse) (w : ℕ) (n m : Marks) (b c : Ledger) (e : Instance) (o : Outcome) (a : Part) → Follows f b → IsFresh f b.problem e → enabled_on b.problem e ≡ true → o ≢ NoMemory → Allows b (proposal_of b.problem w e) o
+    → c ≡ left_by b (proposal_of b.problem w e) o → AreNoted b.problem c.problem n.noted m.noted → ((x : Part) → Contains n.asleep x → Contains m.asleep x) → Contains (heads e) a → Contains m.noted a → Passed f (e ∷ []) n b m c
+met f w n m b c e o a h fresh on mem ok left noted sleeps own there =
     subst (λ (x : Ledger). Passed f (e ∷ []) n b m x) (sym left)
-    (met_by f w n m b h e fresh on o mem ok (subst (λ (x : Ledger). AreNoted b.problem x.problem n m) left noted) a own there)
+    (met_by f w n m b h e fresh on o mem ok (subst (λ (x : Ledger). AreNoted b.problem x.problem n.noted m.noted) left noted) (record { noted = noted.kept; asleep = sleeps }) a own there)
+
+pub met_asleep : (f : Sparse) (w : ℕ) (n m : Marks) (b c : Ledger) (e : Instance) (o : Outcome) (a : Part) → Follows f b → IsFresh f b.problem e → enabled_on b.problem e ≡ true → is_refusal o ≡ true → rests_on_reading (rule_at e) ≡ true
+    → Allows b (proposal_of b.problem w e) o → c ≡ left_by b (proposal_of b.problem w e) o → Grows n m → Contains (heads e) a → Contains m.asleep a → Passed f (e ∷ []) n b m c
+met_asleep f w n m b c e o a h fresh on refused rests ok left kept own there =
+    subst (λ (x : Ledger). Passed f (e ∷ []) n b m x) (sym left) (asleep_by f w n m b h e fresh on o refused rests ok kept a own there)

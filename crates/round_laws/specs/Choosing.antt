@@ -1,6 +1,7 @@
 -- Ids of rows and columns to be looked at, and the instances there.
-use Rattle.std.specs.Prelude.{◌≡◌, ℕ, ◌+◌, ◌≤◌, true, ⊤, List, [], ◌∷◌, ◌++◌, length, map, if◌then◌else◌}
+use Rattle.std.specs.Prelude.{◌≡◌, ◌⊎◌, ℕ, ◌+◌, ◌≤◌, true, ⊤, List, [], ◌∷◌, ◌++◌, length, map, if◌then◌else◌}
 use Rattle.std.specs.List.{Contains, filter, flat_map, range_with_len}
+use Rattle.fractions.specs.declared.Numbers.{Numbers}
 use Rattle.lp_model.specs.Sparse.{has}
 use Rattle.problem_model.specs.declared.part.Part.{Part}
 use Rattle.problem_model.specs.declared.part.Part.TheVariants as part
@@ -15,6 +16,7 @@ use Rattle.presolve_model.specs.Given.{Proposed}
 use Rattle.presolve_model.specs.Instances.{id_at, is_of_rows, rule_at, reach_of}
 use Rattle.presolve_model.specs.Order.{reduction_order, verdict_order}
 use Rattle.presolve_model.specs.Scans.{instances_at, proposal_of}
+use Rattle.round_laws.specs.Marks.{IsAsleep}
 
 -- ids of rows and of columns
 pub record Places : Type 0 where
@@ -89,8 +91,12 @@ pub record AreSorted (n : Around) : Type 0 where
   pub far : IsSorted n.far
 
 -- each enabled instance has its first id there
-abbrev pub IsComplete : Sparse → Around → Type 0
-IsComplete p n = (e : Instance) → enabled_on p e ≡ true → Contains (ids_of n (rule_at e)) (id_at e)
+abbrev pub HasEach : Sparse → Around → Type 0
+HasEach p n = (e : Instance) → enabled_on p e ≡ true → Contains (ids_of n (rule_at e)) (id_at e)
+
+-- each enabled instance has its first id there, or sleeps
+abbrev pub IsComplete : Numbers → Sparse → Around → List Part → Type 0
+IsComplete numbers p n asleep = (e : Instance) → enabled_on p e ≡ true → Contains (ids_of n (rule_at e)) (id_at e) ⊎ IsAsleep numbers p asleep e
 
 -- the instances of rules there, in their order
 abbrev pub instances_of : Sparse → Around → List Rule → List Instance

@@ -8,10 +8,11 @@ use Rattle.problem_model.specs.Reading.{Agrees, read_of}
 use Rattle.problem_model.specs.Sparse.{Sparse}
 use Rattle.edit_laws.specs.Sizes.{SameSize}
 use Rattle.presolve_model.specs.declared.instance.Instance.{Instance}
-use Rattle.presolve_model.specs.Enabled.{enabled_on, reading_of, reads}
+use Rattle.presolve_model.specs.Enabled.{enabled_on, reading_of}
 use Rattle.presolve_model.specs.Ledger.{Ledger}
 use Rattle.presolve_model.specs.Ordered.{Committed}
 use Rattle.round_laws.specs.Choosing.{proposals}
+use Rattle.round_laws.specs.Marks.{Grows, IsMarked, Marks}
 
 -- the book was opened alike
 pub record IsSameBook (b c : Ledger) : Type 0 where
@@ -35,23 +36,24 @@ pub record Follows (f : Sparse) (b : Ledger) : Type 0 where
   pub sparse : IsSparse b.problem
   pub size : SameSize f b.problem
 
--- an instance reads a part that is noted
-abbrev pub IsNoted : Sparse → List Part → Instance → Type 0
-IsNoted p noted e = (a : Part) × Contains (reads p e) a × Contains noted a
+-- an instance reads a part that is noted, or sleeps, or its turn is still to come, its parts as they stood on f
+abbrev pub IsTracked : Sparse → Marks → List Instance → Ledger → Instance → Type 0
+IsTracked f n es b e = IsMarked b.numbers b.problem n e ⊎ (Contains es e × IsFresh f b.problem e)
 
--- Where the run goes on: what is enabled reads a part that is noted, or its turn is still to come, its parts as they stood on f.
-abbrev pub Tracks : Sparse → List Part → List Instance → Ledger → Type 0
-Tracks f noted es b = b.verdict ≡ None → length b.history < b.limit → (e : Instance) → enabled_on b.problem e ≡ true → IsNoted b.problem noted e ⊎ (Contains es e × IsFresh f b.problem e)
+-- where the run goes on, what is enabled is tracked
+abbrev pub Tracks : Sparse → Marks → List Instance → Ledger → Type 0
+Tracks f n es b = b.verdict ≡ None → length b.history < b.limit → (e : Instance) → enabled_on b.problem e ≡ true → IsTracked f n es b e
 
--- The book c after a pass, with the parts m noted where n were before: those of the instances that are enabled on f were committed; what is
--- enabled is tracked, whatever comes after them; and each part that has changed is noted.
-pub record Passed (f : Sparse) (es : List Instance) (n : List Part) (b : Ledger) (m : List Part) (c : Ledger) : Type 0 where
+-- The book c after a pass, with the marks m where there were n before: b comes after f, and c does; those of the instances that are enabled
+-- on f were committed; what is enabled is tracked, whatever comes after them; and each part that has changed is noted.
+pub record Passed (f : Sparse) (es : List Instance) (n : Marks) (b : Ledger) (m : Marks) (c : Ledger) : Type 0 where
   pub book : IsSameBook b c
+  pub before : Follows f b
   pub committed : (version : ℕ) → Committed b (proposals f version es) c
   pub follows : Follows f c
   pub tracks : (rest : List Instance) → Tracks f n (es ++ rest) b → Tracks f m rest c
-  pub moved : (a : Part) → (changes_of c.problem a ≡ changes_of b.problem a) ⊎ Contains m a
-  pub grows : (a : Part) → Contains n a → Contains m a
+  pub moved : (a : Part) → (changes_of c.problem a ≡ changes_of b.problem a) ⊎ Contains m.noted a
+  pub grows : Grows n m
 
 -- the parts have changed as often as s says
 abbrev pub are_unchanged : (Part → ℕ) → Sparse → List Part → Bool

@@ -2,6 +2,7 @@
 
 ghost use Rattle.std.specs.Prelude.{◌≡◌, ◌≢◌, ℕ, ◌<◌, true, List, [], ◌∷◌, ◌++◌, length, None};
 ghost use Rattle.std.specs.List.{Contains, filter};
+ghost use Rattle.fractions.specs.declared.Numbers.{Numbers};
 ghost use Rattle.problem_model.specs.declared.part.Part.{Part};
 ghost use Rattle.problem_model.specs.Noted.{AreNoted};
 ghost use Rattle.problem_model.specs.Problems.{IsSparse};
@@ -14,14 +15,15 @@ ghost use Rattle.presolve_model.specs.declared.outcome.Outcome.TheVariants.{NoMe
 ghost use Rattle.presolve_model.specs.Commits.{Allows, left_by};
 ghost use Rattle.presolve_model.specs.Enabled.{enabled_on};
 ghost use Rattle.presolve_model.specs.Given.{Proposed};
-ghost use Rattle.presolve_model.specs.Instances.{instances_from};
+ghost use Rattle.presolve_model.specs.Instances.{instances_from, rests_on_reading, rule_at};
 ghost use Rattle.presolve_model.specs.Ledger.{Ledger};
 ghost use Rattle.presolve_model.specs.Ordered.{Committed, round_list};
 ghost use Rattle.presolve_model.specs.Scans.{proposal_of};
 ghost use Rattle.presolve_model.specs.Stuck.{Stuck};
 ghost use Rattle.presolve_model.specs.Tables.{heads};
-ghost use Rattle.round_laws.specs.Choosing.{AreSorted, Around, HoldsAround, IsComplete, visited};
-ghost use Rattle.round_laws.specs.Passing.{Follows, IsFresh, IsNoted, Passed};
+ghost use Rattle.round_laws.specs.Choosing.{AreSorted, Around, HasEach, HoldsAround, IsComplete, visited};
+ghost use Rattle.round_laws.specs.Marks.{Grows, IsMarked, IsNoted, is_refusal, Marks};
+ghost use Rattle.round_laws.specs.Passing.{Follows, IsFresh, Passed};
 
 /// A stale proposal changes nothing. What is fresh is answered as its instance's reading of the present problem is.
 pub fn commits_are_met()
@@ -30,21 +32,25 @@ pub fn commits_are_met()
 {}
 
 /// An instance at its turn: where it is stale or not enabled nothing is done; else it is committed on the present problem, and what changes
-/// is noted, with a part that it reads. Those of a rule's instances with a first id are met that are enabled on the present problem. Passes
-/// follow one after another.
+/// is noted, with a part that it reads. Where it is refused for a number, and such a refusal rests on what it reads, it may be put to sleep
+/// in place of that. Those of a rule's instances with a first id are met that are enabled on the present problem. Passes follow one after
+/// another.
 pub fn turns_pass()
-    ensures over { (f : Sparse) (e : Instance) (n : List Part) (b : Ledger) → Follows f b → (enabled_on b.problem e ≡ true → IsFresh f b.problem e → ⊥) → Passed f (e ∷ []) n b n b }
-    ensures met { (f : Sparse) (w : ℕ) (n m : List Part) (b c : Ledger) (e : Instance) (o : Outcome) (a : Part) → Follows f b → IsFresh f b.problem e → enabled_on b.problem e ≡ true → o ≢ NoMemory → Allows b (proposal_of b.problem w e) o → c ≡ left_by b (proposal_of b.problem w e) o → AreNoted b.problem c.problem n m → Contains (heads e) a → Contains m a → Passed f (e ∷ []) n b m c }
-    ensures found { (f : Sparse) (r : Rule) (k : ℕ) (n m : List Part) (b c : Ledger) → Follows f b → Passed f (filter (enabled_on b.problem) (instances_from b.problem r k)) n b m c → Passed f (instances_from f r k) n b m c }
-    ensures more { (f : Sparse) (es fs : List Instance) (n m k : List Part) (b c d : Ledger) → Passed f es n b m c → Passed f fs m c k d → Passed f (es ++ fs) n b k d }
+    ensures over { (f : Sparse) (e : Instance) (n : Marks) (b : Ledger) → Follows f b → (enabled_on b.problem e ≡ true → IsFresh f b.problem e → ⊥) → Passed f (e ∷ []) n b n b }
+    ensures met { (f : Sparse) (w : ℕ) (n m : Marks) (b c : Ledger) (e : Instance) (o : Outcome) (a : Part) → Follows f b → IsFresh f b.problem e → enabled_on b.problem e ≡ true → o ≢ NoMemory → Allows b (proposal_of b.problem w e) o → c ≡ left_by b (proposal_of b.problem w e) o → AreNoted b.problem c.problem n.noted m.noted → ((x : Part) → Contains n.asleep x → Contains m.asleep x) → Contains (heads e) a → Contains m.noted a → Passed f (e ∷ []) n b m c }
+    ensures asleep { (f : Sparse) (w : ℕ) (n m : Marks) (b c : Ledger) (e : Instance) (o : Outcome) (a : Part) → Follows f b → IsFresh f b.problem e → enabled_on b.problem e ≡ true → is_refusal o ≡ true → rests_on_reading (rule_at e) ≡ true → Allows b (proposal_of b.problem w e) o → c ≡ left_by b (proposal_of b.problem w e) o → Grows n m → Contains (heads e) a → Contains m.asleep a → Passed f (e ∷ []) n b m c }
+    ensures found { (f : Sparse) (r : Rule) (k : ℕ) (n m : Marks) (b c : Ledger) → Follows f b → Passed f (filter (enabled_on b.problem) (instances_from b.problem r k)) n b m c → Passed f (instances_from f r k) n b m c }
+    ensures more { (f : Sparse) (es fs : List Instance) (n m k : Marks) (b c d : Ledger) → Passed f es n b m c → Passed f fs m c k d → Passed f (es ++ fs) n b k d }
 {}
 
-/// A pass over rows and columns where each enabled instance is commits what a round lists. What it notes is read by each instance that is
-/// enabled after it, if the run goes on; so the rows and columns of what is noted are where each enabled instance is.
+/// A pass over rows and columns where each enabled instance is that does not sleep commits what a round lists, with those that sleep. After
+/// it each enabled instance is marked, if the run goes on: it reads a part that is noted, or sleeps. So the rows and columns of what is noted
+/// are where each enabled instance is that does not sleep; and those of both, where each is.
 pub fn passes_are_rounds()
-    ensures round { (b c : Ledger) (n : Around) (noted m : List Part) → AreSorted n → IsComplete b.problem n → Passed b.problem (visited b.problem n) noted b m c → Committed b (round_list b) c }
-    ensures noted { (b c : Ledger) (n : Around) (m : List Part) → AreSorted n → IsComplete b.problem n → Passed b.problem (visited b.problem n) [] b m c → c.verdict ≡ None → length c.history < c.limit → (e : Instance) → enabled_on c.problem e ≡ true → IsNoted c.problem m e }
-    ensures complete { (p : Sparse) (noted : List Part) (n : Around) → IsSparse p → HoldsAround p noted n → ((e : Instance) → enabled_on p e ≡ true → IsNoted p noted e) → IsComplete p n }
+    ensures round { (b c : Ledger) (n : Around) (k m : Marks) → AreSorted n → IsComplete b.numbers b.problem n k.asleep → Passed b.problem (visited b.problem n) k b m c → Committed b (round_list b) c }
+    ensures marked { (b c : Ledger) (n : Around) (k m : Marks) → AreSorted n → IsComplete b.numbers b.problem n k.asleep → Passed b.problem (visited b.problem n) k b m c → c.verdict ≡ None → length c.history < c.limit → (e : Instance) → enabled_on c.problem e ≡ true → IsMarked c.numbers c.problem m e }
+    ensures complete { (numbers : Numbers) (p : Sparse) (m : Marks) (n : Around) → IsSparse p → HoldsAround p m.noted n → ((e : Instance) → enabled_on p e ≡ true → IsMarked numbers p m e) → IsComplete numbers p n m.asleep }
+    ensures each { (p : Sparse) (noted : List Part) (n : Around) → IsSparse p → HoldsAround p noted n → ((e : Instance) → enabled_on p e ≡ true → IsNoted p noted e) → HasEach p n }
 {}
 
 /// A round that applied nothing leaves the book as it was, and nothing can be applied there.

@@ -1,4 +1,4 @@
-use Rattle.round_laws.proofs.Turns.{met, met_over}
+use Rattle.round_laws.proofs.Turns.{met, met_asleep, met_over}
 use Rattle.round_laws.proofs.Thinning.{passed_found}
 use Rattle.round_laws.proofs.Tracking.{passed_on}
 use Rattle.round_laws.proofs.passes.turns_pass.Goals as goal
@@ -8,6 +8,9 @@ returns-clause-over c = met_over
 
 pub returns-clause-met : goal.returns-clause-met
 returns-clause-met c = met
+
+pub returns-clause-asleep : goal.returns-clause-asleep
+returns-clause-asleep c = met_asleep
 
 pub returns-clause-found : goal.returns-clause-found
 returns-clause-found c = passed_found
