@@ -21,7 +21,9 @@ pub use applying::after;
 pub use chunk::Chunk;
 pub use enabled::{change, is_enabled};
 pub use finding::add_enabled;
-pub use listing::{is_of_rows, reach_of, reduction_rules, says_no_point, verdict_rules};
+pub use listing::{
+    is_of_rows, reach_of, reduction_rules, rests_on_reading, says_no_point, verdict_rules,
+};
 pub use parts::{head, parts_read};
 pub use proposal::Proposal;
 pub use reading::{Differs, Reading};

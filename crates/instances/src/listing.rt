@@ -1,11 +1,13 @@
-//! The rules: their order, which first ids they have and how far these are from what is read, and what verdicts say. A line a rule.
+//! The rules: their order, which first ids they have and how far these are from what is read, whether their refusals rest on that, and what
+//! verdicts say. A line a rule.
 
 ghost use Rattle.std.specs.Prelude.{◌≡◌};
-ghost use Rattle.presolve_model.specs.Instances.{is_of_rows as of_rows, reach_of as reach};
+ghost use Rattle.presolve_model.specs.declared.instance.Instance.TheVariants as at;
+ghost use Rattle.presolve_model.specs.Instances.{is_of_rows as of_rows, reach_of as reach, rests_on_reading as rests, rule_at, rule_of};
 ghost use Rattle.presolve_model.specs.Meanings.{says_no_point as no_point};
 ghost use Rattle.presolve_model.specs.Order.{reduction_order, verdict_order};
 
-use presolve_model::{Reach, Rule, Verdict};
+use presolve_model::{Instance, Reach, Reduction, Rule, Verdict};
 
 /// The rules of verdicts in order.
 pub fn verdict_rules() -> [Rule; 3]
@@ -58,6 +60,38 @@ pub fn reach_of(rule: Rule) -> Reach
         | Rule::EmptyColumn => Reach::Here,
         Rule::Ray | Rule::FixedByCost => Reach::Near,
         Rule::DominatedColumn => Reach::Far,
+    }
+}
+
+fn reduction_rests(reduction: Reduction) -> bool
+    ensures { result ≡ rests (rule_of reduction) }
+{
+    match reduction {
+        Reduction::RoundBounds { .. } => true,
+        Reduction::EmptyRow { .. }
+        | Reduction::SingletonRow { .. }
+        | Reduction::FixedColumn { .. }
+        | Reduction::FixedByCost { .. }
+        | Reduction::DominatedColumn { .. }
+        | Reduction::EmptyColumn { .. } => false,
+    }
+}
+
+fn verdict_rests(verdict: Verdict) -> bool
+    ensures { result ≡ rests (rule_at (at.Verdict verdict)) }
+{
+    match verdict {
+        Verdict::CrossedBounds { .. } | Verdict::CrossedSides { .. } | Verdict::Ray { .. } => false,
+    }
+}
+
+/// Whether a refusal of an instance, for a number that is past or can't be written, rests on what it reads alone.
+pub fn rests_on_reading(instance: Instance) -> bool
+    ensures { result ≡ rests (rule_at instance) }
+{
+    match instance {
+        Instance::Reduction(reduction) => reduction_rests(reduction),
+        Instance::Verdict(verdict) => verdict_rests(verdict),
     }
 }
 
