@@ -1,6 +1,6 @@
 -- Rounds that follow one another, and the last.
 use Rattle.std.proofs.Common.{◌≡◌, ◌≢◌, ◌⊎◌, inl, inr, ℕ, zero, suc, ◌+◌, ◌^◌, ◌<◌, ◌≤◌, true, false, Bool, List, [], ◌∷◌, ◌++◌, length, take, get_or, Option, Some, None, sym, refl, ap, ◌∙◌, subst, arith, append_assoc}
-use Rattle.std.specs.Prelude.{if◌then◌else◌, is_some}
+use Rattle.std.specs.Prelude.{◌&&◌, if◌then◌else◌, is_some}
 use Rattle.std.specs.List.{Contains, filter, flat_map}
 use Rattle.std.proofs.lemmas.List.{append-nil, take_more}
 use Rattle.std.proofs.lemmas.Option.{none-some}
@@ -24,59 +24,86 @@ use Rattle.presolve_model.specs.Order.{verdict_order}
 use Rattle.presolve_model.specs.Ordered.{Closes, Committed, enabled_verdicts, Ordered, round_list}
 use Rattle.presolve_model.specs.Scans.{all_ids, all_of, instances_at, proposal_of}
 use Rattle.presolve_model.specs.Stuck.{skipped_on, Stuck}
-use Rattle.presolve_model.specs.Instances.{instances_from}
+use Rattle.presolve_model.specs.Instances.{instances_from, rests_on_reading, rule_at}
+use Rattle.presolve_model.specs.Tables.{heads}
 use Rattle.presolve_model.proofs.Readings.{reading_agrees}
 use Rattle.history_laws.proofs.Keeping.{sparse_replay}
 use Rattle.round_laws.specs.Choosing.{all_around, AreSorted, Around, HoldsAround, visited}
-use Rattle.round_laws.specs.Passing.{IsSameBook, Passed}
-use Rattle.round_laws.proofs.Choosing.{all_complete, all_sorted, noted_complete}
+use Rattle.round_laws.specs.Marks.{IsMarked, IsNoted, is_refusal, Marks}
+use Rattle.round_laws.specs.Passing.{Follows, IsFresh, IsSameBook, Passed}
+use Rattle.round_laws.proofs.Choosing.{all_each, all_sorted, marked_complete}
 use Rattle.round_laws.proofs.Committing.{left_open}
 use Rattle.round_laws.proofs.Places.{IsVerdict, verdict_from}
-use Rattle.round_laws.proofs.Rounds.{committed_grows, passed_noted, round_stuck, undecided_none}
+use Rattle.round_laws.proofs.Rounds.{committed_grows, passed_marked, round_stuck, undecided_none}
+use Rattle.round_laws.proofs.ShortLists.{comes_from}
 use Rattle.round_laws.proofs.Runs.{run_full}
 use Rattle.round_laws.proofs.Tracking.{passed_on}
-use Rattle.round_laws.proofs.Turns.{follows_next, follows_start}
-use Rattle.presolve_rounds.specs.Readiness.{IsReady}
+use Rattle.round_laws.proofs.Turns.{follows_next, follows_start, met, met_asleep}
+use Rattle.presolve_rounds.specs.Marking.{AreReached, marked}
+use Rattle.presolve_rounds.specs.Readiness.{AreMarked, IsReady}
 use Rattle.presolve_rounds.specs.Running.{EndsWith, IsAtFixpoint, IsFirst}
 use Rattle.presolve_rounds.specs.Stamping.{AreStampsOf, restamped, Stamped, stamps_of}
 use Rattle.presolve_rounds.proofs.Restamping.{restamped_right, stamped}
 
--- ---- what is noted
+-- ---- what is marked
 -- a part more
-pub noted_more : (p q : Sparse) (n m l : List Part) (a : Part) → AreNoted p q n m → l ≡ m ++ a ∷ [] → AreNoted p q n l × Contains l a
-noted_more p q n m l a h e = subst (λ (k : List Part). AreNoted p q n k × Contains k a) (sym e) (
-  record {
-    kept = λ b c. Contains-append_left m (a ∷ []) b (h.kept b c);
-    changed = λ b. wider b (h.changed b);
-  },
-  Contains-append_right m (a ∷ []) a (0, omega arith, refl),
-)
+more_in : (m : List Part) (a : Part) → ((b : Part) → Contains m b → Contains (m ++ a ∷ []) b) × Contains (m ++ a ∷ []) a
+more_in m a = (λ b c. Contains-append_left m (a ∷ []) b c, Contains-append_right m (a ∷ []) a (0, omega arith, refl))
+
+noted_more : (p q : Sparse) (n m : List Part) (a : Part) → AreNoted p q n m → AreNoted p q n (m ++ a ∷ [])
+noted_more p q n m a h = record { kept = λ b c. (more_in m a).0 b (h.kept b c); changed = λ b. wider b (h.changed b) }
   where
     wider : {A : Type 0} (b : Part) → A ⊎ Contains m b → A ⊎ Contains (m ++ a ∷ []) b
     wider b (inl x) = inl x
-    wider b (inr c) = inr (Contains-append_left m (a ∷ []) b c)
+    wider b (inr c) = inr ((more_in m a).0 b c)
+
+-- an instance after its turn: k is what was marked when it was applied, and m with a part of it
+module _ (f : Sparse) (w : ℕ) (n k m : Marks) (b c : Ledger) (e : Instance) (o : Outcome) (a : Part) (h : Follows f b) (fresh : IsFresh f b.problem e) (on : enabled_on b.problem e ≡ true) (answered : o ≢ NoMemory)
+    (allows : Allows b (proposal_of b.problem w e) o) (left : c ≡ left_by b (proposal_of b.problem w e) o) (noted : AreNoted b.problem c.problem n.noted k.noted) (asleep : k.asleep ≡ n.asleep) (own : Contains (heads e) a) where
+  sleeps_still : (x : Part) → Contains n.asleep x → Contains k.asleep x
+  sleeps_still x d = subst (λ (xs : List Part). Contains xs x) (sym asleep) d
+
+  pub met_marked : m ≡ marked k e o a → Passed f (e ∷ []) n b m c
+  met_marked is = subst (λ (x : Marks). Passed f (e ∷ []) n b x c) (sym is) (by (is_refusal o) (rests_on_reading (rule_at e)) refl refl)
+    where
+      by : (s t : Bool) → is_refusal o ≡ s → rests_on_reading (rule_at e) ≡ t → Passed f (e ∷ []) n b (if s && t then record { noted = k.noted; asleep = k.asleep ++ a ∷ [] } else record { noted = k.noted ++ a ∷ []; asleep = k.asleep }) c
+      by true true refused rests = met_asleep f w n (record { noted = k.noted; asleep = k.asleep ++ a ∷ [] }) b c e o a h fresh on refused rests allows left
+          (record { noted = noted.kept; asleep = λ x d. (more_in k.asleep a).0 x (sleeps_still x d) }) own (more_in k.asleep a).1
+      by true false refused rests = met f w n (record { noted = k.noted ++ a ∷ []; asleep = k.asleep }) b c e o a h fresh on answered allows left (noted_more b.problem c.problem n.noted k.noted a noted) sleeps_still own (more_in k.noted a).1
+      by false t refused rests = met f w n (record { noted = k.noted ++ a ∷ []; asleep = k.asleep }) b c e o a h fresh on answered allows left (noted_more b.problem c.problem n.noted k.noted a noted) sleeps_still own (more_in k.noted a).1
 
 -- ---- before the first round
 sparse_of : (b : Ledger) → Stands b → IsSparse b.problem
 sparse_of b s = subst IsSparse (sym s.problem) (sparse_replay b.numbers b.start b.history s.sound s.replays)
 
-pub ready_first : (b : Ledger) (s : Stamped) (n : Around) → Stands b → ((a : Part) → changes_of b.problem a ≤ length b.history) → b.limit < 2 ^ 64 → s ≡ stamps_of b.problem → n ≡ all_around b.problem → IsReady b s n
-ready_first b s n h counted short es en = subst (λ (x : Stamped). IsReady b x n) (sym es) (subst (λ (m : Around). IsReady b (stamps_of b.problem) m) (sym en) (record {
+pub ready_first : (b : Ledger) (s : Stamped) (n : Around) (asleep : List Part) → Stands b → ((a : Part) → changes_of b.problem a ≤ length b.history) → b.limit < 2 ^ 64 → s ≡ stamps_of b.problem → n ≡ all_around b.problem → IsReady b s n asleep
+ready_first b s n asleep h counted short es en = subst (λ (x : Stamped). IsReady b x n asleep) (sym es) (subst (λ (m : Around). IsReady b (stamps_of b.problem) m asleep) (sym en) (record {
   follows = follows_start b counted short (sparse_of b h);
   stamps = stamped b.problem;
   sorted = all_sorted b.problem;
-  complete = all_complete b.problem;
+  complete = λ e on. inl (all_each b.problem e on);
 }))
 
 -- ---- from one round to the next
-pub ready_next : (b c : Ledger) (s t : Stamped) (n l : Around) (m : List Part) → IsReady b s n → Passed b.problem (visited b.problem n) [] b m c → t ≡ restamped s c.problem m → AreSorted l → HoldsAround c.problem m l
-    → c.verdict ≡ None → length c.history < c.limit → IsReady c t l
-ready_next b c s t n l m ready h e sorted holds none room = record {
-  follows = follows_next b.problem c h.follows;
-  stamps = subst (λ (x : Stamped). AreStampsOf x c.problem) (sym e) (restamped_right b.problem c.problem s m ready.stamps ready.follows.sparse h.follows.sparse h.follows.size h.moved);
-  sorted = sorted;
-  complete = noted_complete c.problem m l h.follows.sparse holds (passed_noted b c n m ready.sorted ready.complete h none room);
-}
+module _ (b c : Ledger) (s : Stamped) (n : Around) (k m : Marks) (ready : IsReady b s n k.asleep) (h : Passed b.problem (visited b.problem n) k b m c) where
+  pub round_marked : c.verdict ≡ None → length c.history < c.limit → AreMarked c m
+  round_marked none room = passed_marked b c n k m ready.sorted ready.complete h none room
+
+  pub ready_next : (t : Stamped) (l : Around) → t ≡ restamped s c.problem m.noted → AreSorted l → HoldsAround c.problem m.noted l → c.verdict ≡ None → length c.history < c.limit → IsReady c t l m.asleep
+  ready_next t l e sorted holds none room = record {
+    follows = follows_next b.problem c h.follows;
+    stamps = subst (λ (x : Stamped). AreStampsOf x c.problem) (sym e) (restamped_right b.problem c.problem s m.noted ready.stamps ready.follows.sparse h.follows.sparse h.follows.size h.moved);
+    sorted = sorted;
+    complete = marked_complete c.numbers c.problem m l h.follows.sparse holds (round_marked none room);
+  }
+
+-- each enabled instance reads a part that is noted, or one of an instance that sleeps
+pub marked_reached : (b : Ledger) (m : Marks) → AreMarked b m → AreReached b.problem (m.noted ++ m.asleep)
+marked_reached b m h e on = by (h e on)
+  where
+    by : IsMarked b.numbers b.problem m e → IsNoted b.problem (m.noted ++ m.asleep) e
+    by (inl (a, r, c)) = (a, r, Contains-append_left m.noted m.asleep a c)
+    by (inr ((a, r, c), rests)) = (a, r, Contains-append_right m.noted m.asleep a c)
 
 -- a round that applied something
 pub more_applied : (b c : Ledger) → Committed b (round_list b) c → length c.history ≢ length b.history → length b.history < length c.history
@@ -105,27 +132,6 @@ first_passes P (e ∷ es) v rest h = by (P e) refl h (first_passes P es v rest)
       where
         by_more : Contains es v → Contains (e ∷ es) v
         by_more (i, l, f) = (suc i, omega (arith, l), f)
-
--- what a flat map contains comes from somewhere
-later : {Y : Type 0} (u y : Y) (us vs : List Y) → Contains us y ⊎ Contains vs y → Contains (u ∷ us) y ⊎ Contains vs y
-later u y us vs (inl (i, m, g)) = inl (suc i, omega (arith, m), g)
-later u y us vs (inr d) = inr d
-
-in_either : {Y : Type 0} (us vs : List Y) (y : Y) → Contains (us ++ vs) y → Contains us y ⊎ Contains vs y
-in_either [] vs y c = inr c
-in_either (u ∷ us) vs y (zero, l, e) = inl (0, omega arith, e)
-in_either (u ∷ us) vs y (suc k, l, e) = later u y us vs (in_either us vs y (k, omega (arith, l), e))
-
-abbrev ComesFrom : {X Y : Type 0} → (X → List Y) → List X → Y → Type 0
-ComesFrom f xs y = (x : _) × Contains xs x × Contains (f x) y
-
-from_first : {X Y : Type 0} (f : X → List Y) (x : X) (xs : List X) (y : Y) → Contains (f x) y ⊎ Contains (flat_map f xs) y → (Contains (flat_map f xs) y → ComesFrom f xs y) → ComesFrom f (x ∷ xs) y
-from_first f x xs y (inl d) ih = (x, (0, omega arith, refl), d)
-from_first f x xs y (inr d) ih = let k = ih d in (k.0, (suc k.1.0, (let l = k.1.1 in omega (arith, l)), k.1.2), k.2)
-
-comes_from : {X Y : Type 0} (f : X → List Y) (xs : List X) (y : Y) → Contains (flat_map f xs) y → ComesFrom f xs y
-comes_from f [] y c = absurd (omega (arith, c.1))
-comes_from f (x ∷ xs) y c = from_first f x xs y (in_either (f x) (flat_map f xs) y c) (comes_from f xs y)
 
 verdict_there : (p : Sparse) (v : Instance) → Contains (all_of p verdict_order) v → IsVerdict v
 verdict_there p v c =
@@ -168,14 +174,14 @@ flat_both g [] ys = refl
 flat_both g (x ∷ xs) ys = ap (λ (es : List Instance). g x ++ es) (flat_both g xs ys) ∙ sym (append_assoc (g x) (flat_map g xs) (flat_map g ys))
 
 -- what comes of one of a list more
-pub one_more : {X : Type 0} (f : Sparse) (g : X → List Instance) (xs : List X) (i : ℕ) (x : X) (n m l : List Part) (b c d : Ledger) → i < length xs → Passed f (flat_map g (take i xs)) n b m c → Passed f (g (get_or xs i x)) m c l d
+pub one_more : {X : Type 0} (f : Sparse) (g : X → List Instance) (xs : List X) (i : ℕ) (x : X) (n m l : Marks) (b c d : Ledger) → i < length xs → Passed f (flat_map g (take i xs)) n b m c → Passed f (g (get_or xs i x)) m c l d
     → Passed f (flat_map g (take (i + 1) xs)) n b l d
 one_more f g xs i x n m l b c d inside h k =
     let more : flat_map g (take (i + 1) xs) ≡ flat_map g (take i xs) ++ g (get_or xs i x) =
     ap (flat_map g) (take_more xs i x inside) ∙ flat_both g (take i xs) (get_or xs i x ∷ []) ∙ ap (λ (es : List Instance). flat_map g (take i xs) ++ es) (append-nil (g (get_or xs i x))) in
     subst (λ (es : List Instance). Passed f es n b l d) (sym more) (passed_on f (flat_map g (take i xs)) (g (get_or xs i x)) n m l b c d h k)
 
-pub one_instance_more : (f : Sparse) (es : List Instance) (i : ℕ) (e : Instance) (n m l : List Part) (b c d : Ledger) → i < length es → Passed f (take i es) n b m c → Passed f (get_or es i e ∷ []) m c l d → Passed f (take (i + 1) es) n b l d
+pub one_instance_more : (f : Sparse) (es : List Instance) (i : ℕ) (e : Instance) (n m l : Marks) (b c d : Ledger) → i < length es → Passed f (take i es) n b m c → Passed f (get_or es i e ∷ []) m c l d → Passed f (take (i + 1) es) n b l d
 one_instance_more f es i e n m l b c d inside h k = subst (λ (fs : List Instance). Passed f fs n b l d) (sym (take_more es i e inside)) (passed_on f (take i es) (get_or es i e ∷ []) n m l b c d h k)
 
 -- a list that is not empty has a first

@@ -5,6 +5,7 @@ mod around;
 mod found;
 mod ids;
 mod labels;
+mod marks;
 mod outcome;
 mod pass;
 mod reduce;

@@ -14,33 +14,35 @@ ghost use Rattle.round_laws.specs.Passing.{Follows, IsFresh, Passed};
 ghost use Rattle.presolve_rounds.specs.Stamping.{AreStampsOf};
 
 use crate::around::Around;
+use crate::marks::Marks;
 use crate::stamps::Stamps;
 use instances::{add_enabled, head, is_enabled, parts_read, reduction_rules, verdict_rules};
-use presolve_model::{Instance, Outcome, Part, Rule};
+use presolve_model::{Instance, Outcome, Rule};
 use sparse_problem::Problem;
 use std::alloc::{AllocError, Global};
 use std::snapshot::Snapshot;
 use txn_book::Book;
 
-/// Applies an instance that is enabled, its parts as they stood when the round began, and notes what changes, and a part that it reads.
+/// Applies an instance that is enabled, its parts as they stood when the round began, and notes what changes. Marks a part that it reads.
 fn meet(
     alloc: Global,
     book: &mut Book,
     frozen: &Snapshot<Problem>,
     instance: Instance,
-    noted: &mut Vec<Part>,
+    marks: &mut Marks,
 ) -> Result<(), AllocError>
     requires follows { Follows frozen.now.value book.old }
     requires enabled { enabled_on book.old.problem instance ≡ true }
     requires fresh { IsFresh frozen.now.value book.old.problem instance }
-    ensures { OnOk result (Passed frozen.now.value (instance ∷ []) noted.old.items book.old noted.new.items book.new) }
+    ensures { OnOk result (Passed frozen.now.value (instance ∷ []) marks.old book.old marks.new book.new) }
 {
     let _ = frozen;
-    match book.apply(alloc, instance, noted) {
+    let outcome = marks.apply(alloc, book, instance);
+    match outcome {
         Outcome::NoMemory => return Err(AllocError),
         _ => {}
     }
-    noted.push(head(instance))?;
+    marks.mark(instance, outcome, head(instance))?;
     Ok(())
 }
 
@@ -51,11 +53,11 @@ fn visit(
     frozen: &Snapshot<Problem>,
     stamps: &Stamps,
     instance: Instance,
-    noted: &mut Vec<Part>,
+    marks: &mut Marks,
 ) -> Result<(), AllocError>
     requires follows { Follows frozen.now.value book.old }
     requires stamps { AreStampsOf stamps.now frozen.now.value }
-    ensures { OnOk result (Passed frozen.now.value (instance ∷ []) noted.old.items book.old noted.new.items book.new) }
+    ensures { OnOk result (Passed frozen.now.value (instance ∷ []) marks.old book.old marks.new book.new) }
 {
     if !is_enabled(book.problem(), instance) {
         return Ok(());
@@ -64,7 +66,7 @@ fn visit(
     if !stamps.stand_for(book.problem(), parts.as_slice()) {
         return Ok(());
     }
-    meet(alloc, book, frozen, instance, noted)?;
+    meet(alloc, book, frozen, instance, marks)?;
     Ok(())
 }
 
@@ -75,14 +77,14 @@ fn visit_found(
     frozen: &Snapshot<Problem>,
     stamps: &Stamps,
     found: &[Instance],
-    noted: &mut Vec<Part>,
+    marks: &mut Marks,
 ) -> Result<(), AllocError>
     requires follows { Follows frozen.now.value book.old }
     requires stamps { AreStampsOf stamps.now frozen.now.value }
-    ensures { OnOk result (Passed frozen.now.value found.now noted.old.items book.old noted.new.items book.new) }
+    ensures { OnOk result (Passed frozen.now.value found.now marks.old book.old marks.new book.new) }
 {
     for instance in found {
-        visit(alloc, book, frozen, stamps, *instance, noted)?;
+        visit(alloc, book, frozen, stamps, *instance, marks)?;
     }
     Ok(())
 }
@@ -95,15 +97,15 @@ fn visit_at(
     stamps: &Stamps,
     rule: Rule,
     id: u32,
-    noted: &mut Vec<Part>,
+    marks: &mut Marks,
 ) -> Result<(), AllocError>
     requires follows { Follows frozen.now.value book.old }
     requires stamps { AreStampsOf stamps.now frozen.now.value }
-    ensures { OnOk result (Passed frozen.now.value (instances_from frozen.now.value rule id) noted.old.items book.old noted.new.items book.new) }
+    ensures { OnOk result (Passed frozen.now.value (instances_from frozen.now.value rule id) marks.old book.old marks.new book.new) }
 {
     let mut found = Vec::new(alloc);
     add_enabled(alloc, book.problem(), rule, id, &mut found)?;
-    visit_found(alloc, book, frozen, stamps, found.as_slice(), noted)?;
+    visit_found(alloc, book, frozen, stamps, found.as_slice(), marks)?;
     Ok(())
 }
 
@@ -115,14 +117,14 @@ fn visit_each(
     stamps: &Stamps,
     rule: Rule,
     ids: &[u32],
-    noted: &mut Vec<Part>,
+    marks: &mut Marks,
 ) -> Result<(), AllocError>
     requires follows { Follows frozen.now.value book.old }
     requires stamps { AreStampsOf stamps.now frozen.now.value }
-    ensures { OnOk result (Passed frozen.now.value (instances_at frozen.now.value rule ids.now) noted.old.items book.old noted.new.items book.new) }
+    ensures { OnOk result (Passed frozen.now.value (instances_at frozen.now.value rule ids.now) marks.old book.old marks.new book.new) }
 {
     for id in ids {
-        visit_at(alloc, book, frozen, stamps, rule, *id, noted)?;
+        visit_at(alloc, book, frozen, stamps, rule, *id, marks)?;
     }
     Ok(())
 }
@@ -135,13 +137,13 @@ fn visit_rule(
     stamps: &Stamps,
     rule: Rule,
     ids: &Around,
-    noted: &mut Vec<Part>,
+    marks: &mut Marks,
 ) -> Result<(), AllocError>
     requires follows { Follows frozen.now.value book.old }
     requires stamps { AreStampsOf stamps.now frozen.now.value }
-    ensures { OnOk result (Passed frozen.now.value (instances_at frozen.now.value rule (ids_of ids.now rule)) noted.old.items book.old noted.new.items book.new) }
+    ensures { OnOk result (Passed frozen.now.value (instances_at frozen.now.value rule (ids_of ids.now rule)) marks.old book.old marks.new book.new) }
 {
-    visit_each(alloc, book, frozen, stamps, rule, ids.of(rule), noted)?;
+    visit_each(alloc, book, frozen, stamps, rule, ids.of(rule), marks)?;
     Ok(())
 }
 
@@ -153,32 +155,32 @@ fn visit_rules(
     stamps: &Stamps,
     rules: &[Rule],
     ids: &Around,
-    noted: &mut Vec<Part>,
+    marks: &mut Marks,
 ) -> Result<(), AllocError>
     requires follows { Follows frozen.now.value book.old }
     requires stamps { AreStampsOf stamps.now frozen.now.value }
-    ensures { OnOk result (Passed frozen.now.value (instances_of frozen.now.value ids.now rules.now) noted.old.items book.old noted.new.items book.new) }
+    ensures { OnOk result (Passed frozen.now.value (instances_of frozen.now.value ids.now rules.now) marks.old book.old marks.new book.new) }
 {
     for rule in rules {
-        visit_rule(alloc, book, frozen, stamps, *rule, ids, noted)?;
+        visit_rule(alloc, book, frozen, stamps, *rule, ids, marks)?;
     }
     Ok(())
 }
 
-/// All instances at these rows and columns, in instance order. Notes what changes, and a part of what was refused.
+/// All instances at these rows and columns, in instance order. Notes what changes, and a part of what was refused, or marks it as asleep.
 pub fn pass(
     alloc: Global,
     book: &mut Book,
     frozen: &Snapshot<Problem>,
     stamps: &Stamps,
     ids: &Around,
-    noted: &mut Vec<Part>,
+    marks: &mut Marks,
 ) -> Result<(), AllocError>
     requires follows { Follows frozen.now.value book.old }
     requires stamps { AreStampsOf stamps.now frozen.now.value }
-    ensures { OnOk result (Passed frozen.now.value (visited frozen.now.value ids.now) noted.old.items book.old noted.new.items book.new) }
+    ensures { OnOk result (Passed frozen.now.value (visited frozen.now.value ids.now) marks.old book.old marks.new book.new) }
 {
-    visit_rules(alloc, book, frozen, stamps, &verdict_rules(), ids, noted)?;
-    visit_rules(alloc, book, frozen, stamps, &reduction_rules(), ids, noted)?;
+    visit_rules(alloc, book, frozen, stamps, &verdict_rules(), ids, marks)?;
+    visit_rules(alloc, book, frozen, stamps, &reduction_rules(), ids, marks)?;
     Ok(())
 }

@@ -2,46 +2,50 @@
 //!
 //! A round lists, by its meaning, the enabled instances of the present problem in instance order: each rule's in turn, by ids. It then
 //! commits them in that order. A pass does the same, at those rows and columns alone at which an instance can be enabled: near each part that
-//! has changed in the round before, and near a part of what was refused.
+//! has changed in the round before, and near a part of what was refused. An instance whose refusal rests on what it reads sleeps until that
+//! changes: it is looked at once more where the rounds end, to be counted.
 
 ghost use Rattle.std.specs.Prelude.{◌≡◌, ◌≢◌, ◌<◌, ◌≤◌, length, Some, None, IfOk, OnOk};
 ghost use Rattle.problem_model.specs.declared.part.Part.{Part};
 ghost use Rattle.problem_model.specs.Parts.{changes_of};
 ghost use Rattle.presolve_model.specs.Ordered.{Committed, Ordered, enabled_verdicts, round_list};
 ghost use Rattle.presolve_model.specs.Stuck.{skipped_on};
-ghost use Rattle.round_laws.specs.Choosing.{AreSorted, IsComplete};
 ghost use Rattle.round_laws.specs.Passing.{IsSameBook};
-ghost use Rattle.presolve_rounds.specs.Readiness.{IsReady};
+ghost use Rattle.presolve_rounds.specs.Marking.{AreReached};
+ghost use Rattle.presolve_rounds.specs.Readiness.{AreMarked, IsReady};
 ghost use Rattle.presolve_rounds.specs.Running.{EndsWith, IsFirst};
 
 use crate::around::Around;
 use crate::found::enabled_of;
+use crate::marks::Marks;
 use crate::pass::pass;
 use crate::stamps::Stamps;
 use instances::{reduction_rules, verdict_rules};
-use presolve_model::{End, Instance, Outcome};
+use presolve_model::{End, Instance, Outcome, Part};
 use sparse_problem::Problem;
 use std::alloc::{AllocError, Global};
 use std::snapshot::Snapshot;
 use txn_book::Book;
 
-/// One round. Gives the rows and columns of the next.
+/// One round. Gives the rows and columns of the next, with what is marked.
 fn round(
     alloc: Global,
     book: &mut Book,
     stamps: &mut Stamps,
     ids: &mut Around,
+    marks: &mut Marks,
 ) -> Result<(), AllocError>
-    requires ready { IsReady book.old stamps.old ids.old }
+    requires ready { IsReady book.old stamps.old ids.old marks.old.asleep }
     ensures book { OnOk result (IsSameBook book.old book.new) }
     ensures committed { OnOk result (Committed book.old (round_list book.old) book.new) }
-    ensures ready { OnOk result (book.new.verdict ≡ None → length book.new.history < book.new.limit → IsReady book.new stamps.new ids.new) }
+    ensures marked { OnOk result (book.new.verdict ≡ None → length book.new.history < book.new.limit → AreMarked book.new marks.new) }
+    ensures ready { OnOk result (book.new.verdict ≡ None → length book.new.history < book.new.limit → IsReady book.new stamps.new ids.new marks.new.asleep) }
 {
     let frozen = Snapshot::of(book.problem());
-    let mut noted = Vec::new(alloc);
-    pass(alloc, book, &frozen, stamps, ids, &mut noted)?;
-    stamps.refresh(book.problem(), noted.as_slice());
-    *ids = Around::of_parts(alloc, book.problem(), noted.as_slice())?;
+    marks.begin_round();
+    pass(alloc, book, &frozen, stamps, ids, marks)?;
+    stamps.refresh(book.problem(), marks.noted());
+    *ids = Around::of_parts(alloc, book.problem(), marks.noted())?;
     Ok(())
 }
 
@@ -52,13 +56,14 @@ fn count(instances: &[Instance]) -> u64
     instances.len() as u64
 }
 
-/// How many reductions are enabled, all of them at these rows and columns.
-fn skipped(alloc: Global, problem: &Problem, ids: &Around) -> Result<u64, AllocError>
-    requires sorted { AreSorted ids.now }
-    requires complete { IsComplete problem.now ids.now }
+/// How many reductions are enabled, each of which reads one of these parts.
+fn skipped(alloc: Global, problem: &Problem, parts: &[Part]) -> Result<u64, AllocError>
+    requires reached { AreReached problem.now parts.now }
     ensures { IfOk result (λ skipped. skipped ≡ skipped_on problem.now) }
 {
-    let found = enabled_of(alloc, problem, ids, &reduction_rules())?;
+    problem.is_sparse();
+    let ids = Around::of_parts(alloc, problem, parts)?;
+    let found = enabled_of(alloc, problem, &ids, &reduction_rules())?;
     Ok(count(found.as_slice()))
 }
 
@@ -126,14 +131,16 @@ pub fn run(alloc: Global, book: &mut Book) -> Result<Option<End>, AllocError>
     let limit = book.limit();
     let mut stamps = Stamps::of(alloc, book.problem())?;
     let mut ids = Around::all_of(alloc, book.problem())?;
+    let mut marks = Marks::none(alloc);
     while book.applied() < limit {
         let applied = book.applied();
-        round(alloc, book, &mut stamps, &mut ids)?;
+        round(alloc, book, &mut stamps, &mut ids, &mut marks)?;
         if book.verdict().is_some() {
             return Ok(None);
         }
         if book.applied() == applied {
-            let skipped = skipped(alloc, book.problem(), &ids)?;
+            let parts = marks.both(alloc)?;
+            let skipped = skipped(alloc, book.problem(), parts.as_slice())?;
             return Ok(Some(End::Fixpoint { skipped }));
         }
     }

@@ -12,14 +12,14 @@ use Rattle.presolve_rounds.proofs.pass.visit.Goals as goal
 pub returns-then-not-is_enabled : goal.returns-then-not-is_enabled
 returns-then-not-is_enabled c =
     let off : enabled_on c.args.book.now.problem c.args.instance ≡ false = ap (λ (p : Sparse). enabled_on p c.args.instance) (sym c.problem.ensures) ∙ sym c.is_enabled.ensures ∙ c.if-not-is_enabled.true in
-    met_over c.args.frozen.now.value c.args.instance c.args.noted.now.items c.args.book.now c.requires.follows (λ on fresh. not_both on off)
+    met_over c.args.frozen.now.value c.args.instance c.args.marks.now c.args.book.now c.requires.follows (λ on fresh. not_both on off)
 
 pub returns-then-not-stand_for : goal.returns-then-not-stand_for
 returns-then-not-stand_for c =
     let told : c.stand_for.result ≡ are_unchanged (stamp_at c.args.stamps.now) c.args.book.now.problem (reads c.args.book.now.problem c.args.instance) =
     c.stand_for.ensures ∙ ap₂ (λ (p : Sparse) (ps : List Part). are_unchanged (stamp_at c.args.stamps.now) p ps) c.problem-3.ensures
     (c.as_slice.ensures.value ∙ c.in_ok-parts.ensures ∙ ap (λ (p : Sparse). reads p c.args.instance) c.problem-2.ensures) in
-    met_over c.args.frozen.now.value c.args.instance c.args.noted.now.items c.args.book.now c.requires.follows
+    met_over c.args.frozen.now.value c.args.instance c.args.marks.now c.args.book.now c.requires.follows
     (λ on. changed_stale (stamp_at c.args.stamps.now) c.args.frozen.now.value c.args.book.now.problem c.requires.follows.later c.requires.stamps.tell c.args.instance (sym told ∙ c.if-not-stand_for.true))
 
 pub meet-requires-clause-fresh : goal.meet-requires-clause-fresh

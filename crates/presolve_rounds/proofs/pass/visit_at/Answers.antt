@@ -15,5 +15,5 @@ returns c =
     c.as_slice.ensures.value ∙ c.in_ok-add_enabled.ensures
     ∙ ap (λ (es : List Instance). es ++ filter (enabled_on c.problem.result.now) (instances_from c.problem.result.now c.args.rule c.args.id)) c.new-found.ensures.items
     ∙ ap (λ (q : Sparse). filter (enabled_on q) (instances_from q c.args.rule c.args.id)) c.problem.ensures in
-    passed_found c.args.frozen.now.value c.args.rule c.args.id c.args.noted.now.items c.visit_found.new.noted.items c.args.book.now c.visit_found.new.book c.requires.follows
-    (subst (λ (es : List Instance). Passed c.args.frozen.now.value es c.args.noted.now.items c.args.book.now c.visit_found.new.noted.items c.visit_found.new.book) found c.in_ok-visit_found.ensures)
+    passed_found c.args.frozen.now.value c.args.rule c.args.id c.args.marks.now c.visit_found.new.marks c.args.book.now c.visit_found.new.book c.requires.follows
+    (subst (λ (es : List Instance). Passed c.args.frozen.now.value es c.args.marks.now c.args.book.now c.visit_found.new.marks c.visit_found.new.book) found c.in_ok-visit_found.ensures)

@@ -5,4 +5,4 @@ use Rattle.presolve_rounds.proofs.pass.visit_each.Given as goal
 
 -- those so far
 abbrev pub invariant-loop-id : goal.invariant-loop-id
-invariant-loop-id l = Passed l.frozen.value (instances_at l.frozen.value l.rule (take l.id-index l.ids)) l.initial.noted.items l.initial.book l.noted.items l.book
+invariant-loop-id l = Passed l.frozen.value (instances_at l.frozen.value l.rule (take l.id-index l.ids)) l.initial.marks l.initial.book l.marks l.book

@@ -4,4 +4,4 @@ use Rattle.round_laws.specs.Passing.{Passed}
 use Rattle.presolve_rounds.proofs.pass.visit_rule.Goals as goal
 
 pub returns : goal.returns
-returns c = subst (λ (ids : List ℕ). Passed c.args.frozen.now.value (instances_at c.args.frozen.now.value c.args.rule ids) c.args.noted.now.items c.args.book.now c.visit_each.new.noted.items c.visit_each.new.book) c.of.ensures c.in_ok-visit_each.ensures
+returns c = subst (λ (ids : List ℕ). Passed c.args.frozen.now.value (instances_at c.args.frozen.now.value c.args.rule ids) c.args.marks.now c.args.book.now c.visit_each.new.marks c.visit_each.new.book) c.of.ensures c.in_ok-visit_each.ensures

@@ -6,7 +6,7 @@ use Rattle.presolve_model.specs.Enabled.{enabled_on}
 use Rattle.presolve_model.specs.Order.{verdict_order}
 use Rattle.presolve_model.specs.Ordered.{enabled_verdicts}
 use Rattle.round_laws.specs.Choosing.{all_around, Around, instances_of}
-use Rattle.round_laws.proofs.Choosing.{all_complete, all_sorted, enabled_same_there}
+use Rattle.round_laws.proofs.Choosing.{all_each, all_sorted, enabled_same_there}
 use Rattle.presolve_rounds.specs.Running.{IsFirst}
 use Rattle.presolve_rounds.proofs.rounds.first_verdict.Goals as goal
 
@@ -17,5 +17,5 @@ returns c =
     c.as_slice.ensures.value ∙ c.in_ok-found.ensures
     ∙ ap (λ (rs : List Rule). filter (enabled_on p) (instances_of p c.in_ok-all.all rs)) c.verdict_rules.ensures
     ∙ ap (λ (n : Around). filter (enabled_on p) (instances_of p n verdict_order)) c.in_ok-all.ensures
-    ∙ enabled_same_there p (all_around p) (all_sorted p) (all_complete p) verdict_order in
+    ∙ enabled_same_there p (all_around p) (all_sorted p) (all_each p) verdict_order in
     subst (λ (es : List Instance). IsFirst es c.first_of.result) found c.first_of.ensures

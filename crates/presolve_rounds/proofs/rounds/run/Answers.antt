@@ -1,9 +1,10 @@
-use Rattle.std.proofs.Common.{◌≡◌, ◌<◌, length, None, Some, sym, refl, ap, ◌∙◌, subst, arith}
+use Rattle.std.proofs.Common.{◌≡◌, ◌<◌, ◌++◌, length, None, Some, sym, refl, ap, ◌∙◌, subst, arith}
 use Rattle.presolve_model.specs.Stuck.{skipped_on}
-use Rattle.round_laws.specs.Choosing.{all_around, IsComplete}
+use Rattle.round_laws.specs.Choosing.{all_around}
 use Rattle.round_laws.proofs.Runs.{run_more, run_stops}
+use Rattle.presolve_rounds.specs.Marking.{AreReached}
 use Rattle.presolve_rounds.specs.Stamping.{stamps_of}
-use Rattle.presolve_rounds.proofs.Running.{at_fixpoint, more_applied, none_of, ready_first, same_twice, some_of}
+use Rattle.presolve_rounds.proofs.Running.{at_fixpoint, marked_reached, more_applied, none_of, ready_first, same_twice, some_of}
 use Rattle.presolve_rounds.proofs.rounds.run.Goals as goal
 use Rattle.problem_model.specs.Sparse.{Sparse}
 use Rattle.presolve_model.specs.declared.conclusion.End.TheVariants.{Fixpoint}
@@ -13,7 +14,7 @@ loop-book-init c = record {
   same = record { start = refl; numbers = refl; limit = refl };
   limit = c.limit-limit.ensures;
   undecided = c.requires.undecided;
-  ready = λ room. ready_first c.args.book.now c.in_ok-stamps.stamps c.in_ok-ids.ids c.stands.ensures.stands c.requires.counted (omega (arith, c.limit-limit.ensures, c.limit-limit.type_inv))
+  ready = λ room. ready_first c.args.book.now c.in_ok-stamps.stamps c.in_ok-ids.ids _ c.stands.ensures.stands c.requires.counted (omega (arith, c.limit-limit.ensures, c.limit-limit.type_inv))
       (c.in_ok-stamps.ensures ∙ ap stamps_of c.problem.ensures) (c.in_ok-ids.ensures ∙ ap all_around c.problem-2.ensures);
   ordered = λ e d h. h;
 }
@@ -55,14 +56,15 @@ returns-then-is_some-clause-ordered c =
     c.loop-book.invariant.ordered None d (run_stops b d None (omega (arith, c.loop-book-test.true, c.applied.ensures, c.loop-book.invariant.limit)) c.in_ok-round.ensures.committed
     (some_of c.verdict.result d.verdict c.verdict.ensures c.if-is_some.ensures))
 
-pub skipped-requires-clause-complete : goal.skipped-requires-clause-complete
-skipped-requires-clause-complete c =
+pub skipped-requires : goal.skipped-requires
+skipped-requires c =
     let b = c.loop-book.book in
     let d = c.round.new.book in
     let long : length d.history ≡ length b.history = sym c.applied-in-loop-book.ensures ∙ c.if-applied.true ∙ c.applied-applied.ensures in
     let room : length d.history < d.limit = omega (arith, long, c.loop-book-test.true, c.applied.ensures, c.loop-book.invariant.limit, c.in_ok-round.ensures.book.limit) in
-    let ready = c.in_ok-round.ensures.ready (none_of c.verdict.result d.verdict c.verdict.ensures c.if-is_some.ensures) room in
-    subst (λ (p : Sparse). IsComplete p c.round.new.ids) (sym c.problem-then-applied.ensures) ready.complete
+    let marked = c.in_ok-round.ensures.marked (none_of c.verdict.result d.verdict c.verdict.ensures c.if-is_some.ensures) room in
+    let parts : c.as_slice.result.now ≡ c.round.new.marks.noted ++ c.round.new.marks.asleep = c.as_slice.ensures.value ∙ c.in_ok-parts.ensures in
+    record { reached = subst (λ (p : Sparse). AreReached p c.as_slice.result.now) (sym c.problem-then-applied.ensures) (subst (AreReached d.problem) (sym parts) (marked_reached d c.round.new.marks marked)) }
 
 pub returns-then-applied-clause-ordered : goal.returns-then-applied-clause-ordered
 returns-then-applied-clause-ordered c =

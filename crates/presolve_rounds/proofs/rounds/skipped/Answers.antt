@@ -4,11 +4,11 @@ use Rattle.presolve_model.specs.declared.instance.Rule.{Rule}
 use Rattle.presolve_model.specs.Enabled.{enabled_on}
 use Rattle.presolve_model.specs.Order.{reduction_order}
 use Rattle.round_laws.specs.Choosing.{instances_of}
-use Rattle.round_laws.proofs.Choosing.{enabled_same_there}
+use Rattle.round_laws.proofs.Choosing.{enabled_same_there, noted_each}
 use Rattle.presolve_rounds.proofs.rounds.skipped.Goals as goal
 
 pub returns : goal.returns
 returns c =
     c.count.ensures ∙ ap length (c.as_slice.ensures.value ∙ c.in_ok-found.ensures
-    ∙ ap (λ (rs : List Rule). filter (enabled_on c.args.problem.now) (instances_of c.args.problem.now c.args.ids.now rs)) c.reduction_rules.ensures
-    ∙ enabled_same_there c.args.problem.now c.args.ids.now c.requires.sorted c.requires.complete reduction_order)
+    ∙ ap (λ (rs : List Rule). filter (enabled_on c.args.problem.now) (instances_of c.args.problem.now c.in_ok-ids.ids rs)) c.reduction_rules.ensures
+    ∙ enabled_same_there c.args.problem.now c.in_ok-ids.ids c.in_ok-ids.ensures.sorted (noted_each c.args.problem.now c.args.parts.now c.in_ok-ids.ids c.is_sparse.ensures c.in_ok-ids.ensures.holds c.requires.reached) reduction_order)
