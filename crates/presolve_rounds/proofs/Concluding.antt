@@ -26,7 +26,7 @@ use Rattle.history_laws.proofs.Walks.{walked_reduces}
 use Rattle.presolve_model.specs.Telling.{are_live, IsToldOf}
 use Rattle.round_laws.specs.Passing.{IsSameBook}
 use Rattle.round_laws.proofs.Numbers.{never_changed}
-use Rattle.round_laws.proofs.Telling.{problem_is_of, program_ascends, program_written, walked}
+use Rattle.run_laws.proofs.Telling.{problem_is_of, program_ascends, program_written, walked}
 use Rattle.presolve_model.specs.declared.conclusion.End.{End}
 use Rattle.presolve_model.specs.declared.conclusion.End.TheVariants.{Fixpoint, LimitReached}
 use Rattle.presolve_model.specs.declared.conclusion.Options.{Options}

@@ -28,15 +28,16 @@ use Rattle.presolve_model.specs.Instances.{instances_from, rests_on_reading, rul
 use Rattle.presolve_model.specs.Tables.{heads}
 use Rattle.presolve_model.proofs.Readings.{reading_agrees}
 use Rattle.history_laws.proofs.Keeping.{sparse_replay}
-use Rattle.round_laws.specs.Choosing.{all_around, AreSorted, Around, HoldsAround, visited}
-use Rattle.round_laws.specs.Marks.{IsMarked, IsNoted, is_refusal, Marks}
-use Rattle.round_laws.specs.Passing.{Follows, IsFresh, IsSameBook, Passed}
-use Rattle.round_laws.proofs.Choosing.{all_each, all_sorted, marked_complete}
+use Rattle.place_laws.specs.Choosing.{all_around, AreSorted, Around, HoldsAround, visited}
+use Rattle.place_laws.specs.Marks.{IsMarked, IsNoted, is_refusal, Marks}
+use Rattle.place_laws.specs.Standing.{IsFresh}
+use Rattle.round_laws.specs.Passing.{Follows, IsSameBook, Passed}
+use Rattle.place_laws.proofs.Choosing.{all_each, all_sorted, marked_complete}
 use Rattle.round_laws.proofs.Committing.{left_open}
-use Rattle.round_laws.proofs.Places.{IsVerdict, verdict_from}
+use Rattle.place_laws.proofs.Places.{IsVerdict, verdict_from}
 use Rattle.round_laws.proofs.Rounds.{committed_grows, passed_marked, round_stuck, undecided_none}
-use Rattle.round_laws.proofs.ShortLists.{comes_from}
-use Rattle.round_laws.proofs.Runs.{run_full}
+use Rattle.place_laws.proofs.ShortLists.{comes_from}
+use Rattle.run_laws.proofs.Runs.{run_full}
 use Rattle.round_laws.proofs.Tracking.{passed_on}
 use Rattle.round_laws.proofs.Turns.{follows_next, follows_start, met, met_asleep}
 use Rattle.presolve_rounds.specs.Marking.{AreReached, marked}

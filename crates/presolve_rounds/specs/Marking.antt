@@ -6,7 +6,7 @@ use Rattle.presolve_model.specs.declared.instance.Instance.{Instance}
 use Rattle.presolve_model.specs.declared.outcome.Outcome.{Outcome}
 use Rattle.presolve_model.specs.Enabled.{enabled_on}
 use Rattle.presolve_model.specs.Instances.{rests_on_reading, rule_at}
-use Rattle.round_laws.specs.Marks.{IsNoted, is_refusal, Marks}
+use Rattle.place_laws.specs.Marks.{IsNoted, is_refusal, Marks}
 
 -- it is refused for a number, and that rests on what it reads
 abbrev pub sleeps : Instance → Outcome → Bool

@@ -4,8 +4,8 @@ use Rattle.problem_model.specs.declared.part.Part.{Part}
 use Rattle.presolve_model.specs.declared.instance.Instance.{Instance}
 use Rattle.presolve_model.specs.Enabled.{enabled_on}
 use Rattle.presolve_model.specs.Ledger.{Ledger}
-use Rattle.round_laws.specs.Choosing.{AreSorted, Around, IsComplete}
-use Rattle.round_laws.specs.Marks.{IsMarked, Marks}
+use Rattle.place_laws.specs.Choosing.{AreSorted, Around, IsComplete}
+use Rattle.place_laws.specs.Marks.{IsMarked, Marks}
 use Rattle.round_laws.specs.Passing.{Follows}
 use Rattle.presolve_rounds.specs.Stamping.{AreStampsOf, Stamped}
 

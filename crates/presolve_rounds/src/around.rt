@@ -1,7 +1,7 @@
 //! Rows and columns to be looked at.
 
 ghost use Rattle.std.specs.Prelude.{◌≡◌, IfOk};
-ghost use Rattle.round_laws.specs.Choosing.{all_around, all_places, AreSorted, HoldsAround, HoldsParts, HoldsStep, ids_of as ids_there, IsSorted, within};
+ghost use Rattle.place_laws.specs.Choosing.{all_around, all_places, AreSorted, HoldsAround, HoldsParts, HoldsStep, ids_of as ids_there, IsSorted, within};
 
 use crate::ids::{add_across, columns_of, ids_below, rows_of, sort_ids};
 use instances::{is_of_rows, reach_of};
@@ -18,7 +18,7 @@ pub struct Places {
 }
 
 impl Model for Places {
-    ghost use Rattle.round_laws.specs.Choosing.{Places};
+    ghost use Rattle.place_laws.specs.Choosing.{Places};
 
     ghost Value = { Places };
 
@@ -73,7 +73,7 @@ pub struct Around {
 }
 
 impl Model for Around {
-    ghost use Rattle.round_laws.specs.Choosing.{Around};
+    ghost use Rattle.place_laws.specs.Choosing.{Around};
 
     ghost Value = { Around };
 

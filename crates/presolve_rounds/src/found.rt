@@ -4,7 +4,7 @@ ghost use Rattle.std.specs.Prelude.{◌≡◌, ◌++◌, IfOk, OnOk};
 ghost use Rattle.std.specs.List.{filter};
 ghost use Rattle.presolve_model.specs.Enabled.{enabled_on};
 ghost use Rattle.presolve_model.specs.Scans.{instances_at};
-ghost use Rattle.round_laws.specs.Choosing.{instances_of};
+ghost use Rattle.place_laws.specs.Choosing.{instances_of};
 
 use crate::around::Around;
 use instances::add_enabled;

@@ -6,7 +6,7 @@ ghost use Rattle.presolve_model.specs.declared.outcome.Outcome.TheVariants.{NoMe
 ghost use Rattle.presolve_model.specs.Commits.{Allows, left_by};
 ghost use Rattle.presolve_model.specs.Enabled.{enabled_on};
 ghost use Rattle.presolve_model.specs.Scans.{proposal_of};
-ghost use Rattle.round_laws.specs.Marks.{is_refusal as refuses};
+ghost use Rattle.place_laws.specs.Marks.{is_refusal as refuses};
 ghost use Rattle.presolve_rounds.specs.Marking.{marked};
 
 use instances::rests_on_reading;
@@ -24,7 +24,7 @@ pub struct Marks {
 }
 
 impl Model for Marks {
-    ghost use Rattle.round_laws.specs.Marks.{Marks};
+    ghost use Rattle.place_laws.specs.Marks.{Marks};
 
     ghost Value = { Marks };
 

@@ -9,8 +9,9 @@ ghost use Rattle.presolve_model.specs.Enabled.{enabled_on};
 ghost use Rattle.presolve_model.specs.Instances.{instances_from};
 ghost use Rattle.presolve_model.specs.Order.{reduction_order, verdict_order};
 ghost use Rattle.presolve_model.specs.Scans.{instances_at};
-ghost use Rattle.round_laws.specs.Choosing.{ids_of, instances_of, visited};
-ghost use Rattle.round_laws.specs.Passing.{Follows, IsFresh, Passed};
+ghost use Rattle.place_laws.specs.Choosing.{ids_of, instances_of, visited};
+ghost use Rattle.place_laws.specs.Standing.{IsFresh};
+ghost use Rattle.round_laws.specs.Passing.{Follows, Passed};
 ghost use Rattle.presolve_rounds.specs.Stamping.{AreStampsOf};
 
 use crate::around::Around;

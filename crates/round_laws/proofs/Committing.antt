@@ -23,8 +23,8 @@ use Rattle.presolve_model.specs.Ledger.{Ledger}
 use Rattle.presolve_model.specs.Ordered.{Committed}
 use Rattle.presolve_model.specs.Scans.{proposal_of}
 use Rattle.presolve_model.proofs.Readings.{enabled_same, reading_same, reads_told}
-use Rattle.round_laws.specs.Choosing.{proposals}
-use Rattle.round_laws.specs.Passing.{IsFresh, IsLaterAt}
+use Rattle.place_laws.specs.Choosing.{proposals}
+use Rattle.place_laws.specs.Standing.{IsFresh, IsLaterAt}
 
 -- ---- one after the other
 pub committed_append : (b c d : Ledger) (ps qs : List Proposed) → Committed b ps c → Committed c qs d → Committed b (ps ++ qs) d

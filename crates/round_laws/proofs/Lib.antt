@@ -1,15 +1,6 @@
-pub mod Telling
-pub mod ShortLists
-pub mod Near
 pub mod Committing
 pub mod Tracking
 pub mod Turns
-pub mod Alike
-pub mod Places
 pub mod Thinning
-pub mod Choosing
 pub mod Rounds
-pub mod Runs
 pub mod Numbers
-pub mod OneProblem
-pub mod Concluding

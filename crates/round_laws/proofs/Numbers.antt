@@ -21,7 +21,8 @@ use Rattle.problem_model.specs.Sparse.{Sparse}
 use Rattle.presolve_model.specs.declared.instance.Instance.{Instance}
 use Rattle.presolve_model.specs.Enabled.{reads}
 use Rattle.presolve_model.proofs.Readings.{parts_same, reading_same}
-use Rattle.round_laws.specs.Passing.{are_unchanged, IsFresh, IsLaterAt}
+use Rattle.place_laws.specs.Standing.{IsFresh, IsLaterAt}
+use Rattle.round_laws.specs.Passing.{are_unchanged}
 use Rattle.round_laws.proofs.Committing.{fresh_parts, same_reads}
 
 -- ---- nothing of a program's problem has changed

@@ -22,12 +22,12 @@ use Rattle.presolve_model.specs.Stuck.{IsUndecided, Stuck}
 use Rattle.presolve_model.proofs.ByCases.{reductions_ordered, verdicts_listed, verdicts_ordered}
 use Rattle.presolve_model.proofs.Listing.{among_all, listed_is, reduction_listed, verdict_listed}
 use Rattle.presolve_model.proofs.Readings.{reading_agrees}
-use Rattle.round_laws.specs.Choosing.{AreSorted, ids_of, instances_of, IsComplete, Around, proposals, visited}
-use Rattle.round_laws.specs.Marks.{IsAsleep, IsMarked, Marks}
+use Rattle.place_laws.specs.Choosing.{AreSorted, ids_of, instances_of, IsComplete, Around, proposals, visited}
+use Rattle.place_laws.specs.Marks.{IsAsleep, IsMarked, Marks}
 use Rattle.round_laws.specs.Passing.{IsTracked, Passed, Tracks}
-use Rattle.round_laws.proofs.Choosing.{among_there, enabled_kept_there, is_there}
+use Rattle.place_laws.proofs.Choosing.{among_there, enabled_kept_there, is_there}
 use Rattle.round_laws.proofs.Committing.{left_how, left_open, proposals_append, same_reads}
-use Rattle.round_laws.proofs.ShortLists.{contains_in}
+use Rattle.place_laws.proofs.ShortLists.{contains_in}
 use Rattle.round_laws.proofs.Thinning.{committed_more, IsIdle}
 
 -- ---- a pass over rows and columns where each enabled instance is, or sleeps, is a round

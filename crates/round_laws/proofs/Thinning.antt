@@ -26,13 +26,14 @@ use Rattle.presolve_model.specs.Ledger.{Ledger}
 use Rattle.presolve_model.specs.Ordered.{Committed}
 use Rattle.presolve_model.specs.Scans.{proposal_of}
 use Rattle.presolve_model.proofs.Tabled.{counted_changed}
-use Rattle.round_laws.specs.Choosing.{proposals}
-use Rattle.round_laws.specs.Marks.{IsRefused, Marks, RestsOnReading}
-use Rattle.round_laws.specs.Passing.{Follows, IsFresh, IsLaterAt, IsTracked, Passed, Tracks}
-use Rattle.round_laws.proofs.Alike.{IsAlikeFrom, NoneStands}
+use Rattle.place_laws.specs.Choosing.{proposals}
+use Rattle.place_laws.specs.Marks.{IsRefused, Marks, RestsOnReading}
+use Rattle.place_laws.specs.Standing.{IsFresh, IsLaterAt}
+use Rattle.round_laws.specs.Passing.{Follows, IsTracked, Passed, Tracks}
+use Rattle.place_laws.proofs.Alike.{IsAlikeFrom, NoneStands}
 use Rattle.round_laws.proofs.Committing.{committed_append, committed_same, fresh_enables, fresh_parts, fresh_reads, left_how, left_open, passed_over, proposals_append, refused_how, stays_or_differs}
-use Rattle.round_laws.proofs.Places.{from_stand}
-use Rattle.round_laws.proofs.ShortLists.{passes_still}
+use Rattle.place_laws.proofs.Places.{from_stand}
+use Rattle.place_laws.proofs.ShortLists.{passes_still}
 use Rattle.round_laws.proofs.Turns.{Moved, follows_applied, moved}
 use Rattle.problem_model.specs.Reading.{Agrees, DiffersAt}
 

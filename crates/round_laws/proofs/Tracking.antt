@@ -13,11 +13,12 @@ use Rattle.presolve_model.specs.Enabled.{enabled_on, reads}
 use Rattle.presolve_model.specs.Ledger.{Ledger}
 use Rattle.presolve_model.specs.Ordered.{Committed}
 use Rattle.presolve_model.proofs.Readings.{enabled_same, parts_same, reading_same}
-use Rattle.round_laws.specs.Choosing.{proposals}
-use Rattle.round_laws.specs.Marks.{Grows, IsMarked, Marks, RestsOnReading}
-use Rattle.round_laws.specs.Passing.{Follows, IsFresh, IsTracked, Passed, Tracks}
+use Rattle.place_laws.specs.Choosing.{proposals}
+use Rattle.place_laws.specs.Marks.{Grows, IsMarked, Marks, RestsOnReading}
+use Rattle.place_laws.specs.Standing.{IsFresh}
+use Rattle.round_laws.specs.Passing.{Follows, IsTracked, Passed, Tracks}
 use Rattle.round_laws.proofs.Committing.{committed_append, fresh_reads, proposals_append, same_reads}
-use Rattle.round_laws.proofs.ShortLists.{first_or_behind}
+use Rattle.place_laws.proofs.ShortLists.{first_or_behind}
 
 module _ (f : Sparse) (n : Marks) (e : Instance) (es : List Instance) (b : Ledger) (t : Tracks f n (e ∷ es) b) where
   -- the first one is passed over: it is stale, or not enabled

@@ -32,9 +32,10 @@ use Rattle.presolve_model.specs.Tables.{heads, more}
 use Rattle.presolve_model.proofs.ByCases.{refusals_rest, verdicts_do_not_rest}
 use Rattle.presolve_model.proofs.Readings.{enabled_same, reads_told}
 use Rattle.presolve_model.proofs.Tabled.{counted_changed, same_size, sound_changed}
-use Rattle.round_laws.specs.Choosing.{proposals}
-use Rattle.round_laws.specs.Marks.{Grows, IsMarked, IsNoted, is_refusal, Marks, RestsOnReading}
-use Rattle.round_laws.specs.Passing.{Follows, IsFresh, IsLaterAt, IsSameBook, Passed}
+use Rattle.place_laws.specs.Choosing.{proposals}
+use Rattle.place_laws.specs.Marks.{Grows, IsMarked, IsNoted, is_refusal, Marks, RestsOnReading}
+use Rattle.place_laws.specs.Standing.{IsFresh, IsLaterAt}
+use Rattle.round_laws.specs.Passing.{Follows, IsSameBook, Passed}
 use Rattle.round_laws.proofs.Committing.{passed_at, passed_over}
 use Rattle.round_laws.proofs.Tracking.{grows_none, tracks_changed, tracks_marked, tracks_more, tracks_over}
 

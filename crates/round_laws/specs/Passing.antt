@@ -4,29 +4,21 @@ use Rattle.std.specs.List.{Contains}
 use Rattle.problem_model.specs.declared.part.Part.{Part}
 use Rattle.problem_model.specs.Parts.{changes_of}
 use Rattle.problem_model.specs.Problems.{IsSparse}
-use Rattle.problem_model.specs.Reading.{Agrees, read_of}
 use Rattle.problem_model.specs.Sparse.{Sparse}
 use Rattle.edit_laws.specs.Sizes.{SameSize}
 use Rattle.presolve_model.specs.declared.instance.Instance.{Instance}
-use Rattle.presolve_model.specs.Enabled.{enabled_on, reading_of}
+use Rattle.presolve_model.specs.Enabled.{enabled_on}
 use Rattle.presolve_model.specs.Ledger.{Ledger}
 use Rattle.presolve_model.specs.Ordered.{Committed}
-use Rattle.round_laws.specs.Choosing.{proposals}
-use Rattle.round_laws.specs.Marks.{Grows, IsMarked, Marks}
+use Rattle.place_laws.specs.Choosing.{proposals}
+use Rattle.place_laws.specs.Marks.{Grows, IsMarked, Marks}
+use Rattle.place_laws.specs.Standing.{IsFresh, IsLaterAt}
 
 -- the book was opened alike
 pub record IsSameBook (b c : Ledger) : Type 0 where
   pub start : c.start ≡ b.start
   pub numbers : c.numbers ≡ b.numbers
   pub limit : c.limit ≡ b.limit
-
--- the parts that an instance reads stand on p as they stood on f
-abbrev pub IsFresh : Sparse → Sparse → Instance → Type 0
-IsFresh f p e = Agrees p (reading_of f e)
-
--- a part of p stands as it stood on f, or has changed more often
-abbrev pub IsLaterAt : Sparse → Sparse → Part → Type 0
-IsLaterAt f p a = (read_of p a ≡ read_of f a) ⊎ (changes_of f a < changes_of p a)
 
 -- The book's problem comes after f. No part has changed more often than reductions were applied, so that no number stands at its end.
 pub record Follows (f : Sparse) (b : Ledger) : Type 0 where

@@ -21,9 +21,10 @@ ghost use Rattle.presolve_model.specs.Ordered.{Committed, round_list};
 ghost use Rattle.presolve_model.specs.Scans.{proposal_of};
 ghost use Rattle.presolve_model.specs.Stuck.{Stuck};
 ghost use Rattle.presolve_model.specs.Tables.{heads};
-ghost use Rattle.round_laws.specs.Choosing.{AreSorted, Around, HasEach, HoldsAround, IsComplete, visited};
-ghost use Rattle.round_laws.specs.Marks.{Grows, IsMarked, IsNoted, is_refusal, Marks};
-ghost use Rattle.round_laws.specs.Passing.{Follows, IsFresh, Passed};
+ghost use Rattle.place_laws.specs.Choosing.{AreSorted, Around, HasEach, HoldsAround, IsComplete, visited};
+ghost use Rattle.place_laws.specs.Marks.{Grows, IsMarked, IsNoted, is_refusal, Marks};
+ghost use Rattle.place_laws.specs.Standing.{IsFresh};
+ghost use Rattle.round_laws.specs.Passing.{Follows, Passed};
 
 /// A stale proposal changes nothing. What is fresh is answered as its instance's reading of the present problem is.
 pub fn commits_are_met()
@@ -44,13 +45,10 @@ pub fn turns_pass()
 {}
 
 /// A pass over rows and columns where each enabled instance is that does not sleep commits what a round lists, with those that sleep. After
-/// it each enabled instance is marked, if the run goes on: it reads a part that is noted, or sleeps. So the rows and columns of what is noted
-/// are where each enabled instance is that does not sleep; and those of both, where each is.
+/// it each enabled instance is marked, if the run goes on: it reads a part that is noted, or sleeps.
 pub fn passes_are_rounds()
     ensures round { (b c : Ledger) (n : Around) (k m : Marks) → AreSorted n → IsComplete b.numbers b.problem n k.asleep → Passed b.problem (visited b.problem n) k b m c → Committed b (round_list b) c }
     ensures marked { (b c : Ledger) (n : Around) (k m : Marks) → AreSorted n → IsComplete b.numbers b.problem n k.asleep → Passed b.problem (visited b.problem n) k b m c → c.verdict ≡ None → length c.history < c.limit → (e : Instance) → enabled_on c.problem e ≡ true → IsMarked c.numbers c.problem m e }
-    ensures complete { (numbers : Numbers) (p : Sparse) (m : Marks) (n : Around) → IsSparse p → HoldsAround p m.noted n → ((e : Instance) → enabled_on p e ≡ true → IsMarked numbers p m e) → IsComplete numbers p n m.asleep }
-    ensures each { (p : Sparse) (noted : List Part) (n : Around) → IsSparse p → HoldsAround p noted n → ((e : Instance) → enabled_on p e ≡ true → IsNoted p noted e) → HasEach p n }
 {}
 
 /// A round that applied nothing leaves the book as it was, and nothing can be applied there.

@@ -1,7 +1,7 @@
 use Rattle.std.proofs.Common.{◌≡◌, ◌++◌, length}
 use Rattle.std.specs.List.{filter}
 use Rattle.presolve_model.specs.Enabled.{enabled_on}
-use Rattle.round_laws.specs.Choosing.{instances_of}
+use Rattle.place_laws.specs.Choosing.{instances_of}
 use Rattle.presolve_rounds.proofs.found.enabled_of.Given as goal
 
 -- those so far, and those of the rules that are left

@@ -7,7 +7,7 @@ use Rattle.lp_model.specs.Turning.{signed}
 use Rattle.undo_records.specs.Postsolve.{Postsolve}
 use Rattle.problem_model.specs.Sparse.{Sparse}
 use Rattle.presolve_model.specs.Telling.{are_live, IsToldOf}
-use Rattle.round_laws.proofs.Telling.{problem_is_of, told_sound}
+use Rattle.run_laws.proofs.Telling.{problem_is_of, told_sound}
 use Rattle.presolve_rounds.proofs.labels.records_of.Goals as goal
 
 pub row_labels-requires : goal.row_labels-requires

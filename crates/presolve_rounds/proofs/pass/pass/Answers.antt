@@ -1,7 +1,7 @@
 use Rattle.std.proofs.Common.{List, subst}
 use Rattle.presolve_model.specs.declared.instance.Rule.{Rule}
 use Rattle.presolve_model.specs.Order.{reduction_order, verdict_order}
-use Rattle.round_laws.specs.Choosing.{instances_of}
+use Rattle.place_laws.specs.Choosing.{instances_of}
 use Rattle.round_laws.specs.Passing.{Passed}
 use Rattle.round_laws.proofs.Tracking.{passed_on}
 use Rattle.presolve_rounds.proofs.pass.pass.Goals as goal

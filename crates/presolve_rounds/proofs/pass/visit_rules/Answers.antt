@@ -1,6 +1,6 @@
 use Rattle.presolve_model.specs.declared.instance.Rule.{Rule}
 use Rattle.presolve_model.specs.Scans.{instances_at}
-use Rattle.round_laws.specs.Choosing.{ids_of}
+use Rattle.place_laws.specs.Choosing.{ids_of}
 use Rattle.round_laws.proofs.Tracking.{passed_none}
 use Rattle.presolve_rounds.proofs.Running.{one_more}
 use Rattle.presolve_rounds.proofs.pass.visit_rules.Goals as goal

@@ -1,5 +1,5 @@
 use Rattle.std.proofs.Common.{take}
-use Rattle.round_laws.specs.Choosing.{instances_of}
+use Rattle.place_laws.specs.Choosing.{instances_of}
 use Rattle.round_laws.specs.Passing.{Passed}
 use Rattle.presolve_rounds.proofs.pass.visit_rules.Given as goal
 

@@ -1,7 +1,7 @@
 use Rattle.std.proofs.Common.{List, sym, ◌∙◌, subst}
 use Rattle.presolve_model.specs.declared.instance.Reduction.{Reduction}
 use Rattle.presolve_model.specs.Conclusions.{Decided}
-use Rattle.round_laws.proofs.Telling.{decided}
+use Rattle.run_laws.proofs.Telling.{decided}
 use Rattle.presolve_rounds.proofs.Concluding.{options_with}
 use Rattle.presolve_rounds.proofs.reduce.decided.Goals as goal
 

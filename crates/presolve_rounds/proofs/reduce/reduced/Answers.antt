@@ -3,7 +3,7 @@ use Rattle.lp_model.specs.Names.{WellNamed}
 use Rattle.lp_model.specs.ProgramData.{ProgramData}
 use Rattle.problem_model.specs.Programs.{written_program}
 use Rattle.problem_model.specs.Sparse.{Sparse}
-use Rattle.round_laws.proofs.Telling.{problem_is_of}
+use Rattle.run_laws.proofs.Telling.{problem_is_of}
 use Rattle.presolve_model.specs.Conclusions.{Concluded, HaveNames}
 use Rattle.presolve_rounds.proofs.Concluding.{concluded, options_with}
 use Rattle.presolve_rounds.proofs.reduce.reduced.Goals as goal

@@ -5,8 +5,8 @@ use Rattle.presolve_model.specs.declared.instance.Rule.{Rule}
 use Rattle.presolve_model.specs.Enabled.{enabled_on}
 use Rattle.presolve_model.specs.Order.{verdict_order}
 use Rattle.presolve_model.specs.Ordered.{enabled_verdicts}
-use Rattle.round_laws.specs.Choosing.{all_around, Around, instances_of}
-use Rattle.round_laws.proofs.Choosing.{all_each, all_sorted, enabled_same_there}
+use Rattle.place_laws.specs.Choosing.{all_around, Around, instances_of}
+use Rattle.place_laws.proofs.Choosing.{all_each, all_sorted, enabled_same_there}
 use Rattle.presolve_rounds.specs.Running.{IsFirst}
 use Rattle.presolve_rounds.proofs.rounds.first_verdict.Goals as goal
 

@@ -1,8 +1,8 @@
 use Rattle.std.proofs.Common.{◌≡◌, List, ap, ap₂, ◌∙◌, subst, sym}
 use Rattle.problem_model.specs.declared.part.Part.{Part}
 use Rattle.problem_model.specs.Sparse.{Sparse}
-use Rattle.round_laws.specs.Choosing.{HoldsAround, visited}
-use Rattle.round_laws.specs.Marks.{Marks}
+use Rattle.place_laws.specs.Choosing.{HoldsAround, visited}
+use Rattle.place_laws.specs.Marks.{Marks}
 use Rattle.round_laws.specs.Passing.{Passed}
 use Rattle.round_laws.proofs.Rounds.{passed_round}
 use Rattle.presolve_rounds.specs.Readiness.{IsReady}

@@ -1,7 +1,7 @@
 use Rattle.std.proofs.Common.{◌≡◌, ◌<◌, ◌++◌, length, None, Some, sym, refl, ap, ◌∙◌, subst, arith}
 use Rattle.presolve_model.specs.Stuck.{skipped_on}
-use Rattle.round_laws.specs.Choosing.{all_around}
-use Rattle.round_laws.proofs.Runs.{run_more, run_stops}
+use Rattle.place_laws.specs.Choosing.{all_around}
+use Rattle.run_laws.proofs.Runs.{run_more, run_stops}
 use Rattle.presolve_rounds.specs.Marking.{AreReached}
 use Rattle.presolve_rounds.specs.Stamping.{stamps_of}
 use Rattle.presolve_rounds.proofs.Running.{at_fixpoint, marked_reached, more_applied, none_of, ready_first, same_twice, some_of}

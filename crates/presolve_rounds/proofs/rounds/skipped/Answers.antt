@@ -3,8 +3,8 @@ use Rattle.std.specs.List.{filter}
 use Rattle.presolve_model.specs.declared.instance.Rule.{Rule}
 use Rattle.presolve_model.specs.Enabled.{enabled_on}
 use Rattle.presolve_model.specs.Order.{reduction_order}
-use Rattle.round_laws.specs.Choosing.{instances_of}
-use Rattle.round_laws.proofs.Choosing.{enabled_same_there, noted_each}
+use Rattle.place_laws.specs.Choosing.{instances_of}
+use Rattle.place_laws.proofs.Choosing.{enabled_same_there, noted_each}
 use Rattle.presolve_rounds.proofs.rounds.skipped.Goals as goal
 
 pub returns : goal.returns

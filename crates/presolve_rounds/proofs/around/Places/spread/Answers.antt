@@ -4,7 +4,7 @@ use Rattle.undo_records.specs.Walk.{ids_of}
 use Rattle.problem_model.specs.Matrices.{line_at, live_only}
 use Rattle.problem_model.specs.Problems.{column_entries, row_entries}
 use Rattle.problem_model.specs.Sparse.{Sparse}
-use Rattle.round_laws.specs.Choosing.{HoldsStep, Places}
+use Rattle.place_laws.specs.Choosing.{HoldsStep, Places}
 use Rattle.presolve_rounds.proofs.Sorting.{holds_step}
 use Rattle.presolve_rounds.proofs.around.Places.spread.Goals as goal
 

@@ -1,5 +1,5 @@
-use Rattle.round_laws.proofs.Concluding.{concluded_same, decided_same, not_both}
-use Rattle.round_laws.proofs.books.conclusions_are_one.Goals as goal
+use Rattle.run_laws.proofs.Concluding.{concluded_same, decided_same, not_both}
+use Rattle.run_laws.proofs.conclusions_are_one.Goals as goal
 
 pub returns-clause-reduced : goal.returns-clause-reduced
 returns-clause-reduced c = concluded_same

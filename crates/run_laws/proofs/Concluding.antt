@@ -14,8 +14,8 @@ use Rattle.presolve_model.specs.Conclusions.{Concluded, Decided}
 use Rattle.presolve_model.specs.Ledger.{Ledger}
 use Rattle.presolve_model.specs.Ordered.{new_book, Ordered, RunsTo}
 use Rattle.presolve_model.specs.Telling.{IsToldOf, names_in}
-use Rattle.round_laws.proofs.OneProblem.{one_problem}
-use Rattle.round_laws.proofs.Runs.{ordered_same}
+use Rattle.run_laws.proofs.OneProblem.{one_problem}
+use Rattle.run_laws.proofs.Runs.{ordered_same}
 
 -- ---- one run
 pub runs_same : (options : Options) (program : ProgramData) (e f : Option End) (b c : Ledger) → RunsTo options program e b → RunsTo options program f c → (e ≡ f) × (b ≡ c)

@@ -1,5 +1,5 @@
-use Rattle.round_laws.proofs.Telling.{walked, told_sound, program_ascends, program_written, decided}
-use Rattle.round_laws.proofs.books.books_tell.Goals as goal
+use Rattle.run_laws.proofs.Telling.{walked, told_sound, program_ascends, program_written, decided}
+use Rattle.run_laws.proofs.books_tell.Goals as goal
 
 pub returns-clause-walked : goal.returns-clause-walked
 returns-clause-walked c = walked

@@ -16,7 +16,7 @@ use Rattle.presolve_model.specs.Given.{Proposed}
 use Rattle.presolve_model.specs.Instances.{id_at, is_of_rows, rule_at, reach_of}
 use Rattle.presolve_model.specs.Order.{reduction_order, verdict_order}
 use Rattle.presolve_model.specs.Scans.{instances_at, proposal_of}
-use Rattle.round_laws.specs.Marks.{IsAsleep}
+use Rattle.place_laws.specs.Marks.{IsAsleep}
 
 -- ids of rows and of columns
 pub record Places : Type 0 where

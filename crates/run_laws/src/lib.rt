@@ -1,4 +1,6 @@
-//! What runs and books say of programs.
+//! Runs: there is one at most from a book, and one conclusion of a program; and what a book says of its program. The functions here do
+//! nothing when they run: each states laws of the definitions in `presolve_model`, and its check proves them.
+#![tactic(auto)]
 
 ghost use Rattle.std.specs.Prelude.{◌≡◌, ◌<◌, List, length, None, Some, Option};
 ghost use Rattle.lp_model.specs.ProgramData.{ProgramData};

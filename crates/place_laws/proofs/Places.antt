@@ -15,11 +15,11 @@ use Rattle.presolve_model.specs.Enabled.{enabled_on, reads}
 use Rattle.presolve_model.specs.Instances.{id_at, instances_from, is_of_rows, reach_of, rule_at}
 use Rattle.presolve_model.specs.Order.{verdict_order}
 use Rattle.presolve_model.proofs.ByCases.{IsListed, reductions_listed, verdicts_listed}
-use Rattle.round_laws.specs.Choosing.{columns_with, rows_with}
-use Rattle.round_laws.specs.Passing.{IsLaterAt}
-use Rattle.round_laws.proofs.Alike.{IsAlikeFrom, ReadsRow, alike_by_row}
-use Rattle.round_laws.proofs.Near.{IsWithin, by_column, by_pair}
-use Rattle.round_laws.proofs.ShortLists.{alone, each_mapped, one_in, three_in, two_in}
+use Rattle.place_laws.specs.Choosing.{columns_with, rows_with}
+use Rattle.place_laws.specs.Standing.{IsLaterAt}
+use Rattle.place_laws.proofs.Alike.{IsAlikeFrom, ReadsRow, alike_by_row}
+use Rattle.place_laws.proofs.Near.{IsWithin, by_column, by_pair}
+use Rattle.place_laws.proofs.ShortLists.{alone, each_mapped, one_in, three_in, two_in}
 use Rattle.problem_model.specs.Problems.{IsSparse, row_entries}
 use Rattle.dual_laws.specs.DominatedColumn.{pairs_of}
 use Rattle.dual_laws.proofs.FixedByCost as fixed_by_cost

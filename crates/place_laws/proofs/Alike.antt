@@ -12,7 +12,7 @@ use Rattle.problem_model.specs.Sparse.{Sparse}
 use Rattle.rule_words.specs.Reading.{terms_in}
 use Rattle.presolve_model.specs.declared.instance.Instance.{Instance}
 use Rattle.presolve_model.specs.Enabled.{enabled_on}
-use Rattle.round_laws.specs.Passing.{IsFresh, IsLaterAt}
+use Rattle.place_laws.specs.Standing.{IsFresh, IsLaterAt}
 
 -- none is enabled on p and reads what it read on f
 abbrev pub NoneStands : Sparse → Sparse → List Instance → Type 0

@@ -18,8 +18,8 @@ use Rattle.problem_laws.proofs.Entries.{has-live_only, live_entries_name}
 use Rattle.rule_words.specs.Reading.{parts_on, sides_named, sides_of, terms_in}
 use Rattle.dual_laws.specs.DominatedColumn.{heads, more, rows_of_both}
 use Rattle.dual_laws.proofs.DominatedColumn.{SaidAt}
-use Rattle.round_laws.specs.Choosing.{columns_with, rows_with}
-use Rattle.round_laws.proofs.ShortLists.{alone, each_mapped, five_in, has_of, kept_is, two_in}
+use Rattle.place_laws.specs.Choosing.{columns_with, rows_with}
+use Rattle.place_laws.proofs.ShortLists.{alone, each_mapped, five_in, has_of, kept_is, two_in}
 
 -- ---- rows and columns within so many steps of a part: rows where b is true, else columns
 -- row k stands in column m, or column k in row m

@@ -1,0 +1,5 @@
+pub mod ShortLists
+pub mod Near
+pub mod Alike
+pub mod Places
+pub mod Choosing

@@ -1,0 +1,4 @@
+pub mod Telling
+pub mod Runs
+pub mod OneProblem
+pub mod Concluding
