@@ -7,14 +7,14 @@ ghost use Rattle.problem_model.specs.Offsets.{OffsetFits};
 ghost use Rattle.problem_model.specs.Raised.{committed};
 
 use crate::entries::apply;
-use crate::notes::{note_all, tell};
-use crate::raises::raise_all;
+use crate::notes::note_all;
+use crate::raises::{raise_all, tell};
 use problem_model::{Edit, Part};
 use sparse_problem::Problem;
 use std::alloc::{AllocError, Global};
 
-/// Makes edits, one after the other, and raises the number of each part that holds something else then by one. The parts that the edits
-/// touch are told behind those that were told before. It takes time and memory for what the edits touch, and looks at nothing else.
+/// Makes edits, one after the other, and raises the number of each part that holds something else then by one. These parts are told behind
+/// those that were told before. It takes time and memory for what the edits touch, and looks at nothing else.
 ///
 /// # Errors
 /// Memory ran out. The problem, and what was told, is as it was.
@@ -36,6 +36,6 @@ pub fn commit(
     changed.reserve(notes.len())?;
     apply(problem, alloc, edits)?;
     raise_all(problem, notes.as_slice());
-    tell(notes.as_slice(), changed);
+    tell(problem, notes.as_slice(), changed);
     Ok(())
 }

@@ -1,6 +1,6 @@
 //! Notes of what edits touch, taken before they are made.
 
-ghost use Rattle.std.specs.Prelude.{◌≡◌, ◌+◌, ◌≤◌, ◌++◌, ◌∷◌, [], length, map, vec_capacity, IfOk, OnOk};
+ghost use Rattle.std.specs.Prelude.{◌≡◌, ◌++◌, ◌∷◌, [], map, IfOk, OnOk};
 ghost use Rattle.problem_model.specs.Matrices.{live_only};
 ghost use Rattle.problem_model.specs.declared.edit.Edit.TheVariants as edit;
 ghost use Rattle.problem_model.specs.declared.part.Part.TheVariants as part;
@@ -165,14 +165,4 @@ pub fn note_all(alloc: Global, problem: &Problem, edits: &[Edit]) -> Result<Vec<
         rest = after;
     }
     Ok(notes)
-}
-
-/// Tells the parts of notes behind those that were told before, for which there is room.
-pub fn tell(notes: &[Note], told: &mut Vec<Part>)
-    requires { length told.old.items + length notes.now ≤ vec_capacity told.old }
-    ensures { told.new.items ≡ told.old.items ++ map (λ n. n.part) notes.now }
-{
-    for note in notes {
-        told.push_reserved(note.part);
-    }
 }

@@ -1,5 +1,5 @@
 use Rattle.std.proofs.Common.{◌≡◌, List, ◌++◌, sym, ap₂, ◌∙◌, subst}
-use Rattle.std.specs.List.{All}
+use Rattle.std.specs.List.{All, filter}
 use Rattle.problem_model.specs.declared.part.Part.{Part}
 use Rattle.problem_model.specs.Applied.{applied}
 use Rattle.problem_model.specs.Noted.{AreNoted}
@@ -7,7 +7,7 @@ use Rattle.problem_model.specs.Raised.{committed}
 use Rattle.problem_model.specs.Sparse.{Sparse}
 use Rattle.sparse_problem.specs.Renumbered.{IsThere}
 use Rattle.problem_commits.specs.declared.notes.Note.{Note}
-use Rattle.problem_commits.specs.Noting.{all_noted, all_raised}
+use Rattle.problem_commits.specs.Noting.{all_noted, all_raised, has_changed}
 use Rattle.problem_commits.proofs.Committing.{committed_is, notes_there}
 use Rattle.problem_commits.proofs.Telling.{notes_told, parts_of}
 use Rattle.problem_commits.proofs.commits.commit.Goals as goal
@@ -30,6 +30,7 @@ returns-clause-noted c =
     let p : Sparse = c.args.problem.now in
     let before : List Part = c.args.changed.now.items in
     let ns : c.as_slice-2.result.now ≡ all_noted p c.args.edits.now = c.as_slice-2.ensures.value ∙ c.in_ok-notes.ensures in
-    let told : c.tell.new.told.items ≡ before ++ parts_of (all_noted p c.args.edits.now) = c.tell.ensures ∙ ap₂ (λ (xs : List Part) (ms : List Note). xs ++ parts_of ms) c.in_ok-reserve.ensures.items ns in
+    let told : c.tell.new.told.items ≡ before ++ parts_of (filter (has_changed (committed p c.args.edits.now)) (all_noted p c.args.edits.now)) =
+    c.tell.ensures ∙ (λ t. c.in_ok-reserve.ensures.items t ++ parts_of (filter (has_changed (returns-clause-ok c t)) (ns t))) in
     subst (λ (q : Sparse). AreNoted p q before c.tell.new.told.items) (sym (returns-clause-ok c))
     (subst (λ (ts : List Part). AreNoted p (committed p c.args.edits.now) before ts) (sym told) (notes_told p c.args.edits.now c.is_sparse.ensures c.requires.allowed before))
