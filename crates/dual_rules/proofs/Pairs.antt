@@ -7,23 +7,25 @@ use Rattle.std.proofs.lemmas.List.Elements.{All-head, All-tail, filter-append}
 use Rattle.rational.specs.Number.{Number}
 use Rattle.rational.specs.Compare.{le_ℚ}
 use Rattle.lp_model.specs.declared.terms.Term.{Term}
-use Rattle.lp_model.specs.EndTests.{is_apart, is_place}
+use Rattle.lp_model.specs.EndTests.{is_apart, is_in_order, is_place}
 use Rattle.lp_model.specs.Sparse.{dense, has}
 use Rattle.problem_model.specs.declared.line.Bounds.{Bounds}
+use Rattle.problem_model.specs.declared.line.Sides.{Sides}
 use Rattle.problem_model.specs.declared.part.Contents.{Contents}
 use Rattle.problem_model.specs.declared.part.Contents.TheVariants as holding
 use Rattle.problem_model.specs.declared.part.Part.{Part}
 use Rattle.problem_model.specs.declared.part.Part.TheVariants as part
 use Rattle.problem_model.specs.Parts.{contents_of}
-use Rattle.problem_model.specs.Problems.{bounds_at, column_at, column_entries, cost_at, row_at, row_entries}
+use Rattle.problem_model.specs.Problems.{bounds_at, column_at, column_entries, cost_at, row_at, row_entries, sides_at, IsSparse}
 use Rattle.problem_model.specs.Sparse.{Sparse}
 use Rattle.rule_words.specs.Reading.{terms_in}
-use Rattle.dual_laws.specs.DominatedColumn.{all_take_over, enabled, is_dominated, pairs_of, rows_of_both, share}
+use Rattle.dual_laws.specs.DominatedColumn.{all_take_over, enabled, is_dominated, pairs_of, rows_of_both, share, takes_over}
 use Rattle.dual_laws.specs.Locks.{are_uncrossed}
-use Rattle.problem_laws.proofs.Entries.{row_entries-live}
+use Rattle.problem_laws.proofs.Entries.{live_entries_name, live_entries_tell, row_entries-live, row_entries-tell}
 use Rattle.problem_laws.proofs.Terms.{has-cons_same, not_both}
-use Rattle.dual_rules.specs.Merging.{all_admit}
-use Rattle.dual_rules.specs.Pairs.{are_live, dominates, is_short, pair_if, pairs_among, pairs_beside}
+use Rattle.dual_rules.specs.Merging.{admits, all_admit}
+use Rattle.dual_rules.specs.Pairs.{Tells, are_live, dominates, is_short, pair_if, pairs_among, pairs_beside}
+use Rattle.dual_rules.proofs.Merging.{admits_at}
 use Rattle.dual_rules.proofs.Remaining.{left, one_more}
 
 -- the tests in another order
@@ -154,6 +156,21 @@ module _ (p : Sparse) (i : ℕ) (short : is_short p i ≡ true) where
       named [] n d l = absurd (omega (arith, l))
       named (u ∷ us) zero d l = has-cons_same u.id u us refl
       named (u ∷ us) (suc n) d l = more (get_or us n d).id u us (named us n d (omega (arith, l)))
+
+  -- what the row asks of two of its entries is asked of their columns
+  at_row : IsSparse p → (s : Sides) → s ≡ sides_at p i → (t u : Term) → InRow t → InRow u → dense ts t.id ≡ t.value → dense ts u.id ≡ u.value → Tells p s t u
+  unfolding InRow
+  at_row q s e t u a b x y = λ h.
+      let l = (and_parts (row_at p i).live (nat_le (length ts) 64) short).0 in
+      let g = admits_at p (column_entries p t.id) (column_entries p u.id) i h (sym (live_entries_name p i t.id q l a.0) ∙ a.1) in
+      let v = sym (live_entries_tell p i t.id q l a.0) ∙ x in
+      let w = sym (live_entries_tell p i u.id q l b.0) ∙ y in
+      let f = ap (λ (z : Bool). if z then holding.Sides (sides_at p i).lower (sides_at p i).upper else holding.Gone) l ∙ ap (λ (z : Sides). holding.Sides z.lower z.upper) (sym e) in
+      let k = ap₂ (λ (m n : Number). admits m n (contents_of p (part.Sides i))) (sym v) (sym w) ∙ g in
+      (and_parts (is_in_order s.lower s.upper) (takes_over t.value u.value (holding.Sides s.lower s.upper)) (ap (admits t.value u.value) (sym f) ∙ k)).1
+
+  pub all_tell : IsSparse p → (s : Sides) → s ≡ sides_at p i → All (λ t. All (λ u. Tells p s t u) ts) ts
+  all_tell q s e = λ n d l m o k. at_row q s e (get_or ts n d) (get_or ts m o) (all_in_row n d l) (all_in_row m o k) (row_entries-tell p i q n d l) (row_entries-tell p i q m o k)
 
   pairs_are : pairs_among p ts ts ≡ filter (λ x. enabled p i x.0 x.1) (pairs_of ts)
   pairs_are = sym (among_is ts ts all_in_row all_in_row)

@@ -1,21 +1,40 @@
 -- Pairs of columns of a row.
-use Rattle.std.specs.Prelude.{ℕ, Bool, not, ◌&&◌, ◌||◌, nat_eq, nat_le, List, [], ◌∷◌, length, map, is_none, if◌then◌else◌}
+use Rattle.std.specs.Prelude.{◌≡◌, ℕ, Bool, true, not, ◌&&◌, ◌||◌, nat_eq, nat_le, List, [], ◌∷◌, length, map, is_none, if◌then◌else◌}
 use Rattle.std.specs.List.{filter, flat_map}
+use Rattle.rational.specs.Number.{Number}
 use Rattle.rational.specs.Compare.{le_ℚ}
 use Rattle.lp_model.specs.declared.terms.Term.{Term}
 use Rattle.lp_model.specs.EndTests.{is_apart, is_place}
+use Rattle.problem_model.specs.declared.line.Sides.{Sides}
+use Rattle.problem_model.specs.declared.part.Contents.TheVariants as holding
 use Rattle.problem_model.specs.Problems.{bounds_at, column_at, column_entries, cost_at, row_at, row_entries}
 use Rattle.problem_model.specs.Sparse.{Sparse}
+use Rattle.dual_laws.specs.DominatedColumn.{takes_over}
+use Rattle.dual_rules.specs.declared.dominated_column.Better.{Better}
 use Rattle.dual_rules.specs.Merging.{all_admit}
+
+-- what is asked of k beside a column that has no upper bound, has the cost c, and is whole or not
+abbrev pub may_stay : Sparse → Number → Bool → ℕ → Bool
+may_stay p c w k = is_apart (bounds_at p k).lower (bounds_at p k).upper && (is_place (bounds_at p k).lower (bounds_at p k).whole && (le_ℚ c (cost_at p k) && (not w || (bounds_at p k).whole)))
 
 -- what is asked of the bounds and costs of j and k
 abbrev pub is_better : Sparse → ℕ → ℕ → Bool
-is_better p j k = not (nat_eq j k) && (is_none (bounds_at p j).upper && (is_apart (bounds_at p k).lower (bounds_at p k).upper && (is_place (bounds_at p k).lower (bounds_at p k).whole
-    && (le_ℚ (cost_at p j) (cost_at p k) && (not (bounds_at p j).whole || (bounds_at p k).whole)))))
+is_better p j k = not (nat_eq j k) && (is_none (bounds_at p j).upper && may_stay p (cost_at p j) (bounds_at p j).whole k)
 
 -- and of their rows too: j dominates k
 abbrev pub dominates : Sparse → ℕ → ℕ → Bool
 dominates p j k = is_better p j k && all_admit p (column_entries p j) (column_entries p k)
+
+-- what is known of a column beside which others are looked at
+pub record IsBetter (p : Sparse) (b : Better) : Type 0 where
+  pub live : (column_at p b.entry.id).live ≡ true
+  pub endless : is_none (bounds_at p b.entry.id).upper ≡ true
+  pub cost : b.cost ≡ cost_at p b.entry.id
+  pub whole : b.whole ≡ (bounds_at p b.entry.id).whole
+
+-- sides and two terms tell of columns: where each row admits the first for the second, so do these sides by these terms
+abbrev pub Tells : Sparse → Sides → Term → Term → Type 0
+Tells p s t u = all_admit p (column_entries p t.id) (column_entries p u.id) ≡ true → takes_over t.value u.value (holding.Sides s.lower s.upper) ≡ true
 
 -- the row and both columns are live
 abbrev pub are_live : Sparse → ℕ → ℕ → ℕ → Bool

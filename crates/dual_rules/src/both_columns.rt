@@ -2,16 +2,18 @@
 
 ghost use Rattle.std.specs.Prelude.{◌≡◌, ◌++◌, true, length, OnOk};
 ghost use Rattle.lp_model.specs.Sparse.{Ascends};
+ghost use Rattle.problem_model.specs.declared.part.Contents.TheVariants as holding;
 ghost use Rattle.problem_model.specs.declared.part.Part.TheVariants as part;
 ghost use Rattle.problem_model.specs.Matrices.{live_only};
 ghost use Rattle.problem_model.specs.Parts.{contents_of};
 ghost use Rattle.problem_model.specs.Problems.{row_at};
+ghost use Rattle.dual_laws.specs.DominatedColumn.{takes_over};
 ghost use Rattle.dual_rules.specs.Merging.{admits, all_admit, first_row, is_besides, passes, past, sides_besides, sides_if, sides_named, starts, value_there};
 
 use fractions::frac::Frac;
 use lp_model::Term;
 use lp_model::ends::in_order;
-use problem_model::Part;
+use problem_model::{Part, Sides};
 use sparse_problem::Problem;
 use std::alloc::AllocError;
 
@@ -71,15 +73,27 @@ fn past(entries: &[Term], row: u32) -> &[Term]
     }
 }
 
+/// Whether a row with these sides takes a column with the one entry for one with the other. Between two sides the entries have to be the
+/// same.
+pub fn takes_over(sides: &Sides, better: &Frac, worse: &Frac) -> bool
+    ensures { result ≡ takes_over better.now worse.now (holding.Sides sides.now.lower sides.now.upper) }
+{
+    if sides.lower.is_none() {
+        sides.upper.is_none() || better.le(worse)
+    } else if sides.upper.is_none() {
+        worse.le(better)
+    } else {
+        better.is_same(worse)
+    }
+}
+
 /// Whether a row isn't crossed, and takes a column with the one entry for one with the other.
 fn row_admits(problem: &Problem, row: u32, better: &Frac, worse: &Frac) -> bool
     requires { (row_at problem.now row).live ≡ true }
     ensures { result ≡ admits better.now worse.now (contents_of problem.now (part.Sides row)) }
 {
     let sides = problem.sides(row);
-    in_order(&sides.lower, &sides.upper)
-        && (sides.upper.is_none() || better.le(worse))
-        && (sides.lower.is_none() || worse.le(better))
+    in_order(&sides.lower, &sides.upper) && takes_over(&sides, better, worse)
 }
 
 /// The same, or the row isn't live.

@@ -11,13 +11,14 @@ ghost use Rattle.rule_words.specs.Answers.{Changes};
 ghost use Rattle.rule_words.specs.Reading.{terms_in};
 ghost use Rattle.dual_laws.specs.DominatedColumn.{enabled, edits, pairs_of, record_of, rows_of_both, Computes};
 ghost use Rattle.dual_rules.specs.Merging.{all_admit};
-ghost use Rattle.dual_rules.specs.Pairs.{are_live, dominates, is_better, is_short, pair_if, pairs_among, pairs_beside};
+ghost use Rattle.dual_rules.specs.Pairs.{IsBetter, Tells, are_live, dominates, is_better, is_short, may_stay, pair_if, pairs_among, pairs_beside};
 
-use crate::both_columns::{add_sides_besides, add_sides_of, rows_admit};
+use crate::both_columns::{add_sides_besides, add_sides_of, rows_admit, takes_over};
 use crate::directions::{entries, entries_if_live};
+use fractions::frac::Frac;
 use lp_model::Term;
 use lp_model::ends::{apart, place};
-use problem_model::{Edit, Part, Refusal};
+use problem_model::{Edit, Part, Refusal, Sides};
 use rule_words::Change;
 use sparse_problem::Problem;
 use std::alloc::{AllocError, Global};
@@ -25,6 +26,19 @@ use undo_records::Undo;
 
 /// The most entries of a row of which pairs are looked at.
 const MOST_ENTRIES: usize = 64;
+
+/// Whether a column may stay at its lower bound beside one without an upper bound that has this cost: it has a lower bound below its upper
+/// one, whole if it is, costs no less, and is whole if the other one is.
+fn may_stay(problem: &Problem, cost: &Frac, whole: bool, column: u32) -> bool
+    requires { (column_at problem.now column).live ≡ true }
+    ensures { result ≡ may_stay problem.now cost.now whole column }
+{
+    let bounds = problem.bounds(column);
+    apart(&bounds.lower, &bounds.upper)
+        && place(&bounds.lower, bounds.whole)
+        && cost.le(&problem.cost(column))
+        && (!whole || bounds.whole)
+}
 
 /// Whether a column is to be looked at beside another: they differ, it has no upper bound and costs no more; and the other one has a
 /// lower bound below its upper one, whole if it is, and is whole if the first is.
@@ -34,13 +48,9 @@ fn is_better(problem: &Problem, column: u32, other: u32) -> bool
     ensures { result ≡ is_better problem.now column other }
 {
     let bounds = problem.bounds(column);
-    let others = problem.bounds(other);
     column != other
         && bounds.upper.is_none()
-        && apart(&others.lower, &others.upper)
-        && place(&others.lower, others.whole)
-        && problem.cost(column).le(&problem.cost(other))
-        && (!bounds.whole || others.whole)
+        && may_stay(problem, &problem.cost(column), bounds.whole, other)
 }
 
 /// Whether each row of two columns isn't crossed, and takes the first for the second.
@@ -156,54 +166,88 @@ pub fn add_sides(
     Ok(())
 }
 
-/// Adds a pair of columns if the first dominates the second.
+/// A column without an upper bound beside which the others of a row are looked at: its entry there, its cost, and whether it is whole.
+#[derive(Drop)]
+struct Better {
+    entry: Term,
+    cost: Frac,
+    whole: bool,
+}
+
+/// Whether such a column dominates that of another entry of the row. What is in hand is tested first: the row's own entries, by its sides.
+/// The columns' other rows come last.
+fn dominates(problem: &Problem, sides: &Sides, better: &Better, other: &Term) -> bool
+    requires better { IsBetter problem.now better.now }
+    requires other { (column_at problem.now other.now.id).live ≡ true }
+    requires row { Tells problem.now sides.now better.now.entry other.now }
+    ensures { result ≡ dominates problem.now better.now.entry.id other.now.id }
+{
+    better.entry.id != other.id
+        && takes_over(sides, &better.entry.value, &other.value)
+        && may_stay(problem, &better.cost, better.whole, other.id)
+        && rows_take_over(problem, better.entry.id, other.id)
+}
+
+/// Adds a pair of columns of a row if the first dominates the second.
 fn add_pair(
     problem: &Problem,
-    column: u32,
-    other: u32,
+    sides: &Sides,
+    better: &Better,
+    other: &Term,
     pairs: &mut Vec<(u32, u32)>,
 ) -> Result<(), AllocError>
-    requires column { (column_at problem.now column).live ≡ true }
-    requires other { (column_at problem.now other).live ≡ true }
-    ensures { OnOk result (pairs.new.items ≡ pairs.old.items ++ pair_if (dominates problem.now column other) column other) }
+    requires better { IsBetter problem.now better.now }
+    requires other { (column_at problem.now other.now.id).live ≡ true }
+    requires row { Tells problem.now sides.now better.now.entry other.now }
+    ensures { OnOk result (pairs.new.items ≡ pairs.old.items ++ pair_if (dominates problem.now better.now.entry.id other.now.id) better.now.entry.id other.now.id) }
 {
-    if is_better(problem, column, other) && rows_take_over(problem, column, other) {
-        pairs.push((column, other))?;
+    if dominates(problem, sides, better, other) {
+        pairs.push((better.entry.id, other.id))?;
     }
     Ok(())
 }
 
-/// Adds the pairs of a column with those columns of a row that it dominates: none if it has an upper bound.
+/// Adds the pairs of a column with those columns of a row with these sides that it dominates: none if it has an upper bound.
 fn add_pairs_of(
     problem: &Problem,
-    column: u32,
+    sides: &Sides,
+    entry: &Term,
     terms: &[Term],
     pairs: &mut Vec<(u32, u32)>,
 ) -> Result<(), AllocError>
-    requires column { (column_at problem.now column).live ≡ true }
-    requires terms { All (λ t. (column_at problem.now t.id).live ≡ true) terms.now }
-    ensures { OnOk result (pairs.new.items ≡ pairs.old.items ++ pairs_beside problem.now column terms.now) }
+    requires column { (column_at problem.now entry.now.id).live ≡ true }
+    requires terms { All (λ u. (column_at problem.now u.id).live ≡ true) terms.now }
+    requires row { All (λ u. Tells problem.now sides.now entry.now u) terms.now }
+    ensures { OnOk result (pairs.new.items ≡ pairs.old.items ++ pairs_beside problem.now entry.now.id terms.now) }
 {
-    if !problem.bounds(column).upper.is_none() {
+    let bounds = problem.bounds(entry.id);
+    if !bounds.upper.is_none() {
         return Ok(());
     }
+    let better = Better {
+        entry: *entry,
+        cost: problem.cost(entry.id),
+        whole: bounds.whole,
+    };
     for term in terms {
-        add_pair(problem, column, term.id, pairs)?;
+        add_pair(problem, sides, &better, term, pairs)?;
     }
     Ok(())
 }
 
-/// Adds the pairs of the columns of a row of which the first dominates the second.
+/// Adds the pairs of the columns of a row with these sides of which the first dominates the second.
 fn add_pairs(
     problem: &Problem,
+    sides: &Sides,
     terms: &[Term],
     pairs: &mut Vec<(u32, u32)>,
 ) -> Result<(), AllocError>
-    requires { All (λ t. (column_at problem.now t.id).live ≡ true) terms.now }
+    requires terms { All (λ t. (column_at problem.now t.id).live ≡ true) terms.now }
+    requires row { All (λ t. All (λ u. Tells problem.now sides.now t u) terms.now) terms.now }
     ensures { OnOk result (pairs.new.items ≡ pairs.old.items ++ pairs_among problem.now terms.now terms.now) }
 {
     for term in terms {
-        add_pairs_of(problem, term.id, terms, pairs)?;
+        add_pairs_of(problem, sides, term, terms, pairs)?;
     }
     Ok(())
 }
@@ -227,7 +271,9 @@ pub fn pairs_at(alloc: Global, problem: &Problem, row: u32) -> Result<Vec<(u32, 
     if !is_short(problem, row) {
         return Ok(found);
     }
+    problem.is_sparse();
+    let sides = problem.sides(row);
     let terms = problem.row_terms(alloc, row)?;
-    add_pairs(problem, terms.as_slice(), &mut found)?;
+    add_pairs(problem, &sides, terms.as_slice(), &mut found)?;
     Ok(found)
 }
