@@ -1,0 +1,5 @@
+pub mod Rooms
+pub mod Pieces
+pub mod Reading
+pub mod Over
+

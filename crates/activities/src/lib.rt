@@ -1,0 +1,18 @@
+//! Activities: the least and the greatest value of a row within the bounds of its columns, exactly as they are made term by term, whole or
+//! with one column left out. A row's sums are made in one pass over it. Where the terms are fractions over one denominator that leaves room
+//! for their numerators in whatever order they are added, each rest is the sum less a term; of other rows the sums before each term are
+//! kept, and a rest is continued from there. `specs/` says what the activities are, and nothing of how they are made.
+#![tactic(auto)]
+
+mod common;
+pub mod exact;
+pub mod laws;
+mod prefixes;
+mod problem_rows;
+mod row_sums;
+mod span;
+mod sums;
+
+pub use problem_rows::{greatest, least};
+pub use row_sums::RowSums;
+pub use span::{Extreme, Span};

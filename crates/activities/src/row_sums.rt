@@ -1,0 +1,186 @@
+//! The sums of one row, made in one pass.
+
+ghost use Rattle.std.specs.Prelude.{◌≡◌, ◌<◌, ◌+◌, ◌++◌, length, take, drop, IfOk, IfSome, Ok};
+ghost use Rattle.rational.specs.Number.{zero_ℚ};
+ghost use Rattle.activities.specs.Kept.{IsKept};
+ghost use Rattle.activities.specs.CommonSums.{IsCommonSum};
+ghost use Rattle.activities.specs.RowSums.{activity as activity_by, rest as rest_without, row_sum, sum_from as sum_on};
+ghost use Rattle.activities.specs.Spans.{AreSpans, ends_at, span_at, spans_of as spans_with};
+
+use crate::common::{CommonSum, common_sum, told_activity, told_rest};
+use crate::prefixes::{continued_from, sums_before};
+use crate::span::{Extreme, Span, end_of, spans_of};
+use crate::sums::{all_finite, sum_from};
+use fractions::Past;
+use fractions::ext::Ext;
+use fractions::frac::Frac;
+use sparse_problem::Problem;
+use std::alloc::{AllocError, Global};
+use std::marker::Model;
+
+/// What is kept of a row.
+#[derive(Drop)]
+enum Kept {
+    /// The sum of its terms over one denominator, which has room in whatever order it is made.
+    Common(CommonSum),
+    /// The sums before each of its terms.
+    Before(Vec<Result<Frac, Past>>),
+}
+
+/// The entries of a row with the bounds of their columns, and what is kept of their sums. In a contract it is the entries.
+#[derive(Drop)]
+pub struct RowSums {
+    spans: Vec<Span>,
+    least: Kept,
+    greatest: Kept,
+}
+
+impl Model for RowSums {
+    ghost use Rattle.std.specs.Prelude.{List};
+    ghost use Rattle.std.specs.Coded.{codes};
+    ghost use Rattle.rational.specs.Lowest.{number_code};
+    ghost use Rattle.activities.specs.declared.span.Span.{Span};
+    ghost use Rattle.activities.specs.Kept.{AreRowSums};
+
+    ghost Value = { List Span };
+
+    ghost coded = { Prim.hlevel (codes, number_code) };
+
+    ghost view = { λ sums. sums.spans.items };
+
+    ghost invariant = { λ sums. AreRowSums sums.spans.items sums.least sums.greatest };
+}
+
+/// What is kept of entries.
+fn sums_of(alloc: Global, extreme: Extreme, spans: &[Span]) -> Result<Kept, AllocError>
+    ensures { IfOk result (IsKept (ends_at extreme spans.now)) }
+{
+    match common_sum(extreme, spans) {
+        Some(sum) => Ok(Kept::Common(sum)),
+        None => Ok(Kept::Before(sums_before(alloc, extreme, spans)?)),
+    }
+}
+
+/// The activity, term by term.
+fn activity_by_terms(extreme: Extreme, spans: &[Span]) -> Result<Ext, Past>
+    ensures { result ≡ activity_by extreme spans.now }
+{
+    if !all_finite(extreme, spans) {
+        return Ok(Ext::none());
+    }
+    let sum = sum_from(Frac::zero(), extreme, spans)?;
+    Ok(Ext::at(sum))
+}
+
+/// The activity of entries of which this is kept.
+fn activity_of(kept: &Kept, extreme: Extreme, spans: &[Span]) -> Result<Ext, Past>
+    requires { IsKept (ends_at extreme spans.now) kept.now }
+    ensures { result ≡ activity_by extreme spans.now }
+{
+    match kept {
+        Kept::Common(sum) => Ok(told_activity(sum)),
+        Kept::Before(_) => activity_by_terms(extreme, spans),
+    }
+}
+
+/// The rest by a sum of all.
+fn common_rest(sum: &CommonSum, extreme: Extreme, spans: &[Span], place: usize) -> Option<Ext>
+    requires sum { IsCommonSum (ends_at extreme spans.now) sum.now }
+    requires place { place < length spans.now }
+    ensures { IfSome result (λ e. row_sum (ends_at extreme (take place spans.now ++ drop (place + 1) spans.now)) ≡ Ok e) }
+{
+    let Ok(end) = end_of(extreme, &spans[place]) else {
+        return None;
+    };
+    told_rest(sum, &end)
+}
+
+/// The sum of the terms before a place.
+fn sum_before(kept: &Kept, extreme: Extreme, spans: &[Span], place: usize) -> Result<Frac, Past>
+    requires kept { IsKept (ends_at extreme spans.now) kept.now }
+    requires place { place < length spans.now }
+    ensures { result ≡ sum_on zero_ℚ (ends_at extreme (take place spans.now)) }
+{
+    match kept {
+        Kept::Before(sums) => sums[place],
+        Kept::Common(_) => sum_from(Frac::zero(), extreme, &spans[..place]),
+    }
+}
+
+/// The rest, continued from the sum before its place.
+fn rest_by_terms(kept: &Kept, extreme: Extreme, spans: &[Span], place: usize) -> Result<Ext, Past>
+    requires kept { IsKept (ends_at extreme spans.now) kept.now }
+    requires place { place < length spans.now }
+    ensures { result ≡ row_sum (ends_at extreme (take place spans.now ++ drop (place + 1) spans.now)) }
+{
+    let before = sum_before(kept, extreme, spans, place);
+    continued_from(before, extreme, &spans[..place], &spans[place + 1..])
+}
+
+/// The activity of entries of which this is kept, without the one at a place.
+fn rest_of(kept: &Kept, extreme: Extreme, spans: &[Span], place: usize) -> Result<Ext, Past>
+    requires kept { IsKept (ends_at extreme spans.now) kept.now }
+    requires place { place < length spans.now }
+    ensures { result ≡ row_sum (ends_at extreme (take place spans.now ++ drop (place + 1) spans.now)) }
+{
+    if let Kept::Common(sum) = kept {
+        if let Some(rest) = common_rest(sum, extreme, spans, place) {
+            return Ok(rest);
+        }
+    }
+    rest_by_terms(kept, extreme, spans, place)
+}
+
+impl RowSums {
+    /// The sums of a row, by its entries in live columns.
+    ///
+    /// # Errors
+    /// Memory ran out.
+    pub fn of_row(alloc: Global, problem: &Problem, row: u32) -> Result<RowSums, AllocError>
+        ensures { IfOk result (λ sums. sums ≡ spans_with problem.now row) }
+    {
+        let spans = spans_of(alloc, problem, row)?;
+        let least = sums_of(alloc, Extreme::Least, spans.as_slice())?;
+        let greatest = sums_of(alloc, Extreme::Greatest, spans.as_slice())?;
+        Ok(RowSums {
+            spans,
+            least,
+            greatest,
+        })
+    }
+
+    /// The entries with the bounds of their columns, by column id.
+    pub fn spans(&self) -> &[Span]
+        ensures value { result.now ≡ self.now }
+        ensures spans { AreSpans 0 self.now }
+    {
+        self.spans.as_slice()
+    }
+
+    /// The least, or the greatest, activity of the row.
+    ///
+    /// # Errors
+    /// [`Past`] exactly where all terms are finite and one of them, or a step of their sum in order, has no room.
+    pub fn activity(&self, extreme: Extreme) -> Result<Ext, Past>
+        ensures { result ≡ activity_by extreme self.now }
+    {
+        match extreme {
+            Extreme::Least => activity_of(&self.least, extreme, self.spans.as_slice()),
+            Extreme::Greatest => activity_of(&self.greatest, extreme, self.spans.as_slice()),
+        }
+    }
+
+    /// The same with the column of the entry at a place left out.
+    ///
+    /// # Errors
+    /// [`Past`] exactly where all other terms are finite and one of them, or a step of their sum in order, has no room.
+    pub fn rest(&self, extreme: Extreme, place: usize) -> Result<Ext, Past>
+        requires { place < length self.now }
+        ensures { result ≡ rest_without extreme (span_at self.now place).id self.now }
+    {
+        match extreme {
+            Extreme::Least => rest_of(&self.least, extreme, self.spans.as_slice(), place),
+            Extreme::Greatest => rest_of(&self.greatest, extreme, self.spans.as_slice(), place),
+        }
+    }
+}
