@@ -2,4 +2,5 @@ pub mod Rooms
 pub mod Pieces
 pub mod Reading
 pub mod Over
-
+pub mod Numerators
+pub mod Bridge

@@ -4,7 +4,6 @@ use Rattle.std.specs.List.{filter}
 use Rattle.rational.specs.Number.{Number, zero_ℚ}
 use Rattle.lp_model.specs.declared.terms.Term.{Term}
 use Rattle.lp_theory.specs.Activities.{least_term, greatest_term}
-use Rattle.problem_model.specs.declared.line.Bounds.{Bounds}
 use Rattle.problem_model.specs.declared.part.Contents.{Contents}
 use Rattle.problem_model.specs.declared.part.Contents.TheVariants as holds
 use Rattle.problem_model.specs.Matrices.{live_only}

@@ -124,5 +124,10 @@ pub fn greatest(problem: &Problem, row: u32, left_out: Option<u32>) -> Result<Ex
     ensures { result ≡ activity Greatest (left_in left_out (spans_with problem.now row)) }
 {
     let line = &problem.rows()[row as usize];
-    activity_of(problem, Extreme::Greatest, line.entries.as_slice(), left_out)
+    activity_of(
+        problem,
+        Extreme::Greatest,
+        line.entries.as_slice(),
+        left_out,
+    )
 }

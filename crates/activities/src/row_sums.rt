@@ -4,6 +4,7 @@ ghost use Rattle.std.specs.Prelude.{◌≡◌, ◌<◌, ◌+◌, ◌++◌, lengt
 ghost use Rattle.rational.specs.Number.{zero_ℚ};
 ghost use Rattle.activities.specs.Kept.{IsKept};
 ghost use Rattle.activities.specs.CommonSums.{IsCommonSum};
+ghost use Rattle.activities.specs.Prefixes.{sums_before as all_before};
 ghost use Rattle.activities.specs.RowSums.{activity as activity_by, rest as rest_without, row_sum, sum_from as sum_on};
 ghost use Rattle.activities.specs.Spans.{AreSpans, ends_at, span_at, spans_of as spans_with};
 
@@ -95,6 +96,20 @@ fn common_rest(sum: &CommonSum, extreme: Extreme, spans: &[Span], place: usize) 
     told_rest(sum, &end)
 }
 
+/// The sum before a place, of those before each term.
+fn sum_at(
+    sums: &[Result<Frac, Past>],
+    extreme: Extreme,
+    spans: &[Span],
+    place: usize,
+) -> Result<Frac, Past>
+    requires sums { sums.now ≡ all_before (Ok zero_ℚ) (ends_at extreme spans.now) }
+    requires place { place < length spans.now }
+    ensures { result ≡ sum_on zero_ℚ (ends_at extreme (take place spans.now)) }
+{
+    sums[place]
+}
+
 /// The sum of the terms before a place.
 fn sum_before(kept: &Kept, extreme: Extreme, spans: &[Span], place: usize) -> Result<Frac, Past>
     requires kept { IsKept (ends_at extreme spans.now) kept.now }
@@ -102,7 +117,7 @@ fn sum_before(kept: &Kept, extreme: Extreme, spans: &[Span], place: usize) -> Re
     ensures { result ≡ sum_on zero_ℚ (ends_at extreme (take place spans.now)) }
 {
     match kept {
-        Kept::Before(sums) => sums[place],
+        Kept::Before(sums) => sum_at(sums.as_slice(), extreme, spans, place),
         Kept::Common(_) => sum_from(Frac::zero(), extreme, &spans[..place]),
     }
 }
@@ -131,6 +146,16 @@ fn rest_of(kept: &Kept, extreme: Extreme, spans: &[Span], place: usize) -> Resul
     rest_by_terms(kept, extreme, spans, place)
 }
 
+/// The same, by the column of the entry.
+fn rest_off(kept: &Kept, extreme: Extreme, spans: &[Span], place: usize) -> Result<Ext, Past>
+    requires spans { AreSpans 0 spans.now }
+    requires kept { IsKept (ends_at extreme spans.now) kept.now }
+    requires place { place < length spans.now }
+    ensures { result ≡ rest_without extreme (span_at spans.now place).id spans.now }
+{
+    rest_of(kept, extreme, spans, place)
+}
+
 impl RowSums {
     /// The sums of a row, by its entries in live columns.
     ///
@@ -139,6 +164,7 @@ impl RowSums {
     pub fn of_row(alloc: Global, problem: &Problem, row: u32) -> Result<RowSums, AllocError>
         ensures { IfOk result (λ sums. sums ≡ spans_with problem.now row) }
     {
+        problem.is_sparse();
         let spans = spans_of(alloc, problem, row)?;
         let least = sums_of(alloc, Extreme::Least, spans.as_slice())?;
         let greatest = sums_of(alloc, Extreme::Greatest, spans.as_slice())?;
@@ -179,8 +205,8 @@ impl RowSums {
         ensures { result ≡ rest_without extreme (span_at self.now place).id self.now }
     {
         match extreme {
-            Extreme::Least => rest_of(&self.least, extreme, self.spans.as_slice(), place),
-            Extreme::Greatest => rest_of(&self.greatest, extreme, self.spans.as_slice(), place),
+            Extreme::Least => rest_off(&self.least, extreme, self.spans.as_slice(), place),
+            Extreme::Greatest => rest_off(&self.greatest, extreme, self.spans.as_slice(), place),
         }
     }
 }
