@@ -234,19 +234,19 @@ infinite_more es s t h d total sizes infinite = record {
     plain n = omega arith
 
 -- a common multiple
-pub common_is : (c k : ℕ) → 0 < c → 0 < k → c * (k / gcd k c) < 2 ^ 127 → IsCommonMultiple c k (c * (k / gcd k c))
-common_is c k h l s = record { positive = mul-pos h (quotient_pos (gcd k c) k (gcd-IsGcd k c).0 l); short = s; first = dvd-mul_right c (k / gcd k c); second = second }
+pub common_is : (c k : ℕ) → 0 < c → 0 < k → c * (k / gcd c k) < 2 ^ 127 → IsCommonMultiple c k (c * (k / gcd c k))
+common_is c k h l s = record { positive = mul-pos h (quotient_pos (gcd c k) k (gcd-IsGcd c k).1 l); short = s; first = dvd-mul_right c (k / gcd c k); second = second }
   where
     by : (x g y : ℕ) → (x * g) * y ≡ (y * g) * x
     by x g y = omega arith
 
-    second : k ∣ c * (k / gcd k c)
+    second : k ∣ c * (k / gcd c k)
     second =
-        let e : c / gcd k c * gcd k c ≡ c = div-mul_cancel (gcd k c) (gcd-IsGcd k c).1 in
-        let f : k / gcd k c * gcd k c ≡ k = div-mul_cancel (gcd k c) (gcd-IsGcd k c).0 in
+        let e : c / gcd c k * gcd c k ≡ c = div-mul_cancel (gcd c k) (gcd-IsGcd c k).0 in
+        let f : k / gcd c k * gcd c k ≡ k = div-mul_cancel (gcd c k) (gcd-IsGcd c k).1 in
         subst (λ n. k ∣ n)
-        (ap (λ n. n * (c / gcd k c)) (sym f) ∙ by (k / gcd k c) (gcd k c) (c / gcd k c) ∙ ap (λ n. n * (k / gcd k c)) e)
-        (dvd-mul_right k (c / gcd k c))
+        (ap (λ n. n * (c / gcd c k)) (sym f) ∙ by (k / gcd c k) (gcd c k) (c / gcd c k) ∙ ap (λ n. n * (k / gcd c k)) e)
+        (dvd-mul_right k (c / gcd c k))
 
 pub no_terms-are : (s : CommonSum) → s.denominator ≡ 1 → s.total ≡ pos 0 → s.sizes ≡ 0 → s.infinite ≡ 0 → IsCommonSum [] s
 no_terms-are s d t z i = record {

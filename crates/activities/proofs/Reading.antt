@@ -13,8 +13,6 @@ use Rattle.problem_model.specs.Sparse.{Sparse}
 use Rattle.problem_laws.proofs.Entries.{row_entries-live, row_entries-ascend}
 use Rattle.activities.specs.Spans.{span_of, spans_of, spans_from, joined, AreSpans}
 
-pub ruleset live_rules = (row_entries-live)
-
 -- the spans of terms are spans
 pub are_spans : (p : Sparse) (ts : List Term) (m n : ℕ) → Ascends m n ts → AreSpans m (map (span_of p) ts)
 are_spans p [] m n a = tt

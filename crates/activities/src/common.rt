@@ -44,7 +44,7 @@ fn common_multiple(common: u128, other: u128) -> Option<u128>
     requires other { 0 < other }
     ensures { IfSome result (IsCommonMultiple common other) }
 {
-    let part = quotient(other, gcd(other, common));
+    let part = quotient(other, gcd(common, other));
     match common.checked_mul(part) {
         Some(all) if all < 1 << 127 => Some(all),
         _ => None,

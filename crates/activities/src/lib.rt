@@ -1,7 +1,7 @@
 //! Activities: the least and the greatest value of a row within the bounds of its columns, exactly as they are made term by term, whole or
-//! with one column left out. A row's sums are made in one pass over it. Where the terms are fractions over one denominator that leaves room
-//! for their numerators in whatever order they are added, each rest is the sum less a term; of other rows the sums before each term are
-//! kept, and a rest is continued from there. `specs/` says what the activities are, and nothing of how they are made.
+//! with one column left out. A sum of a row is made in one pass along it. Where its terms are fractions over one denominator, and this and
+//! the sum of the absolute numerators have room, no order of adding them is past, and a rest is the sum less a term; of other rows the sums
+//! before each term are kept, and a rest is continued from there. `specs/` says what the activities are, and nothing of how they are made.
 #![tactic(auto)]
 
 mod common;
@@ -16,3 +16,6 @@ mod sums;
 pub use problem_rows::{greatest, least};
 pub use row_sums::RowSums;
 pub use span::{Extreme, Span};
+
+#[cfg(test)]
+mod tests;

@@ -21,7 +21,7 @@ use std::marker::Model;
 
 /// What is kept of a row.
 #[derive(Drop)]
-enum Kept {
+pub(crate) enum Kept {
     /// The sum of its terms over one denominator, which has room in whatever order it is made.
     Common(CommonSum),
     /// The sums before each of its terms.
@@ -53,7 +53,7 @@ impl Model for RowSums {
 }
 
 /// What is kept of entries.
-fn sums_of(alloc: Global, extreme: Extreme, spans: &[Span]) -> Result<Kept, AllocError>
+pub(crate) fn sums_of(alloc: Global, extreme: Extreme, spans: &[Span]) -> Result<Kept, AllocError>
     ensures { IfOk result (IsKept (ends_at extreme spans.now)) }
 {
     match common_sum(extreme, spans) {
@@ -63,7 +63,7 @@ fn sums_of(alloc: Global, extreme: Extreme, spans: &[Span]) -> Result<Kept, Allo
 }
 
 /// The activity, term by term.
-fn activity_by_terms(extreme: Extreme, spans: &[Span]) -> Result<Ext, Past>
+pub(crate) fn activity_by_terms(extreme: Extreme, spans: &[Span]) -> Result<Ext, Past>
     ensures { result ≡ activity_by extreme spans.now }
 {
     if !all_finite(extreme, spans) {
@@ -74,7 +74,7 @@ fn activity_by_terms(extreme: Extreme, spans: &[Span]) -> Result<Ext, Past>
 }
 
 /// The activity of entries of which this is kept.
-fn activity_of(kept: &Kept, extreme: Extreme, spans: &[Span]) -> Result<Ext, Past>
+pub(crate) fn activity_of(kept: &Kept, extreme: Extreme, spans: &[Span]) -> Result<Ext, Past>
     requires { IsKept (ends_at extreme spans.now) kept.now }
     ensures { result ≡ activity_by extreme spans.now }
 {
@@ -133,7 +133,12 @@ fn rest_by_terms(kept: &Kept, extreme: Extreme, spans: &[Span], place: usize) ->
 }
 
 /// The activity of entries of which this is kept, without the one at a place.
-fn rest_of(kept: &Kept, extreme: Extreme, spans: &[Span], place: usize) -> Result<Ext, Past>
+pub(crate) fn rest_of(
+    kept: &Kept,
+    extreme: Extreme,
+    spans: &[Span],
+    place: usize,
+) -> Result<Ext, Past>
     requires kept { IsKept (ends_at extreme spans.now) kept.now }
     requires place { place < length spans.now }
     ensures { result ≡ row_sum (ends_at extreme (take place spans.now ++ drop (place + 1) spans.now)) }
@@ -147,7 +152,12 @@ fn rest_of(kept: &Kept, extreme: Extreme, spans: &[Span], place: usize) -> Resul
 }
 
 /// The same, by the column of the entry.
-fn rest_off(kept: &Kept, extreme: Extreme, spans: &[Span], place: usize) -> Result<Ext, Past>
+pub(crate) fn rest_off(
+    kept: &Kept,
+    extreme: Extreme,
+    spans: &[Span],
+    place: usize,
+) -> Result<Ext, Past>
     requires spans { AreSpans 0 spans.now }
     requires kept { IsKept (ends_at extreme spans.now) kept.now }
     requires place { place < length spans.now }

@@ -1,12 +1,11 @@
 //! Entries of a row with the bounds of their columns.
 
-ghost use Rattle.std.specs.Prelude.{◌≡◌, true, IfOk, map};
-ghost use Rattle.std.specs.List.{All};
+ghost use Rattle.std.specs.Prelude.{◌≡◌, ◌++◌, ◌∷◌, [], true, IfOk, OnOk};
 ghost use Rattle.rational.specs.Ends.{scaled};
 ghost use Rattle.lp_theory.specs.Activities.{least_term};
 ghost use Rattle.problem_model.specs.Problems.{column_at};
 ghost use Rattle.activities.specs.Exact.{exact_end};
-ghost use Rattle.activities.specs.Spans.{end_at, span_of as span_with, spans_of as spans_with};
+ghost use Rattle.activities.specs.Spans.{end_at, span_of as span_with, spans_among, spans_of as spans_with};
 
 use crate::exact::scaled_end;
 use fractions::Past;
@@ -55,25 +54,37 @@ pub(crate) fn span_of(problem: &Problem, term: &Term) -> Span
     }
 }
 
-/// Terms with their columns' bounds.
-fn with_bounds(alloc: Global, problem: &Problem, terms: &[Term]) -> Result<Vec<Span>, AllocError>
-    requires { All (λ t. (column_at problem.now t.id).live ≡ true) terms.now }
-    ensures { IfOk result (λ spans. spans.items ≡ map (span_with problem.now) terms.now) }
+/// Adds a term with its column's bounds, where the column is live.
+fn push_live(spans: &mut Vec<Span>, problem: &Problem, term: &Term) -> Result<(), AllocError>
+    ensures { OnOk result (spans.new.items ≡ spans.old.items ++ spans_among problem.now (term.now ∷ [])) }
+{
+    if problem.is_column_live(term.id) {
+        spans.push(span_of(problem, term))?;
+    }
+    Ok(())
+}
+
+/// The terms at live columns, with those columns' bounds.
+fn spans_of_terms(alloc: Global, problem: &Problem, terms: &[Term]) -> Result<Vec<Span>, AllocError>
+    ensures { IfOk result (λ spans. spans.items ≡ spans_among problem.now terms.now) }
 {
     let mut spans = Vec::with_capacity(alloc, terms.len())?;
-    for term in terms {
-        spans.push(span_of(problem, term))?;
+    let mut rest = terms;
+    while let [term, after @ ..] = rest {
+        push_live(&mut spans, problem, term)?;
+        rest = after;
     }
     Ok(spans)
 }
 
-/// The entries of a row in live columns, with those columns' bounds.
-#[tactic(auto, using(crate::proofs::Reading::live_rules))]
+/// The entries of a row in live columns, with those columns' bounds. A row past the last has none.
 pub(crate) fn spans_of(alloc: Global, problem: &Problem, row: u32) -> Result<Vec<Span>, AllocError>
     ensures { IfOk result (λ spans. spans.items ≡ spans_with problem.now row) }
 {
-    let terms = problem.row_terms(alloc, row)?;
-    with_bounds(alloc, problem, terms.as_slice())
+    match problem.rows().get(row as usize) {
+        Some(line) => spans_of_terms(alloc, problem, line.entries.as_slice()),
+        None => Ok(Vec::new(alloc)),
+    }
 }
 
 /// The end at which the product with a number is least, where the first is the lower one; 0 where the number is.

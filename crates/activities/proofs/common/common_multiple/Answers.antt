@@ -6,5 +6,5 @@ use Rattle.activities.proofs.common.common_multiple.Goals as goal
 
 pub returns-in-Some : goal.returns-in-Some
 returns-in-Some c =
-    let e : c.in-Some.all ≡ c.args.common * (c.args.other / gcd c.args.other c.args.common) = c.in-Some.ensures.1 ∙ ap (λ (n : ℕ). c.args.common * n) (c.quotient-part.ensures ∙ ap (λ (n : ℕ). c.args.other / n) c.gcd.ensures.value) in
+    let e : c.in-Some.all ≡ c.args.common * (c.args.other / gcd c.args.common c.args.other) = c.in-Some.ensures.1 ∙ ap (λ (n : ℕ). c.args.common * n) (c.quotient-part.ensures ∙ ap (λ (n : ℕ). c.args.other / n) c.gcd.ensures.value) in
     subst (IsCommonMultiple c.args.common c.args.other) (sym e) (common_is c.args.common c.args.other c.requires.common c.requires.other (subst (λ (n : ℕ). n < 2 ^ 127) e c.if-all.true))
