@@ -22,11 +22,11 @@ pub spans_of-are : (p : Sparse) (i : ℕ) → IsSparse p → AreSpans 0 (spans_o
 spans_of-are p i s = are_spans p (row_entries p i) 0 (length p.matrix.columns) (row_entries-ascend p i s)
 
 -- what is read of live columns gives their spans
-spans_read : (p : Sparse) (ts : List Term) → All (λ t. (column_at p t.id).live ≡ true) ts → spans_from ts (map (λ t. contents_of p (part.Bounds t.id)) ts) ≡ Some (map (span_of p) ts)
+spans_read : (p : Sparse) (ts : List Term) → All (λ t. (column_at p t.id).live ≡ true) ts → spans_from ts (map (contents_of p) (map (λ t. part.Bounds t.id) ts)) ≡ Some (map (span_of p) ts)
 spans_read p [] h = refl
 spans_read p (t ∷ ts) h =
-    ap (λ (b : Bool). spans_from (t ∷ ts) ((if b then holds.Bounds (bounds_at p t.id).lower (bounds_at p t.id).upper (bounds_at p t.id).whole else holds.Gone) ∷ map (λ t. contents_of p (part.Bounds t.id)) ts)) (All-head (λ t. (column_at p t.id).live ≡ true) t ts h)
+    ap (λ (b : Bool). spans_from (t ∷ ts) ((if b then holds.Bounds (bounds_at p t.id).lower (bounds_at p t.id).upper (bounds_at p t.id).whole else holds.Gone) ∷ map (contents_of p) (map (λ t. part.Bounds t.id) ts))) (All-head (λ t. (column_at p t.id).live ≡ true) t ts h)
     ∙ ap (joined (span_of p t)) (spans_read p ts (All-tail (λ t. (column_at p t.id).live ≡ true) t ts h))
 
-pub row_is_read : (p : Sparse) (i : ℕ) → spans_from (row_entries p i) (map (λ t. contents_of p (part.Bounds t.id)) (row_entries p i)) ≡ Some (spans_of p i)
+pub row_is_read : (p : Sparse) (i : ℕ) → spans_from (row_entries p i) (map (contents_of p) (map (λ t. part.Bounds t.id) (row_entries p i))) ≡ Some (spans_of p i)
 row_is_read p i = spans_read p (row_entries p i) (row_entries-live p i)

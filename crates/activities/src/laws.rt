@@ -23,6 +23,6 @@ pub fn row_sums_are_activities()
 
 /// What is read of a row's entries and of the bounds of their columns gives its entries with these bounds; their ids ascend, and none is 0.
 pub fn spans_are_read()
-    ensures read { (p : Sparse) (i : ℕ) → spans_from (row_entries p i) (map (λ t. contents_of p (part.Bounds t.id)) (row_entries p i)) ≡ Some (spans_of p i) }
+    ensures read { (p : Sparse) (i : ℕ) → spans_from (row_entries p i) (map (contents_of p) (map (λ t. part.Bounds t.id) (row_entries p i))) ≡ Some (spans_of p i) }
     ensures spans { (p : Sparse) (i : ℕ) → IsSparse p → AreSpans 0 (spans_of p i) }
 {}

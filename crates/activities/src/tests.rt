@@ -1,5 +1,5 @@
 use crate::common::common_sum;
-use crate::row_sums::{Kept, activity_by_terms, activity_of, rest_of, sums_of};
+use crate::row_sums::{activity_by_terms, activity_of, rest_of, sums_of};
 use crate::span::{Extreme, Span};
 use fractions::Past;
 use fractions::ext::Ext;
@@ -10,6 +10,16 @@ use std::test::Fail;
 
 const MOST: i128 = i128::MAX;
 
+const LONG: u128 = 1 << 64;
+
+const NO_END: i128 = i128::MIN;
+
+/// An entry as numerator and denominator, with the bounds of its column.
+type Entry = (i128, u128, i128, i128);
+
+/// No entry.
+const NONE: Entry = (0, 1, 0, 0);
+
 /// `n / d`, and 0 where that has no meaning.
 fn number(n: i128, d: u128) -> Frac {
     if n == i128::MIN || d == 0 || d > MOST as u128 {
@@ -18,22 +28,33 @@ fn number(n: i128, d: u128) -> Frac {
     Frac::ratio_of(Whole::new(n), d)
 }
 
-fn at(n: i128) -> Ext {
-    Ext::at(number(n, 1))
-}
-
-fn span(id: u32, value: Frac, lower: Ext, upper: Ext) -> Span {
-    Span {
-        id,
-        value,
-        lower,
-        upper,
-        whole: false,
+fn end(n: i128) -> Ext {
+    if n == NO_END {
+        Ext::none()
+    } else {
+        Ext::at(number(n, 1))
     }
 }
 
-fn from_0_to(id: u32, upper: i128) -> Span {
-    span(id, Frac::one(), at(0), at(upper))
+/// The spans of entries, but for those at one place.
+fn spans_but(
+    alloc: Global,
+    entries: &[Entry],
+    left_out: Option<usize>,
+) -> Result<Vec<Span>, AllocError> {
+    let mut spans = Vec::new(alloc);
+    for (place, (n, d, lower, upper)) in entries.iter().enumerate() {
+        if *n != 0 && left_out != Some(place) {
+            spans.push(Span {
+                id: 0,
+                value: number(*n, *d),
+                lower: end(*lower),
+                upper: end(*upper),
+                whole: false,
+            })?;
+        }
+    }
+    Ok(spans)
 }
 
 fn is_same(one: &Result<Ext, Past>, other: &Result<Ext, Past>) -> bool {
@@ -44,83 +65,70 @@ fn is_same(one: &Result<Ext, Past>, other: &Result<Ext, Past>) -> bool {
     }
 }
 
-/// The spans but the one at a place.
-fn others(alloc: Global, spans: &[Span], place: usize) -> Result<Vec<Span>, AllocError> {
-    let mut rest = Vec::new(alloc);
-    for (k, span) in spans.iter().enumerate() {
-        if k != place {
-            rest.push(*span)?;
-        }
-    }
-    Ok(rest)
-}
-
-/// Whether the activity is this one, also term by term, and each rest is the activity of the other spans.
+/// Whether the greatest activity is this one, also term by term, and each rest is the activity of the other entries.
 fn is_told(
     alloc: Global,
-    extreme: Extreme,
-    spans: &[Span],
+    entries: &[Entry],
+    one_sum: bool,
     expected: &Result<Ext, Past>,
 ) -> Result<bool, AllocError> {
-    let kept = sums_of(alloc, extreme, spans)?;
-    let mut good = is_same(&activity_of(&kept, extreme, spans), expected)
-        && is_same(&activity_by_terms(extreme, spans), expected);
+    let spans = spans_but(alloc, entries, None)?;
+    let spans = spans.as_slice();
+    let kept = sums_of(alloc, Extreme::Greatest, spans)?;
+    let mut good = common_sum(Extreme::Greatest, spans).is_some() == one_sum
+        && is_same(&activity_of(&kept, Extreme::Greatest, spans), expected)
+        && is_same(&activity_by_terms(Extreme::Greatest, spans), expected);
     for place in 0..spans.len() {
-        let rest = others(alloc, spans, place)?;
-        let by_terms = activity_by_terms(extreme, rest.as_slice());
-        good = good && is_same(&rest_of(&kept, extreme, spans, place), &by_terms);
+        let others = spans_but(alloc, entries, Some(place))?;
+        let by_terms = activity_by_terms(Extreme::Greatest, others.as_slice());
+        good = good && is_same(&rest_of(&kept, Extreme::Greatest, spans, place), &by_terms);
     }
     Ok(good)
 }
 
 #[test]
 fn by_one_sum_and_by_terms(rt: HostRuntime) -> Result<(), Fail> {
-    let none = Ext::none();
-    let long = 1 << 64;
-    let one_entry = [span(0, number(-2, 1), at(1), at(3))];
-    let two_63_reached = [from_0_to(0, 1 << 62), from_0_to(3, 1 << 62)];
-    let two_63_passed = [from_0_to(0, 1 << 63), from_0_to(3, 1)];
-    let most_reached = [from_0_to(0, MOST - 1), from_0_to(3, 1)];
-    let most_passed = [from_0_to(0, MOST), from_0_to(3, 1), from_0_to(4, 2)];
-    let sizes_passed = [
-        from_0_to(0, MOST),
-        span(3, number(-1, 1), at(1), at(1)),
-        span(5, number(1, 2), at(0), at(0)),
-    ];
-    let thirds = [
-        span(0, number(1, 3), at(0), at(1)),
-        span(1, number(1, 6), at(0), at(1)),
-    ];
-    let denominators_pass = [
-        span(0, number(1, long + 1), at(0), at(1)),
-        from_0_to(1, 0),
-        span(2, number(1, long - 1), at(0), at(1)),
-    ];
-    let no_end = [from_0_to(0, 1), span(1, Frac::one(), at(0), none)];
-    let no_ends = [
-        span(0, Frac::one(), at(0), none),
-        from_0_to(1, MOST),
-        span(2, number(-1, 1), none, none),
-        from_0_to(3, MOST),
-    ];
+    let small = (1, 1, 0, 1);
+    let half = Ext::at(number(1, 2));
     let rows = [
-        (&one_entry[..], true, Ok(at(-2))),
-        (&two_63_reached[..], true, Ok(at(1 << 63))),
-        (&two_63_passed[..], true, Ok(at((1 << 63) + 1))),
-        (&most_reached[..], true, Ok(at(MOST))),
-        (&most_passed[..], false, Err(Past)),
-        (&sizes_passed[..], false, Ok(at(MOST - 1))),
-        (&thirds[..], true, Ok(Ext::at(number(1, 2)))),
-        (&denominators_pass[..], false, Err(Past)),
-        (&no_end[..], true, Ok(none)),
-        (&no_ends[..], false, Ok(none)),
+        ([(-2, 1, 1, 3), NONE, NONE], true, Ok(end(-2))),
+        (
+            [(1, 1, 0, 1 << 62), (1, 1, 0, 1 << 62), NONE],
+            true,
+            Ok(end(1 << 63)),
+        ),
+        (
+            [(1, 1, 0, 1 << 63), small, NONE],
+            true,
+            Ok(end((1 << 63) + 1)),
+        ),
+        ([(1, 1, 0, MOST - 1), small, NONE], true, Ok(end(MOST))),
+        ([(1, 1, 0, MOST), small, small], false, Err(Past)),
+        (
+            [(1, 1, 0, MOST), (-1, 1, 1, 1), NONE],
+            false,
+            Ok(end(MOST - 1)),
+        ),
+        ([(1, 3, 0, 1), (1, 6, 0, 1), NONE], true, Ok(half)),
+        (
+            [(1, LONG + 1, 0, 1), small, (1, LONG - 1, 0, 1)],
+            false,
+            Err(Past),
+        ),
+        ([(1, 1, 0, NO_END), small, small], true, Ok(Ext::none())),
+        (
+            [(1, 1, 0, NO_END), (1, 1, 0, MOST), (1, 1, 0, MOST)],
+            false,
+            Ok(Ext::none()),
+        ),
+        (
+            [(1, 1, 0, NO_END), (-1, 1, NO_END, 0), small],
+            true,
+            Ok(Ext::none()),
+        ),
     ];
-    for (spans, one_sum, greatest) in rows {
-        assert!(rt; common_sum(Extreme::Greatest, spans).is_some() == one_sum);
-        assert!(rt; is_told(rt.alloc(), Extreme::Greatest, spans, &greatest)?);
+    for (entries, one_sum, greatest) in rows {
+        assert!(rt; is_told(rt.alloc(), &entries, one_sum, &greatest)?);
     }
-    assert!(rt; is_told(rt.alloc(), Extreme::Least, &one_entry, &Ok(at(-6)))?);
-    assert!(rt; is_told(rt.alloc(), Extreme::Least, &no_end, &Ok(at(0)))?);
-    assert!(rt; is_told(rt.alloc(), Extreme::Least, &no_ends, &Ok(none))?);
     Ok(())
 }
