@@ -1,3 +1,5 @@
 pub mod Rows
 pub mod RedundantRow
+pub mod RedundantSide
+pub mod ForcingRow
 pub mod OutOfReach

@@ -73,6 +73,11 @@ known p i test s live e = by (activity Least (spans_of p i)) (activity Greatest 
     by (Ok x) (Err y) f g h = absurd (not_true h)
     by (Err x) b f g h = absurd (not_true h)
 
+-- and what else is asked of them is asked of those of the row
+pub made : (p : Sparse) (i : ℕ) (test : Option Number → Option Number → Bool) → activity Least (spans_of p i) ≡ Ok (least (shown p) i) → activity Greatest (spans_of p i) ≡ Ok (greatest (shown p) i)
+    → on_activities test (spans_of p i) ≡ test (least (shown p) i) (greatest (shown p) i)
+made p i test f g = ap₂ (on_both test) f g
+
 -- a side that is kept
 pub low_below : (l e : Option Number) → keeps_lower l e ≡ true → LowBelow l e
 low_below None e h = tt

@@ -5,11 +5,23 @@
 ghost use Rattle.lp_model.specs.Verdicts.{NoPoint};
 ghost use Rattle.rule_words.specs.Owed.{RuleDecides, RuleOwes};
 ghost use Rattle.activity_laws.specs.RedundantRow as redundant_row;
+ghost use Rattle.activity_laws.specs.RedundantSide as redundant_side;
+ghost use Rattle.activity_laws.specs.ForcingRow as forcing_row;
 ghost use Rattle.activity_laws.specs.OutOfReach as out_of_reach;
 
 /// Each row whose sides its columns' bounds keep can be deleted.
 pub fn redundant_rows_can_be_deleted()
     ensures { RuleOwes redundant_row.enabled redundant_row.edits redundant_row.record_of }
+{}
+
+/// Of two sides of a row the one that its columns' bounds keep can become infinite.
+pub fn redundant_sides_can_be_dropped()
+    ensures { RuleOwes redundant_side.enabled redundant_side.edits redundant_side.record_of }
+{}
+
+/// Each column of a row that reaches a side only where its columns are at one end can be fixed there, and the row can be deleted.
+pub fn forcing_rows_fix_their_columns()
+    ensures { RuleOwes forcing_row.enabled forcing_row.edits forcing_row.record_of }
 {}
 
 /// A row of which a side is out of reach of its columns' bounds says that no point is feasible.
