@@ -1,5 +1,5 @@
--- K7: a row that its columns' bounds let reach a side, and nothing within it, is deleted, and each of its columns is fixed at the end
--- that it has there.
+-- K7: a row that only just reaches one of its sides, and that only where each of its columns is at one end, is deleted, and the columns
+-- are fixed there.
 use Rattle.std.specs.Prelude.{ℕ, ⊤, Bool, false, ◌&&◌, ◌||◌, if◌then◌else◌, List, [], ◌∷◌, ◌++◌, map, Option, Some, None}
 use Rattle.rational.specs.Number.{Number, zero_ℚ}
 use Rattle.rational.specs.Compare.{lt_ℚ}

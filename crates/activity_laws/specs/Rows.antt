@@ -59,13 +59,13 @@ on_both test least greatest = false
 abbrev pub on_activities : (Option Number → Option Number → Bool) → List Span → Bool
 on_activities test ss = on_both test (activity Least ss) (activity Greatest ss)
 
--- the bounds of the row's columns keep its lower side, where the least activity is given: it is at least that side
+-- the columns' bounds keep a lower side: the least activity is at least it
 abbrev pub keeps_lower : Option Number → Option Number → Bool
 keeps_lower None least = true
 keeps_lower (Some l) None = false
 keeps_lower (Some l) (Some v) = le_ℚ l v
 
--- or its upper side: the greatest activity is at most that
+-- and an upper side: the greatest activity is at most it
 abbrev pub keeps_upper : Option Number → Option Number → Bool
 keeps_upper None greatest = true
 keeps_upper (Some u) None = false

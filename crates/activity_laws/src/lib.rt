@@ -2,11 +2,16 @@
 //! functions here do nothing when they run: each states the law of a rule, and its check proves it.
 #![tactic(auto)]
 
+ghost use Rattle.std.specs.Prelude.{◌≡◌, ℕ, true};
 ghost use Rattle.lp_model.specs.Verdicts.{NoPoint};
-ghost use Rattle.rule_words.specs.Owed.{RuleDecides, RuleOwes};
+ghost use Rattle.undo_records.specs.declared.side.Side.{Side};
+ghost use Rattle.problem_model.specs.Problems.{IsSparse};
+ghost use Rattle.problem_model.specs.Sparse.{Sparse};
+ghost use Rattle.rule_words.specs.Owed.{Owes, RuleDecides, RuleOwes};
 ghost use Rattle.activity_laws.specs.RedundantRow as redundant_row;
 ghost use Rattle.activity_laws.specs.RedundantSide as redundant_side;
 ghost use Rattle.activity_laws.specs.ForcingRow as forcing_row;
+ghost use Rattle.activity_laws.specs.TightenedBound as tightened_bound;
 ghost use Rattle.activity_laws.specs.OutOfReach as out_of_reach;
 
 /// Each row whose sides its columns' bounds keep can be deleted.
@@ -22,6 +27,11 @@ pub fn redundant_sides_can_be_dropped()
 /// Each column of a row that reaches a side only where its columns are at one end can be fixed there, and the row can be deleted.
 pub fn forcing_rows_fix_their_columns()
     ensures { RuleOwes forcing_row.enabled forcing_row.edits forcing_row.record_of }
+{}
+
+/// A bound of a column can become the one that a row implies with the bounds of its other columns.
+pub fn bounds_can_be_tightened()
+    ensures { (p : Sparse) (i j : ℕ) (side : Side) → IsSparse p → tightened_bound.enabled p i j side ≡ true → Owes p (tightened_bound.edits p i j side) (tightened_bound.record_of p i j side) }
 {}
 
 /// A row of which a side is out of reach of its columns' bounds says that no point is feasible.

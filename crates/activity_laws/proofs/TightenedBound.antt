@@ -1,0 +1,225 @@
+-- K8.
+use Rattle.std.proofs.Common.{◌≡◌, ◌≢◌, ◌⊎◌, inl, inr, ℕ, length, Bool, true, false, List, [], ◌∷◌, map, Option, Some, None, Result, Ok, Err, refl, sym, ap, ap₂, ◌∙◌, subst}
+use Rattle.std.specs.Prelude.{if◌then◌else◌}
+use Rattle.std.specs.List.{All}
+use Rattle.std.proofs.lemmas.Bool.{and_parts, cases_eq, eq-eqb, ne_eqb}
+use Rattle.std.proofs.lemmas.List.Elements.{All-cons, All-head}
+use Rattle.rational.specs.Number.{Number, zero_ℚ, neg_ℚ, ◌-ℚ◌}
+use Rattle.rational.specs.Division.{◌/ℚ◌}
+use Rattle.rational.specs.Order.{<ℚ-≤ℚ}
+use Rattle.rational.specs.Compare.{lt_ℚ}
+use Rattle.rational.specs.Ends.{HighAbove, LowBelow, minus_ends, over}
+use Rattle.rational.proofs.Comparisons.{lt_ℚ-is}
+use Rattle.fractions.specs.declared.Past.{Past}
+use Rattle.lp_model.specs.Edits.{with_bounds}
+use Rattle.lp_model.specs.EndTests.{is_apart}
+use Rattle.lp_model.specs.LinearProgram.{LinearProgram}
+use Rattle.lp_model.specs.Sparse.{dense, has}
+use Rattle.lp_model.specs.declared.program.Sense.TheVariants.{Min}
+use Rattle.lp_model.specs.declared.terms.Term.{Term}
+use Rattle.lp_theory.specs.Activities.{greatest_rest, least_rest}
+use Rattle.lp_rows.specs.TightenedBound.{implied_lower, implied_upper, lower_bound_tightened, upper_bound_tightened}
+use Rattle.lp_rows.proofs.TightenedBound.{lower_bound_implied, upper_bound_implied}
+use Rattle.undo_records.specs.Walk.{ids_of, is_on}
+use Rattle.undo_records.specs.declared.side.Side.{Side}
+use Rattle.undo_records.specs.declared.side.Side.TheVariants.{Lower, Upper}
+use Rattle.problem_model.specs.declared.edit.Edit.TheVariants.{SetBounds}
+use Rattle.problem_model.specs.Problems.{row_at, column_at, sides_at, bounds_at, row_entries, IsSparse}
+use Rattle.problem_model.specs.Showing.{shown}
+use Rattle.problem_model.specs.Sparse.{Sparse}
+use Rattle.problem_laws.proofs.AtIds.{column_inside, row_inside}
+use Rattle.problem_laws.proofs.Entries.{has-live_only, row_entries-ascend}
+use Rattle.problem_laws.proofs.Terms.{dense-cons_other, dense-cons_same, dense-named, has-cons_other, has-cons_same}
+use Rattle.rule_words.specs.Owed.{Owes}
+use Rattle.rule_words.proofs.Coefficients.{coefficient_in_row, end_live}
+use Rattle.rule_words.proofs.EndTestsSay.{not_true}
+use Rattle.rule_words.proofs.Named.{ids_on, lives, nothing, one_on, one_sided}
+use Rattle.edit_laws.proofs.Reducing.{by_edits}
+use Rattle.activities.specs.declared.span.Extreme.TheVariants.{Least, Greatest}
+use Rattle.activities.specs.declared.span.Span.{Span}
+use Rattle.activities.specs.Exact.{fits, if_room, sum_fits}
+use Rattle.activities.specs.RowSums.{rest}
+use Rattle.activities.specs.Spans.{span_of, spans_of}
+use Rattle.activities.proofs.Bridge.{rest-is}
+use Rattle.activity_laws.specs.TightenedBound.{by_lower_side, by_upper_side, edits, enabled, entry_at, has_two, if_made, implied, is_better, is_tightened_at, is_tightened_bound, left_over, new_bound, old_bound, over_entry, record_of}
+use Rattle.activity_laws.proofs.Rows.{said}
+
+-- ---- the entry of a column
+pub record IsFound (p : Sparse) (ts : List Term) (j : ℕ) (s : Span) : Type 0 where
+  pub named : has j ts ≡ true
+  pub span : s ≡ span_of p (record { id = j; value = dense ts j })
+
+found : (p : Sparse) (j : ℕ) (ts : List Term) (s : Span) → entry_at j (map (span_of p) ts) ≡ Some s → IsFound p ts j s
+found p j [] s e = cc
+found p j (t ∷ ts) s e = by (cases_eq t.id j) (found p j ts s)
+  where
+    some_is : (x y : Span) → Some x ≡ Some y → x ≡ y
+    some_is x y g = cc
+
+    by : (t.id ≡ j) ⊎ (t.id ≢ j) → (entry_at j (map (span_of p) ts) ≡ Some s → IsFound p ts j s) → IsFound p (t ∷ ts) j s
+    by (inl f) ih = record {
+      named = has-cons_same j t ts f;
+      span = some_is s (span_of p t) (sym e ∙ ap (λ (b : Bool). if b then Some (span_of p t) else entry_at j (map (span_of p) ts)) (eq-eqb t.id j f))
+          ∙ ap₂ (λ (k : ℕ) (a : Number). span_of p (record { id = k; value = a })) f (sym (dense-cons_same t ts j f));
+    }
+    by (inr d) ih = let h = ih (sym (ap (λ (b : Bool). if b then Some (span_of p t) else entry_at j (map (span_of p) ts)) (ne_eqb t.id j d)) ∙ e) in record {
+      named = has-cons_other j t ts d ∙ h.named;
+      span = h.span ∙ ap (λ (a : Number). span_of p (record { id = j; value = a })) (sym (dense-cons_other t ts j d));
+    }
+
+-- what the condition says of the entry of column j
+pub record Tightened (p : Sparse) (ts : List Term) (j : ℕ) (side : Side) (l u : Option Number) (ss : List Span) : Type 0 where
+  pub named : has j ts ≡ true
+  pub better : is_better side (old_bound side (bounds_at p j).lower (bounds_at p j).upper) (implied side j (dense ts j) l u ss) ≡ true
+
+tightened : (p : Sparse) (ts : List Term) (j : ℕ) (side : Side) (l u : Option Number) (ss : List Span) → is_tightened_at side j l u ss (entry_at j (map (span_of p) ts)) ≡ true → Tightened p ts j side l u ss
+tightened p ts j side l u ss e = by (entry_at j (map (span_of p) ts)) refl e
+  where
+    by : (o : Option Span) → entry_at j (map (span_of p) ts) ≡ o → is_tightened_at side j l u ss o ≡ true → Tightened p ts j side l u ss
+    by None f h = absurd (not_true h)
+    by (Some s) f h = let g = found p j ts s f in record {
+      named = g.named;
+      better = sym (ap (λ (x : Span). is_better side (old_bound side x.lower x.upper) (implied side j x.value l u ss)) g.span) ∙ h;
+    }
+
+-- ---- a bound that is made is the implied one
+record IsMade (a : Number) (side : Option Number) (r : Result (Option Number) Past) (b : Number) : Type 0 where
+  other : Option Number
+  known : r ≡ Ok other
+  bound : over (minus_ends side other) a ≡ Some b
+
+is_made : (a : Number) (side : Option Number) (r : Result (Option Number) Past) (b : Number) → left_over a side r ≡ Some b → IsMade a side r b
+is_made a None r b e = cc
+is_made a (Some q) (Err x) b e = cc
+is_made a (Some q) (Ok None) b e = cc
+is_made a (Some q) (Ok (Some r)) b e = by (sum_fits q (neg_ℚ r)) e
+  where
+    quotient : (y : Bool) → if_made (if_room y ((q -ℚ r) /ℚ a)) ≡ Some b → IsMade a (Some q) (Ok (Some r)) b
+    quotient true f = record { other = Some r; known = refl; bound = f }
+    quotient false f = cc
+
+    by : (x : Bool) → over_entry a (if_room x (q -ℚ r)) ≡ Some b → IsMade a (Some q) (Ok (Some r)) b
+    by true f = quotient (fits ((q -ℚ r) /ℚ a)) f
+    by false f = cc
+
+-- a better bound is finite
+record IsBetter (side : Side) (old new : Option Number) : Type 0 where
+  bound : Number
+  made : new ≡ Some bound
+  apart : is_better side old (Some bound) ≡ true
+
+better_is : (side : Side) (old new : Option Number) → is_better side old new ≡ true → IsBetter side old new
+better_is side old None e = absurd (not_true e)
+better_is side old (Some b) e = record { bound = b; made = refl; apart = e }
+
+low_apart : (old : Option Number) (b : Number) → is_apart old (Some b) ≡ true → LowBelow old (Some b)
+low_apart None b e = tt
+low_apart (Some a) b e = <ℚ-≤ℚ ((lt_ℚ-is a b).0 e)
+
+high_apart : (old : Option Number) (b : Number) → is_apart (Some b) old ≡ true → HighAbove old (Some b)
+high_apart None b e = tt
+high_apart (Some a) b e = <ℚ-≤ℚ ((lt_ℚ-is b a).0 e)
+
+module _ (p : Sparse) (i j : ℕ) (s : IsSparse p) (live : (row_at p i).live ≡ true) (named : has j (row_entries p i) ≡ true) where
+  abbrev M : LinearProgram
+  M = shown p
+
+  abbrev a : Number
+  a = dense (row_entries p i) j
+
+  abbrev l : Option Number
+  l = (sides_at p i).lower
+
+  abbrev u : Option Number
+  u = (sides_at p i).upper
+
+  column_on : (column_at p j).live ≡ true
+  column_on = (and_parts (column_at p j).live (has j (row_at p i).entries) (sym (has-live_only p.matrix.columns j (row_at p i).entries) ∙ named)).0
+
+  entry_is : M.coefficient i j ≡ a
+  entry_is = coefficient_in_row p i j ∙ ap (λ (on : Bool). if on then dense (row_entries p i) j else zero_ℚ) live
+
+  entry : M.coefficient i j ≢ zero_ℚ
+  entry z = dense-named j (row_entries p i) 0 (length p.matrix.columns) (row_entries-ascend p i s) named (sym entry_is ∙ z)
+
+  from_lower : (b : Number) → by_lower_side j a l (spans_of p i) ≡ Some b → over (minus_ends (M.lower_side i) (greatest_rest M i j)) (M.coefficient i j) ≡ Some b
+  from_lower b e = let m = is_made a l (rest Greatest j (spans_of p i)) b e in
+      ap₂ (λ (x : Option Number) (c : Number). over (minus_ends x (greatest_rest M i j)) c) (end_live (row_at p i).live l live) entry_is
+      ∙ ap (λ (x : Option Number). over (minus_ends l x) a) (sym (rest-is p i j Greatest m.other s live m.known))
+      ∙ m.bound
+
+  from_upper : (b : Number) → by_upper_side j a u (spans_of p i) ≡ Some b → over (minus_ends (M.upper_side i) (least_rest M i j)) (M.coefficient i j) ≡ Some b
+  from_upper b e = let m = is_made a u (rest Least j (spans_of p i)) b e in
+      ap₂ (λ (x : Option Number) (c : Number). over (minus_ends x (least_rest M i j)) c) (end_live (row_at p i).live u live) entry_is
+      ∙ ap (λ (x : Option Number). over (minus_ends u x) a) (sym (rest-is p i j Least m.other s live m.known))
+      ∙ m.bound
+
+  lower_is : (b : Number) → implied Lower j a l u (spans_of p i) ≡ Some b → implied_lower M i j ≡ Some b
+  lower_is b e = ap (λ c. if lt_ℚ zero_ℚ c then over (minus_ends (M.lower_side i) (greatest_rest M i j)) (M.coefficient i j) else over (minus_ends (M.upper_side i) (least_rest M i j)) (M.coefficient i j)) entry_is
+      ∙ by (lt_ℚ zero_ℚ a) e
+    where
+      by : (t : Bool) → (if t then by_lower_side j a l (spans_of p i) else by_upper_side j a u (spans_of p i)) ≡ Some b
+          → (if t then over (minus_ends (M.lower_side i) (greatest_rest M i j)) (M.coefficient i j) else over (minus_ends (M.upper_side i) (least_rest M i j)) (M.coefficient i j)) ≡ Some b
+      by true f = from_lower b f
+      by false f = from_upper b f
+
+  upper_is : (b : Number) → implied Upper j a l u (spans_of p i) ≡ Some b → implied_upper M i j ≡ Some b
+  upper_is b e = ap (λ c. if lt_ℚ zero_ℚ c then over (minus_ends (M.upper_side i) (least_rest M i j)) (M.coefficient i j) else over (minus_ends (M.lower_side i) (greatest_rest M i j)) (M.coefficient i j)) entry_is
+      ∙ by (lt_ℚ zero_ℚ a) e
+    where
+      by : (t : Bool) → (if t then by_upper_side j a u (spans_of p i) else by_lower_side j a l (spans_of p i)) ≡ Some b
+          → (if t then over (minus_ends (M.upper_side i) (least_rest M i j)) (M.coefficient i j) else over (minus_ends (M.lower_side i) (greatest_rest M i j)) (M.coefficient i j)) ≡ Some b
+      by true f = from_upper b f
+      by false f = from_lower b f
+
+  low_shown : M.lower_bound j ≡ (bounds_at p j).lower
+  low_shown = end_live (column_at p j).live (bounds_at p j).lower column_on
+
+  high_shown : M.upper_bound j ≡ (bounds_at p j).upper
+  high_shown = end_live (column_at p j).live (bounds_at p j).upper column_on
+
+  named_on : All (λ k. is_on (lives p.matrix.columns) k ≡ true) (j ∷ ids_of (row_entries p i))
+  named_on = All-cons (λ k. is_on (lives p.matrix.columns) k ≡ true) j (ids_of (row_entries p i))
+      (All-head (λ k. is_on (lives p.matrix.columns) k ≡ true) j [] (one_on p.matrix.columns j column_on)) (ids_on p.matrix.columns (row_at p i).entries)
+
+  owes_by : (side : Side) → is_better side (old_bound side (bounds_at p j).lower (bounds_at p j).upper) (new_bound p i j side) ≡ true → Owes p (edits p i j side) (record_of p i j side)
+  owes_by Lower e = let b = better_is Lower (bounds_at p j).lower (new_bound p i j Lower) e in let n = lower_is b.bound b.made in record {
+    allowed = (column_on, tt);
+    ordered = tt;
+    reduces = by_edits p (edits p i j Lower) (lower_bound_tightened M i j) (λ x. x) zero_ℚ s (column_on, tt)
+        (ap₂ (with_bounds M j) (b.made ∙ sym n) (sym high_shown)) nothing
+        (lower_bound_implied Min M i j (record {
+          row = row_inside p i live;
+          column = column_inside p j column_on;
+          entry = entry;
+          better = subst (LowBelow (M.lower_bound j)) (sym n) (subst (λ o. LowBelow o (Some b.bound)) (sym low_shown) (low_apart (bounds_at p j).lower b.bound b.apart));
+        }));
+    sided = λ numbers h. one_sided (SetBounds j (new_bound p i j Lower) (bounds_at p j).upper) tt;
+    sound = (row_inside p i live, column_inside p j column_on, row_entries-ascend p i s, named);
+    names = (one_on p.matrix.rows i live, named_on);
+    deletes = refl;
+  }
+  owes_by Upper e = let b = better_is Upper (bounds_at p j).upper (new_bound p i j Upper) e in let n = upper_is b.bound b.made in record {
+    allowed = (column_on, tt);
+    ordered = tt;
+    reduces = by_edits p (edits p i j Upper) (upper_bound_tightened M i j) (λ x. x) zero_ℚ s (column_on, tt)
+        (ap₂ (with_bounds M j) (sym low_shown) (b.made ∙ sym n)) nothing
+        (upper_bound_implied Min M i j (record {
+          row = row_inside p i live;
+          column = column_inside p j column_on;
+          entry = entry;
+          better = subst (HighAbove (M.upper_bound j)) (sym n) (subst (λ o. HighAbove o (Some b.bound)) (sym high_shown) (high_apart (bounds_at p j).upper b.bound b.apart));
+        }));
+    sided = λ numbers h. one_sided (SetBounds j (bounds_at p j).lower (new_bound p i j Upper)) tt;
+    sound = (row_inside p i live, column_inside p j column_on, row_entries-ascend p i s, named);
+    names = (one_on p.matrix.rows i live, named_on);
+    deletes = refl;
+  }
+
+pub owes : (p : Sparse) (i j : ℕ) (side : Side) → IsSparse p → enabled p i j side ≡ true → Owes p (edits p i j side) (record_of p i j side)
+owes p i j side s e =
+    let r = said (is_tightened_bound j side) p i e in
+    let l : Option Number = (sides_at p i).lower in
+    let u : Option Number = (sides_at p i).upper in
+    let t = tightened p (row_entries p i) j side l u (spans_of p i) (and_parts (has_two (spans_of p i)) (is_tightened_at side j l u (spans_of p i) (entry_at j (spans_of p i))) r.holds).1 in
+    owes_by p i j s r.live t.named side t.better
