@@ -12,7 +12,6 @@ use Rattle.rational.specs.Ends.{HighAbove, LowBelow, minus_ends, over}
 use Rattle.rational.proofs.Comparisons.{lt_ℚ-is}
 use Rattle.fractions.specs.declared.Past.{Past}
 use Rattle.lp_model.specs.Edits.{with_bounds}
-use Rattle.lp_model.specs.EndTests.{is_apart}
 use Rattle.lp_model.specs.LinearProgram.{LinearProgram}
 use Rattle.lp_model.specs.Sparse.{dense, has}
 use Rattle.lp_model.specs.declared.program.Sense.TheVariants.{Min}
@@ -41,7 +40,7 @@ use Rattle.activities.specs.Exact.{fits, if_room, sum_fits}
 use Rattle.activities.specs.RowSums.{rest}
 use Rattle.activities.specs.Spans.{span_of, spans_of}
 use Rattle.activities.proofs.Bridge.{rest-is}
-use Rattle.activity_laws.specs.TightenedBound.{by_lower_side, by_upper_side, edits, enabled, entry_at, has_two, if_made, implied, is_better, is_tightened_at, is_tightened_bound, left_over, new_bound, old_bound, over_entry, record_of}
+use Rattle.activity_laws.specs.TightenedBound.{Improves, IsBetter, by_lower_side, by_upper_side, edits, enabled, entry_at, has_two, if_made, implied, is_better, is_tightened_at, is_tightened_bound, left_over, new_bound, old_bound, over_entry, record_of}
 use Rattle.activity_laws.proofs.Rows.{said}
 
 -- ---- the entry of a column
@@ -103,22 +102,25 @@ is_made a (Some q) (Ok (Some r)) b e = by (sum_fits q (neg_ℚ r)) e
     by false f = cc
 
 -- a better bound is finite
-record IsBetter (side : Side) (old new : Option Number) : Type 0 where
+record IsMadeBetter (side : Side) (old new : Option Number) : Type 0 where
   bound : Number
   made : new ≡ Some bound
-  apart : is_better side old (Some bound) ≡ true
+  better : IsBetter side old bound
 
-better_is : (side : Side) (old new : Option Number) → is_better side old new ≡ true → IsBetter side old new
+better_is : (side : Side) (old new : Option Number) → is_better side old new ≡ true → IsMadeBetter side old new
 better_is side old None e = absurd (not_true e)
-better_is side old (Some b) e = record { bound = b; made = refl; apart = e }
+better_is Lower None (Some b) e = record { bound = b; made = refl; better = tt }
+better_is Lower (Some a) (Some b) e = record { bound = b; made = refl; better = (lt_ℚ-is a b).0 e }
+better_is Upper None (Some b) e = record { bound = b; made = refl; better = tt }
+better_is Upper (Some a) (Some b) e = record { bound = b; made = refl; better = (lt_ℚ-is b a).0 e }
 
-low_apart : (old : Option Number) (b : Number) → is_apart old (Some b) ≡ true → LowBelow old (Some b)
-low_apart None b e = tt
-low_apart (Some a) b e = <ℚ-≤ℚ ((lt_ℚ-is a b).0 e)
+low_better : (old : Option Number) (b : Number) → IsBetter Lower old b → LowBelow old (Some b)
+low_better None b h = tt
+low_better (Some a) b h = <ℚ-≤ℚ h
 
-high_apart : (old : Option Number) (b : Number) → is_apart (Some b) old ≡ true → HighAbove old (Some b)
-high_apart None b e = tt
-high_apart (Some a) b e = <ℚ-≤ℚ ((lt_ℚ-is b a).0 e)
+high_better : (old : Option Number) (b : Number) → IsBetter Upper old b → HighAbove old (Some b)
+high_better None b h = tt
+high_better (Some a) b h = <ℚ-≤ℚ h
 
 module _ (p : Sparse) (i j : ℕ) (s : IsSparse p) (live : (row_at p i).live ≡ true) (named : has j (row_entries p i) ≡ true) where
   abbrev M : LinearProgram
@@ -192,7 +194,7 @@ module _ (p : Sparse) (i j : ℕ) (s : IsSparse p) (live : (row_at p i).live ≡
           row = row_inside p i live;
           column = column_inside p j column_on;
           entry = entry;
-          better = subst (LowBelow (M.lower_bound j)) (sym n) (subst (λ o. LowBelow o (Some b.bound)) (sym low_shown) (low_apart (bounds_at p j).lower b.bound b.apart));
+          better = subst (LowBelow (M.lower_bound j)) (sym n) (subst (λ o. LowBelow o (Some b.bound)) (sym low_shown) (low_better (bounds_at p j).lower b.bound b.better));
         }));
     sided = λ numbers h. one_sided (SetBounds j (new_bound p i j Lower) (bounds_at p j).upper) tt;
     sound = (row_inside p i live, column_inside p j column_on, row_entries-ascend p i s, named);
@@ -208,7 +210,7 @@ module _ (p : Sparse) (i j : ℕ) (s : IsSparse p) (live : (row_at p i).live ≡
           row = row_inside p i live;
           column = column_inside p j column_on;
           entry = entry;
-          better = subst (HighAbove (M.upper_bound j)) (sym n) (subst (λ o. HighAbove o (Some b.bound)) (sym high_shown) (high_apart (bounds_at p j).upper b.bound b.apart));
+          better = subst (HighAbove (M.upper_bound j)) (sym n) (subst (λ o. HighAbove o (Some b.bound)) (sym high_shown) (high_better (bounds_at p j).upper b.bound b.better));
         }));
     sided = λ numbers h. one_sided (SetBounds j (bounds_at p j).lower (new_bound p i j Upper)) tt;
     sound = (row_inside p i live, column_inside p j column_on, row_entries-ascend p i s, named);
@@ -216,10 +218,15 @@ module _ (p : Sparse) (i j : ℕ) (s : IsSparse p) (live : (row_at p i).live ≡
     deletes = refl;
   }
 
-pub owes : (p : Sparse) (i j : ℕ) (side : Side) → IsSparse p → enabled p i j side ≡ true → Owes p (edits p i j side) (record_of p i j side)
-owes p i j side s e =
-    let r = said (is_tightened_bound j side) p i e in
+said_at : (p : Sparse) (i j : ℕ) (side : Side) → enabled p i j side ≡ true → Tightened p (row_entries p i) j side (sides_at p i).lower (sides_at p i).upper (spans_of p i)
+said_at p i j side e =
     let l : Option Number = (sides_at p i).lower in
     let u : Option Number = (sides_at p i).upper in
-    let t = tightened p (row_entries p i) j side l u (spans_of p i) (and_parts (has_two (spans_of p i)) (is_tightened_at side j l u (spans_of p i) (entry_at j (spans_of p i))) r.holds).1 in
-    owes_by p i j s r.live t.named side t.better
+    tightened p (row_entries p i) j side l u (spans_of p i)
+    (and_parts (has_two (spans_of p i)) (is_tightened_at side j l u (spans_of p i) (entry_at j (spans_of p i))) (said (is_tightened_bound j side) p i e).holds).1
+
+pub owes : (p : Sparse) (i j : ℕ) (side : Side) → IsSparse p → enabled p i j side ≡ true → Owes p (edits p i j side) (record_of p i j side)
+owes p i j side s e = let t = said_at p i j side e in owes_by p i j s (said (is_tightened_bound j side) p i e).live t.named side t.better
+
+pub improves : (p : Sparse) (i j : ℕ) (side : Side) → enabled p i j side ≡ true → Improves p i j side
+improves p i j side e = let b = better_is side (old_bound side (bounds_at p j).lower (bounds_at p j).upper) (new_bound p i j side) (said_at p i j side e).better in (b.bound, b.made, b.better)

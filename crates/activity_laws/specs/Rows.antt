@@ -41,7 +41,7 @@ abbrev pub on_parts : RowTest → Contents → Contents → List Contents → Bo
 on_parts test (Entries ts) (Sides l u) bounds = on_spans test l u (spans_from ts bounds)
 on_parts test row sides bounds = false
 
--- the same of all that was read
+-- and on what was read: a row, its sides, and the bounds of its columns
 abbrev pub on_row : RowTest → List Contents → Bool
 on_row test (a ∷ b ∷ bounds) = on_parts test a b bounds
 on_row test other = false

@@ -1,6 +1,7 @@
 -- K8: a bound of a column becomes the one that a row implies with the bounds of its other columns, where that is a better one.
-use Rattle.std.specs.Prelude.{ℕ, ⊤, Bool, false, ◌&&◌, nat_eq, if◌then◌else◌, List, [], ◌∷◌, Option, Some, None, Result, Ok, Err}
+use Rattle.std.specs.Prelude.{◌≡◌, ℕ, ⊤, Bool, false, ◌&&◌, nat_eq, if◌then◌else◌, List, [], ◌∷◌, Option, Some, None, Result, Ok, Err}
 use Rattle.rational.specs.Number.{Number, zero_ℚ}
+use Rattle.rational.specs.Order.{◌<ℚ◌}
 use Rattle.rational.specs.Compare.{lt_ℚ}
 use Rattle.fractions.specs.declared.Past.{Past}
 use Rattle.lp_model.specs.EndTests.{is_apart}
@@ -97,6 +98,16 @@ edits p i j side = bound_set side j (bounds_at p j) (new_bound p i j side) ∷ [
 -- the record keeps the old bound, and the row's entries
 abbrev pub record_of : Sparse → ℕ → ℕ → Side → Undo
 record_of p i j side = undo.TightenBound i j side (old_bound side (bounds_at p j).lower (bounds_at p j).upper) (row_entries p i)
+
+-- what is owed beside: b is strictly better than the old bound
+abbrev pub IsBetter : Side → Option Number → Number → Type 0
+IsBetter side None b = ⊤
+IsBetter Lower (Some old) b = old <ℚ b
+IsBetter Upper (Some old) b = b <ℚ old
+
+-- the new bound is finite, and strictly better than the one that the record keeps
+abbrev pub Improves : Sparse → ℕ → ℕ → Side → Type 0
+Improves p i j side = (b : Number) × (new_bound p i j side ≡ Some b) × IsBetter side (old_bound side (bounds_at p j).lower (bounds_at p j).upper) b
 
 -- nothing more is computed for the change
 abbrev pub Computes : Sparse → ℕ → ℕ → Side → Type 0

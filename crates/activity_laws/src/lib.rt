@@ -29,9 +29,10 @@ pub fn forcing_rows_fix_their_columns()
     ensures { RuleOwes forcing_row.enabled forcing_row.edits forcing_row.record_of }
 {}
 
-/// A bound of a column can become the one that a row implies with the bounds of its other columns.
+/// A bound of a column can become the one that a row implies with the bounds of its other columns, and that is strictly better.
 pub fn bounds_can_be_tightened()
-    ensures { (p : Sparse) (i j : ℕ) (side : Side) → IsSparse p → tightened_bound.enabled p i j side ≡ true → Owes p (tightened_bound.edits p i j side) (tightened_bound.record_of p i j side) }
+    ensures owes { (p : Sparse) (i j : ℕ) (side : Side) → IsSparse p → tightened_bound.enabled p i j side ≡ true → Owes p (tightened_bound.edits p i j side) (tightened_bound.record_of p i j side) }
+    ensures improves { (p : Sparse) (i j : ℕ) (side : Side) → tightened_bound.enabled p i j side ≡ true → tightened_bound.Improves p i j side }
 {}
 
 /// A row of which a side is out of reach of its columns' bounds says that no point is feasible.

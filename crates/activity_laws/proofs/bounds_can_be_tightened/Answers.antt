@@ -1,5 +1,8 @@
-use Rattle.activity_laws.proofs.TightenedBound.{owes}
+use Rattle.activity_laws.proofs.TightenedBound.{improves, owes}
 use Rattle.activity_laws.proofs.bounds_can_be_tightened.Goals as goal
 
-pub returns : goal.returns
-returns c = owes
+pub returns-clause-owes : goal.returns-clause-owes
+returns-clause-owes c = owes
+
+pub returns-clause-improves : goal.returns-clause-improves
+returns-clause-improves c = improves
