@@ -1,5 +1,9 @@
+ghost use Rattle.activities.specs.Kept.{IsKept};
+ghost use Rattle.activities.specs.Spans.{ends_at};
+ghost use Rattle.activities.specs.declared.span.Extreme.TheVariants.{Greatest};
+
 use crate::common::common_sum;
-use crate::row_sums::{activity_by_terms, activity_of, rest_of, sums_of};
+use crate::row_sums::{Kept, activity_by_terms, activity_of, rest_of, sums_of};
 use crate::span::{Extreme, Span};
 use fractions::Past;
 use fractions::ext::Ext;
@@ -65,7 +69,27 @@ fn is_same(one: &Result<Ext, Past>, other: &Result<Ext, Past>) -> bool {
     }
 }
 
-/// Whether the greatest activity is this one, also term by term, and each rest is the activity of the other entries.
+/// Whether each rest is the activity of the other entries.
+fn rests_are_told(
+    alloc: Global,
+    kept: &Kept,
+    entries: &[Entry],
+    spans: &[Span],
+) -> Result<bool, AllocError>
+    requires { IsKept (ends_at Greatest spans.now) kept.now }
+{
+    let mut good = true;
+    for place in 0..spans.len() {
+        let others = spans_but(alloc, entries, Some(place))?;
+        let by_terms = activity_by_terms(Extreme::Greatest, others.as_slice());
+        if !is_same(&rest_of(kept, Extreme::Greatest, spans, place), &by_terms) {
+            good = false;
+        }
+    }
+    Ok(good)
+}
+
+/// Whether the greatest activity is this one, also term by term, and the rests are right.
 fn is_told(
     alloc: Global,
     entries: &[Entry],
@@ -75,57 +99,44 @@ fn is_told(
     let spans = spans_but(alloc, entries, None)?;
     let spans = spans.as_slice();
     let kept = sums_of(alloc, Extreme::Greatest, spans)?;
-    let mut good = common_sum(Extreme::Greatest, spans).is_some() == one_sum
-        && is_same(&activity_of(&kept, Extreme::Greatest, spans), expected)
-        && is_same(&activity_by_terms(Extreme::Greatest, spans), expected);
-    for place in 0..spans.len() {
-        let others = spans_but(alloc, entries, Some(place))?;
-        let by_terms = activity_by_terms(Extreme::Greatest, others.as_slice());
-        good = good && is_same(&rest_of(&kept, Extreme::Greatest, spans, place), &by_terms);
-    }
-    Ok(good)
+    let rests = rests_are_told(alloc, &kept, entries, spans)?;
+    let whole = activity_of(&kept, Extreme::Greatest, spans);
+    let by_terms = activity_by_terms(Extreme::Greatest, spans);
+    let one = common_sum(Extreme::Greatest, spans);
+    Ok(
+        rests
+            && is_same(&whole, expected)
+            && is_same(&by_terms, expected)
+            && one.is_some() == one_sum,
+    )
+}
+
+/// An entry 1 whose column lies from 0 to a number.
+fn up(upper: i128) -> Entry {
+    (1, 1, 0, upper)
+}
+
+/// An entry `1 / d` whose column lies from 0 to 1.
+fn over(d: u128) -> Entry {
+    (1, d, 0, 1)
 }
 
 #[test]
 fn by_one_sum_and_by_terms(rt: HostRuntime) -> Result<(), Fail> {
-    let small = (1, 1, 0, 1);
+    let none = Ext::none();
     let half = Ext::at(number(1, 2));
     let rows = [
         ([(-2, 1, 1, 3), NONE, NONE], true, Ok(end(-2))),
-        (
-            [(1, 1, 0, 1 << 62), (1, 1, 0, 1 << 62), NONE],
-            true,
-            Ok(end(1 << 63)),
-        ),
-        (
-            [(1, 1, 0, 1 << 63), small, NONE],
-            true,
-            Ok(end((1 << 63) + 1)),
-        ),
-        ([(1, 1, 0, MOST - 1), small, NONE], true, Ok(end(MOST))),
-        ([(1, 1, 0, MOST), small, small], false, Err(Past)),
-        (
-            [(1, 1, 0, MOST), (-1, 1, 1, 1), NONE],
-            false,
-            Ok(end(MOST - 1)),
-        ),
-        ([(1, 3, 0, 1), (1, 6, 0, 1), NONE], true, Ok(half)),
-        (
-            [(1, LONG + 1, 0, 1), small, (1, LONG - 1, 0, 1)],
-            false,
-            Err(Past),
-        ),
-        ([(1, 1, 0, NO_END), small, small], true, Ok(Ext::none())),
-        (
-            [(1, 1, 0, NO_END), (1, 1, 0, MOST), (1, 1, 0, MOST)],
-            false,
-            Ok(Ext::none()),
-        ),
-        (
-            [(1, 1, 0, NO_END), (-1, 1, NO_END, 0), small],
-            true,
-            Ok(Ext::none()),
-        ),
+        ([up(1 << 62), up(1 << 62), NONE], true, Ok(end(1 << 63))),
+        ([up(1 << 63), up(1), NONE], true, Ok(end((1 << 63) + 1))),
+        ([up(MOST - 1), up(1), NONE], true, Ok(end(MOST))),
+        ([up(MOST), up(1), up(2)], false, Err(Past)),
+        ([up(MOST), (-1, 1, 1, 1), NONE], false, Ok(end(MOST - 1))),
+        ([over(3), over(6), NONE], true, Ok(half)),
+        ([over(LONG + 1), up(1), over(LONG - 1)], false, Err(Past)),
+        ([up(NO_END), up(1), up(1)], true, Ok(none)),
+        ([up(NO_END), up(MOST), up(MOST)], false, Ok(none)),
+        ([up(NO_END), (-1, 1, NO_END, 0), up(1)], true, Ok(none)),
     ];
     for (entries, one_sum, greatest) in rows {
         assert!(rt; is_told(rt.alloc(), &entries, one_sum, &greatest)?);
