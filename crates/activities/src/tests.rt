@@ -92,14 +92,14 @@ fn rests_are_told(
 /// Whether the greatest activity is this one, also term by term, and the rests are right.
 fn is_told(
     alloc: Global,
-    entries: &[Entry],
+    entries: [Entry; 3],
     one_sum: bool,
     expected: &Result<Ext, Past>,
 ) -> Result<bool, AllocError> {
-    let spans = spans_but(alloc, entries, None)?;
+    let spans = spans_but(alloc, &entries, None)?;
     let spans = spans.as_slice();
     let kept = sums_of(alloc, Extreme::Greatest, spans)?;
-    let rests = rests_are_told(alloc, &kept, entries, spans)?;
+    let rests = rests_are_told(alloc, &kept, &entries, spans)?;
     let whole = activity_of(&kept, Extreme::Greatest, spans);
     let by_terms = activity_by_terms(Extreme::Greatest, spans);
     let one = common_sum(Extreme::Greatest, spans);
@@ -139,7 +139,7 @@ fn by_one_sum_and_by_terms(rt: HostRuntime) -> Result<(), Fail> {
         ([up(NO_END), (-1, 1, NO_END, 0), up(1)], true, Ok(none)),
     ];
     for (entries, one_sum, greatest) in rows {
-        assert!(rt; is_told(rt.alloc(), &entries, one_sum, &greatest)?);
+        assert!(rt; is_told(rt.alloc(), entries, one_sum, &greatest)?);
     }
     Ok(())
 }
