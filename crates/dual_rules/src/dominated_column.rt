@@ -174,8 +174,8 @@ struct Better {
     whole: bool,
 }
 
-/// Whether such a column dominates that of another entry of the row. What is in hand is tested first: the row's own entries, by its sides.
-/// The columns' other rows come last.
+/// Whether a column dominates that of another entry of its row. The two entries are in hand and are tested first, by the row's sides; then
+/// the bounds and the costs, and last all rows of both columns.
 fn dominates(problem: &Problem, sides: &Sides, better: &Better, other: &Term) -> bool
     requires better { IsBetter problem.now better.now }
     requires other { (column_at problem.now other.now.id).live ≡ true }
