@@ -1,5 +1,5 @@
 -- Rows and columns around a part.
-use Rattle.std.proofs.Common.{◌≡◌, ◌⊎◌, inl, inr, ℕ, zero, suc, Bool, true, false, not, List, [], ◌∷◌, ◌++◌, map, sym, ap, ◌∙◌, subst}
+use Rattle.std.proofs.Common.{◌≡◌, ◌⊎◌, inl, inr, ℕ, zero, suc, Bool, true, false, not, List, [], ◌∷◌, ◌++◌, map, refl, sym, ap, ◌∙◌, subst}
 use Rattle.std.specs.Prelude.{if◌then◌else◌}
 use Rattle.std.specs.List.{Contains, filter}
 use Rattle.std.proofs.lemmas.Bool.{and_parts}
@@ -18,10 +18,10 @@ use Rattle.problem_laws.proofs.Entries.{has-live_only, live_entries_name}
 use Rattle.rule_words.specs.Reading.{parts_on, sides_named, sides_of, terms_in}
 use Rattle.dual_laws.specs.DominatedColumn.{heads, more, rows_of_both}
 use Rattle.dual_laws.proofs.DominatedColumn.{SaidAt}
-use Rattle.place_laws.specs.Choosing.{columns_with, rows_with}
+use Rattle.place_laws.specs.Choosing.{columns_with, rows_with, spreads}
 use Rattle.place_laws.proofs.ShortLists.{alone, each_mapped, five_in, has_of, kept_is, two_in}
 
--- ---- rows and columns within so many steps of a part: rows where b is true, else columns
+-- ---- rows and columns within so many steps of a part: rows where b is true, else columns. From a part that does not spread there are no steps
 -- row k stands in column m, or column k in row m
 abbrev pub Stands : Sparse → Bool → ℕ → ℕ → Type 0
 Stands p true k m = has k (column_entries p m) ≡ true
@@ -30,7 +30,7 @@ Stands p false k m = has k (row_entries p m) ≡ true
 abbrev pub IsWithin : Sparse → ℕ → Bool → Part → ℕ → Type 0
 IsWithin p zero true a k = Contains (rows_with a) k
 IsWithin p zero false a k = Contains (columns_with a) k
-IsWithin p (suc s) b a k = IsWithin p s b a k ⊎ ((m : ℕ) × IsWithin p s (not b) a m × Stands p b k m)
+IsWithin p (suc s) b a k = IsWithin p s b a k ⊎ ((m : ℕ) × (spreads a ≡ true) × IsWithin p s (not b) a m × Stands p b k m)
 
 -- ---- a term that is left names a line that is live
 live_of : (lines : List Line) (k : ℕ) (ts : List Term) → has k (live_only lines ts) ≡ true → (line_at lines k).live ≡ true
@@ -50,7 +50,7 @@ module _ (p : Sparse) (s : IsSparse p) where
 
   -- the sides of its rows are one step from a column
   sides_near : (j : ℕ) → (column_at p j).live ≡ true → (i : ℕ) → has i (column_entries p j) ≡ true → IsWithin p 1 false (part.Sides i) j
-  sides_near j on i h = inr (i, alone i, stands_too i j on h)
+  sides_near j on i h = inr (i, refl, alone i, stands_too i j on h)
 
   -- a rule that reads a column, its bounds and the sides of its rows
   pub by_column : (j : ℕ) → (column_at p j).live ≡ true → (a : Part) → Contains (parts_on (part.Col j ∷ part.Bounds j ∷ []) sides_named p) a → IsWithin p 1 false a j
@@ -63,11 +63,11 @@ module _ (p : Sparse) (s : IsSparse p) where
 
   -- ---- a row, two of its columns, and the sides of the rows of both
   -- what a column holds, and its bounds, are one step from each of its rows, and the sides of its rows two
-  column_far : (i j : ℕ) (a : Part) → (row_at p i).live ≡ true → has j (row_entries p i) ≡ true → Contains (columns_with a) j → IsWithin p 2 true a i
-  column_far i j a on h c = inl (inr (j, c, stands_back i j on h))
+  column_far : (i j : ℕ) (a : Part) → spreads a ≡ true → (row_at p i).live ≡ true → has j (row_entries p i) ≡ true → Contains (columns_with a) j → IsWithin p 2 true a i
+  column_far i j a spread on h c = inl (inr (j, spread, c, stands_back i j on h))
 
   sides_far : (i j r : ℕ) → (row_at p i).live ≡ true → (column_at p j).live ≡ true → has j (row_entries p i) ≡ true → has r (column_entries p j) ≡ true → IsWithin p 2 true (part.Sides r) i
-  sides_far i j r on live h g = inr (j, sides_near j live r g, stands_back i j on h)
+  sides_far i j r on live h g = inr (j, refl, sides_near j live r g, stands_back i j on h)
 
   -- the terms of a column
   abbrev names : ℕ → List Term
@@ -95,6 +95,6 @@ module _ (p : Sparse) (s : IsSparse p) where
 
       by : Contains (heads i j k) a ⊎ Contains (more (map (contents_of p) (heads i j k))) a → IsWithin p 2 true a i
       by (inl d) = five_in (λ (b : Part). IsWithin p 2 true b i) (part.Row i) (part.Col j) (part.Col k) (part.Bounds j) (part.Bounds k) a
-          (inl (inl (alone i))) (column_far i j (part.Col j) o.row_live o.first_in (alone j)) (column_far i k (part.Col k) o.row_live o.second_in (alone k))
-          (column_far i j (part.Bounds j) o.row_live o.first_in (alone j)) (column_far i k (part.Bounds k) o.row_live o.second_in (alone k)) d
+          (inl (inl (alone i))) (column_far i j (part.Col j) refl o.row_live o.first_in (alone j)) (column_far i k (part.Col k) refl o.row_live o.second_in (alone k))
+          (column_far i j (part.Bounds j) refl o.row_live o.first_in (alone j)) (column_far i k (part.Bounds k) refl o.row_live o.second_in (alone k)) d
       by (inr d) = sides d

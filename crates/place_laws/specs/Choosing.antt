@@ -1,5 +1,5 @@
 -- Ids of rows and columns to be looked at, and the instances there.
-use Rattle.std.specs.Prelude.{◌≡◌, ◌⊎◌, ℕ, ◌+◌, ◌≤◌, true, ⊤, List, [], ◌∷◌, ◌++◌, length, map, if◌then◌else◌}
+use Rattle.std.specs.Prelude.{◌≡◌, ◌⊎◌, ℕ, ◌+◌, ◌≤◌, Bool, true, false, ⊤, List, [], ◌∷◌, ◌++◌, length, map, if◌then◌else◌}
 use Rattle.std.specs.List.{Contains, filter, flat_map, range_with_len}
 use Rattle.fractions.specs.declared.Numbers.{Numbers}
 use Rattle.lp_model.specs.Sparse.{has}
@@ -23,7 +23,7 @@ pub record Places : Type 0 where
   pub rows : List ℕ
   pub columns : List ℕ
 
--- some, and those within one step of them, and within two
+-- where rules are looked for that reach no further than a row or a column of their own, one step from it, and two
 pub record Around : Type 0 where
   pub here : Places
   pub near : Places
@@ -70,11 +70,30 @@ pub record HoldsStep (p : Sparse) (n m : Places) : Type 0 where
   pub columns_of : (i j : ℕ) → Contains n.rows i → has j (row_entries p i) ≡ true → Contains m.columns j
   pub rows_of : (i j : ℕ) → Contains n.columns j → has i (column_entries p j) ≡ true → Contains m.rows i
 
--- the rows and columns of parts, and those around them, are there
-pub record HoldsAround (p : Sparse) (noted : List Part) (n : Around) : Type 0 where
+-- m has the rows and columns that n has
+pub record HoldsAll (n m : Places) : Type 0 where
+  pub rows : (i : ℕ) → Contains n.rows i → Contains m.rows i
+  pub columns : (j : ℕ) → Contains n.columns j → Contains m.columns j
+
+-- the rows and columns of parts are there, and those that are one step and two from them
+pub record HoldsSteps (p : Sparse) (noted : List Part) (n : Around) : Type 0 where
   pub here : HoldsParts noted n.here
   pub near : HoldsStep p n.here n.near
   pub far : HoldsStep p n.near n.far
+
+-- whether what is around a part is looked at too. For what stands in a row it is not: the rules that read it have the row as their first id
+abbrev pub spreads : Part → Bool
+spreads (part.Row i) = false
+spreads (part.Sides i) = true
+spreads (part.Col j) = true
+spreads (part.Bounds j) = true
+
+-- the rows and columns of parts are there, and those around the parts that spread
+pub record HoldsAround (p : Sparse) (noted : List Part) (n : Around) : Type 0 where
+  pub here : HoldsParts noted n.here
+  pub near : HoldsParts noted n.near
+  pub far : HoldsParts noted n.far
+  pub around : (m : Around) × HoldsSteps p (filter spreads noted) m × HoldsAll m.near n.near × HoldsAll m.far n.far
 
 -- they ascend from a
 abbrev pub AscendsFrom : ℕ → List ℕ → Type 0

@@ -1,9 +1,9 @@
 //! Rows and columns to be looked at.
 
 ghost use Rattle.std.specs.Prelude.{◌≡◌, IfOk};
-ghost use Rattle.place_laws.specs.Choosing.{all_around, all_places, AreSorted, HoldsAround, HoldsParts, HoldsStep, ids_of as ids_there, IsSorted, within};
+ghost use Rattle.place_laws.specs.Choosing.{all_around, all_places, AreSorted, HoldsAll, HoldsAround, HoldsParts, HoldsStep, HoldsSteps, ids_of as ids_there, IsSorted, within};
 
-use crate::ids::{add_across, columns_of, ids_below, rows_of, sort_ids};
+use crate::ids::{add_across, columns_of, ids_below, ids_of_both, rows_of, sort_ids, spreading};
 use instances::{is_of_rows, reach_of};
 use presolve_model::{Part, Reach, Rule};
 use sparse_problem::Problem;
@@ -61,10 +61,21 @@ impl Places {
         sort_ids(&mut columns);
         Ok(Places { rows, columns })
     }
+
+    /// These and others.
+    fn joined(&self, alloc: Global, others: &Places) -> Result<Places, AllocError>
+        ensures sorted { IfOk result IsSorted }
+        ensures these { IfOk result (HoldsAll self.now) }
+        ensures others { IfOk result (HoldsAll others.now) }
+    {
+        let rows = ids_of_both(alloc, self.rows.as_slice(), others.rows.as_slice())?;
+        let columns = ids_of_both(alloc, self.columns.as_slice(), others.columns.as_slice())?;
+        Ok(Places { rows, columns })
+    }
 }
 
-/// Rows and columns, those within one step of them, and those within two. A step is that from a row to a column that stands in it, or from a
-/// column to such a row. Each list ascends.
+/// Where rules are looked for that reach no further than a row or a column of their own, one step from it, and two. A step is that from a row
+/// to a column that stands in it, or from a column to such a row. Each list ascends.
 #[derive(Drop)]
 pub struct Around {
     here: Places,
@@ -91,14 +102,27 @@ impl Around {
         Ok(Around { here, near, far })
     }
 
-    /// The rows and columns of parts, and those around them.
+    /// The rows and columns of parts, and those that are one step and two from them.
+    fn steps_from(alloc: Global, problem: &Problem, parts: &[Part]) -> Result<Around, AllocError>
+        ensures { IfOk result (HoldsSteps problem.now parts.now) }
+    {
+        let here = Places::of_parts(alloc, parts)?;
+        let near = here.spread(alloc, problem)?;
+        let far = near.spread(alloc, problem)?;
+        Ok(Around { here, near, far })
+    }
+
+    /// The rows and columns of parts, and those around the parts that spread: a row whose entries have changed is looked at, and what is around
+    /// it is not.
     pub fn of_parts(alloc: Global, problem: &Problem, parts: &[Part]) -> Result<Around, AllocError>
         ensures sorted { IfOk result AreSorted }
         ensures holds { IfOk result (HoldsAround problem.now parts.now) }
     {
         let here = Places::of_parts(alloc, parts)?;
-        let near = here.spread(alloc, problem)?;
-        let far = near.spread(alloc, problem)?;
+        let spread = spreading(alloc, parts)?;
+        let around = Around::steps_from(alloc, problem, spread.as_slice())?;
+        let near = around.near.joined(alloc, &here)?;
+        let far = around.far.joined(alloc, &here)?;
         Ok(Around { here, near, far })
     }
 

@@ -1,4 +1,4 @@
-use Rattle.std.proofs.Common.{◌≡◌, ℕ, ◌++◌, List, subst, ◌∙◌}
+use Rattle.std.proofs.Common.{◌≡◌, ℕ, ◌++◌, subst, ◌∙◌}
 use Rattle.std.specs.List.{flat_map}
 use Rattle.undo_records.specs.Walk.{ids_of}
 use Rattle.problem_model.specs.Matrices.{line_at, live_only}
