@@ -1,0 +1,11 @@
+-- What is looked at of a row before its activities are.
+use Rattle.std.specs.Prelude.{ℕ, Bool, ◌&&◌}
+use Rattle.lp_model.specs.EndTests.{is_in_order}
+use Rattle.problem_model.specs.Problems.{row_at, sides_at}
+use Rattle.problem_model.specs.Sparse.{Sparse}
+use Rattle.activities.specs.Spans.{spans_of}
+use Rattle.activity_laws.specs.Rows.{all_in_order}
+
+-- the row is live, and neither its sides nor the bounds of its columns are crossed
+abbrev pub is_uncrossed : Sparse → ℕ → Bool
+is_uncrossed p i = (row_at p i).live && (is_in_order (sides_at p i).lower (sides_at p i).upper && all_in_order (spans_of p i))
