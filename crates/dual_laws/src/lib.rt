@@ -2,6 +2,8 @@
 //! functions here do nothing when they run: each states the law of a rule, and its check proves it.
 #![tactic(auto)]
 
+pub mod form;
+
 ghost use Rattle.std.specs.Prelude.{◌≡◌, true, ℕ};
 ghost use Rattle.lp_model.specs.declared.program.Sense.TheVariants.{Min};
 ghost use Rattle.lp_model.specs.Verdicts.{NoPointOrEndless};

@@ -6,5 +6,6 @@ mod both_columns;
 mod directions;
 pub mod dominated_column;
 pub mod fixed_by_cost;
+pub mod form;
 pub mod ray;
 pub mod sides;

@@ -3,7 +3,7 @@
 
 ghost use Rattle.std.specs.Prelude.{◌≡◌};
 ghost use Rattle.presolve_model.specs.declared.instance.Instance.TheVariants as at;
-ghost use Rattle.presolve_model.specs.Instances.{is_of_rows as of_rows, reach_of as reach, rests_on_reading as rests, rule_at, rule_of};
+ghost use Rattle.presolve_model.specs.Instances.{goes_by_form as by_form, is_of_rows as of_rows, reach_of as reach, rests_on_reading as rests, rule_at, rule_of};
 ghost use Rattle.presolve_model.specs.Meanings.{says_no_point as no_point};
 ghost use Rattle.presolve_model.specs.Order.{reduction_order, verdict_order};
 
@@ -31,35 +31,59 @@ pub fn reduction_rules() -> [Rule; 7]
     ]
 }
 
-/// Whether the first ids of a rule are those of rows; else they are those of columns.
-pub fn is_of_rows(rule: Rule) -> bool
-    ensures { result ≡ of_rows rule }
-{
-    match rule {
-        Rule::CrossedSides | Rule::EmptyRow | Rule::SingletonRow | Rule::DominatedColumn => true,
-        Rule::CrossedBounds
-        | Rule::Ray
-        | Rule::FixedColumn
-        | Rule::RoundBounds
-        | Rule::FixedByCost
-        | Rule::EmptyColumn => false,
-    }
-}
-
-/// How far the first id of an enabled instance of a rule may be from a part that it reads.
+/// Where the first id of an enabled instance of a rule is, seen from a part that it reads.
 pub fn reach_of(rule: Rule) -> Reach
     ensures { result ≡ reach rule }
 {
     match rule {
-        Rule::CrossedBounds
-        | Rule::CrossedSides
-        | Rule::EmptyRow
-        | Rule::SingletonRow
-        | Rule::FixedColumn
-        | Rule::RoundBounds
-        | Rule::EmptyColumn => Reach::Here,
-        Rule::Ray | Rule::FixedByCost => Reach::Near,
-        Rule::DominatedColumn => Reach::Far,
+        Rule::CrossedSides | Rule::EmptyRow | Rule::SingletonRow => Reach::OwnRow,
+        Rule::CrossedBounds | Rule::FixedColumn | Rule::RoundBounds | Rule::EmptyColumn => {
+            Reach::OwnColumn
+        }
+        Rule::Ray | Rule::FixedByCost => Reach::ColumnsOfSides,
+        Rule::DominatedColumn => Reach::RowsOfBoth,
+    }
+}
+
+/// Whether the first ids of a rule are those of rows; else they are those of columns.
+pub fn is_of_rows(rule: Rule) -> bool
+    ensures { result ≡ of_rows rule }
+{
+    match reach_of(rule) {
+        Reach::OwnRow | Reach::RowsOfBounds | Reach::RowsOfBoth => true,
+        Reach::OwnColumn | Reach::ColumnsOfSides => false,
+    }
+}
+
+fn reduction_goes_by_form(reduction: Reduction) -> bool
+    ensures { result ≡ by_form (reach (rule_of reduction)) }
+{
+    match reduction {
+        Reduction::FixedByCost { .. } | Reduction::DominatedColumn { .. } => true,
+        Reduction::EmptyRow { .. }
+        | Reduction::SingletonRow { .. }
+        | Reduction::FixedColumn { .. }
+        | Reduction::RoundBounds { .. }
+        | Reduction::EmptyColumn { .. } => false,
+    }
+}
+
+fn verdict_goes_by_form(verdict: Verdict) -> bool
+    ensures { result ≡ by_form (reach (rule_at (at.Verdict verdict))) }
+{
+    match verdict {
+        Verdict::CrossedBounds { .. } | Verdict::CrossedSides { .. } => false,
+        Verdict::Ray { .. } => true,
+    }
+}
+
+/// Whether an instance looks only at the form of ends.
+pub fn goes_by_form(instance: Instance) -> bool
+    ensures { result ≡ by_form (reach (rule_at instance)) }
+{
+    match instance {
+        Instance::Reduction(reduction) => reduction_goes_by_form(reduction),
+        Instance::Verdict(verdict) => verdict_goes_by_form(verdict),
     }
 }
 

@@ -1,5 +1,5 @@
 -- Rows and columns around a part.
-use Rattle.std.proofs.Common.{◌≡◌, ◌⊎◌, inl, inr, ℕ, zero, suc, Bool, true, false, not, List, [], ◌∷◌, ◌++◌, map, refl, sym, ap, ◌∙◌, subst}
+use Rattle.std.proofs.Common.{◌≡◌, ◌⊎◌, inl, inr, ℕ, Bool, true, not, List, [], ◌∷◌, ◌++◌, map, sym, ap, ◌∙◌, subst}
 use Rattle.std.specs.Prelude.{if◌then◌else◌}
 use Rattle.std.specs.List.{Contains, filter}
 use Rattle.std.proofs.lemmas.Bool.{and_parts}
@@ -15,22 +15,12 @@ use Rattle.problem_model.specs.Parts.{contents_of}
 use Rattle.problem_model.specs.Problems.{column_at, column_entries, cost_at, row_at, row_entries, IsSparse}
 use Rattle.problem_model.specs.Sparse.{Sparse}
 use Rattle.problem_laws.proofs.Entries.{has-live_only, live_entries_name}
-use Rattle.rule_words.specs.Reading.{parts_on, sides_named, sides_of, terms_in}
+use Rattle.rule_words.specs.Reading.{bounds_named, bounds_of, parts_on, sides_named, sides_of, terms_in}
 use Rattle.dual_laws.specs.DominatedColumn.{heads, more, rows_of_both}
 use Rattle.dual_laws.proofs.DominatedColumn.{SaidAt}
-use Rattle.place_laws.specs.Choosing.{columns_with, rows_with, spreads}
+use Rattle.presolve_model.specs.declared.instance.Reach.TheVariants.{RowsOfBounds, ColumnsOfSides, RowsOfBoth}
+use Rattle.place_laws.specs.Choosing.{columns_with, Leads}
 use Rattle.place_laws.proofs.ShortLists.{alone, each_mapped, five_in, has_of, kept_is, two_in}
-
--- ---- rows and columns within so many steps of a part: rows where b is true, else columns. From a part that does not spread there are no steps
--- row k stands in column m, or column k in row m
-abbrev pub Stands : Sparse → Bool → ℕ → ℕ → Type 0
-Stands p true k m = has k (column_entries p m) ≡ true
-Stands p false k m = has k (row_entries p m) ≡ true
-
-abbrev pub IsWithin : Sparse → ℕ → Bool → Part → ℕ → Type 0
-IsWithin p zero true a k = Contains (rows_with a) k
-IsWithin p zero false a k = Contains (columns_with a) k
-IsWithin p (suc s) b a k = IsWithin p s b a k ⊎ ((m : ℕ) × (spreads a ≡ true) × IsWithin p s (not b) a m × Stands p b k m)
 
 -- ---- a term that is left names a line that is live
 live_of : (lines : List Line) (k : ℕ) (ts : List Term) → has k (live_only lines ts) ≡ true → (line_at lines k).live ≡ true
@@ -40,6 +30,10 @@ live_of lines k ts h = (and_parts (line_at lines k).live (has k ts) (sym (has-li
 pub column_names : (p : Sparse) (j : ℕ) → (column_at p j).live ≡ true → terms_in (contents_of p (part.Col j)) ≡ column_entries p j
 column_names p j on = ap (λ (b : Bool). terms_in (if b then holding.Column (column_entries p j) (cost_at p j) else holding.Gone)) on
 
+-- what a live row names
+pub row_names : (p : Sparse) (i : ℕ) → (row_at p i).live ≡ true → terms_in (contents_of p (part.Row i)) ≡ row_entries p i
+row_names p i on = ap (λ (b : Bool). terms_in (if b then holding.Entries (row_entries p i) else holding.Gone)) on
+
 module _ (p : Sparse) (s : IsSparse p) where
   -- a row stands in the columns that stand in it
   stands_back : (i j : ℕ) → (row_at p i).live ≡ true → has j (row_entries p i) ≡ true → has i (column_entries p j) ≡ true
@@ -48,53 +42,56 @@ module _ (p : Sparse) (s : IsSparse p) where
   stands_too : (i j : ℕ) → (column_at p j).live ≡ true → has i (column_entries p j) ≡ true → has j (row_entries p i) ≡ true
   stands_too i j on h = live_entries_name p i j s (live_of p.matrix.rows i (column_at p j).entries h) on ∙ h
 
-  -- the sides of its rows are one step from a column
-  sides_near : (j : ℕ) → (column_at p j).live ≡ true → (i : ℕ) → has i (column_entries p j) ≡ true → IsWithin p 1 false (part.Sides i) j
-  sides_near j on i h = inr (i, refl, alone i, stands_too i j on h)
-
-  -- a rule that reads a column, its bounds and the sides of its rows
-  pub by_column : (j : ℕ) → (column_at p j).live ≡ true → (a : Part) → Contains (parts_on (part.Col j ∷ part.Bounds j ∷ []) sides_named p) a → IsWithin p 1 false a j
-  by_column j on a c = by (Contains-append_cases (part.Col j ∷ part.Bounds j ∷ []) (sides_of (terms_in (contents_of p (part.Col j)))) a c)
-    where
-      by : Contains (part.Col j ∷ part.Bounds j ∷ []) a ⊎ Contains (sides_of (terms_in (contents_of p (part.Col j)))) a → IsWithin p 1 false a j
-      by (inl d) = two_in (λ (b : Part). IsWithin p 1 false b j) (part.Col j) (part.Bounds j) a (inl (alone j)) (inl (alone j)) d
-      by (inr d) = each_mapped (λ (b : Part). IsWithin p 1 false b j) (λ (t : Term). part.Sides t.id) (terms_in (contents_of p (part.Col j))) a
-          (λ t e. sides_near j on t.id (subst (λ (ts : List Term). has t.id ts ≡ true) (column_names p j on) (has_of (terms_in (contents_of p (part.Col j))) t e))) d
-
-  -- ---- a row, two of its columns, and the sides of the rows of both
-  -- what a column holds, and its bounds, are one step from each of its rows, and the sides of its rows two
-  column_far : (i j : ℕ) (a : Part) → spreads a ≡ true → (row_at p i).live ≡ true → has j (row_entries p i) ≡ true → Contains (columns_with a) j → IsWithin p 2 true a i
-  column_far i j a spread on h c = inl (inr (j, spread, c, stands_back i j on h))
-
-  sides_far : (i j r : ℕ) → (row_at p i).live ≡ true → (column_at p j).live ≡ true → has j (row_entries p i) ≡ true → has r (column_entries p j) ≡ true → IsWithin p 2 true (part.Sides r) i
-  sides_far i j r on live h g = inr (j, refl, sides_near j live r g, stands_back i j on h)
-
   -- the terms of a column
   abbrev names : ℕ → List Term
   names j = terms_in (contents_of p (part.Col j))
 
-  pub by_pair : (i j k : ℕ) → SaidAt p i j k → (a : Part) → Contains (parts_on (heads i j k) more p) a → IsWithin p 2 true a i
+  -- a rule that reads a row, its sides and the bounds of its columns
+  bounds_lead : (i : ℕ) → (row_at p i).live ≡ true → (j : ℕ) → has j (row_entries p i) ≡ true → Leads p RowsOfBounds (part.Bounds j) i
+  bounds_lead i on j h = inr (j, alone j, stands_back i j on h)
+
+  pub by_row : (i : ℕ) → (row_at p i).live ≡ true → (a : Part) → Contains (parts_on (part.Row i ∷ part.Sides i ∷ []) bounds_named p) a → Leads p RowsOfBounds a i
+  by_row i on a c = by (Contains-append_cases (part.Row i ∷ part.Sides i ∷ []) (bounds_of (terms_in (contents_of p (part.Row i)))) a c)
+    where
+      by : Contains (part.Row i ∷ part.Sides i ∷ []) a ⊎ Contains (bounds_of (terms_in (contents_of p (part.Row i)))) a → Leads p RowsOfBounds a i
+      by (inl d) = two_in (λ (b : Part). Leads p RowsOfBounds b i) (part.Row i) (part.Sides i) a (inl (alone i)) (inl (alone i)) d
+      by (inr d) = each_mapped (λ (b : Part). Leads p RowsOfBounds b i) (λ (t : Term). part.Bounds t.id) (terms_in (contents_of p (part.Row i))) a
+          (λ t e. bounds_lead i on t.id (subst (λ (ts : List Term). has t.id ts ≡ true) (row_names p i on) (has_of (terms_in (contents_of p (part.Row i))) t e))) d
+
+  -- a rule that reads a column, its bounds and the sides of its rows
+  sides_lead : (j : ℕ) → (column_at p j).live ≡ true → (i : ℕ) → has i (names j) ≡ true → Leads p ColumnsOfSides (part.Sides i) j
+  sides_lead j on i h = inr (i, alone i, stands_too i j on (subst (λ (ts : List Term). has i ts ≡ true) (column_names p j on) h))
+
+  pub by_column : (j : ℕ) → (column_at p j).live ≡ true → (a : Part) → Contains (parts_on (part.Col j ∷ part.Bounds j ∷ []) sides_named p) a → Leads p ColumnsOfSides a j
+  by_column j on a c = by (Contains-append_cases (part.Col j ∷ part.Bounds j ∷ []) (sides_of (names j)) a c)
+    where
+      by : Contains (part.Col j ∷ part.Bounds j ∷ []) a ⊎ Contains (sides_of (names j)) a → Leads p ColumnsOfSides a j
+      by (inl d) = two_in (λ (b : Part). Leads p ColumnsOfSides b j) (part.Col j) (part.Bounds j) a (inl (alone j)) (inl (alone j)) d
+      by (inr d) = each_mapped (λ (b : Part). Leads p ColumnsOfSides b j) (λ (t : Term). part.Sides t.id) (names j) a (λ t e. sides_lead j on t.id (has_of (names j) t e)) d
+
+  -- ---- a row, two of its columns, and the sides of the rows of both
+  column_leads : (i j : ℕ) (a : Part) → (row_at p i).live ≡ true → has j (row_entries p i) ≡ true → Contains (columns_with a) j → Leads p RowsOfBoth a i
+  column_leads i j a on h c = inr (j, inl c, stands_back i j on h)
+
+  far_sides_lead : (i j r : ℕ) → (row_at p i).live ≡ true → (column_at p j).live ≡ true → has j (row_entries p i) ≡ true → has r (names j) ≡ true → Leads p RowsOfBoth (part.Sides r) i
+  far_sides_lead i j r on live h g = inr (j, inr (r, alone r, stands_too r j live (subst (λ (ts : List Term). has r ts ≡ true) (column_names p j live) g)), stands_back i j on h)
+
+  pub by_pair : (i j k : ℕ) → SaidAt p i j k → (a : Part) → Contains (parts_on (heads i j k) more p) a → Leads p RowsOfBoth a i
   by_pair i j k o a c = by (Contains-append_cases (heads i j k) (more (map (contents_of p) (heads i j k))) a c)
     where
-      first : (r : ℕ) → has r (names j) ≡ true → IsWithin p 2 true (part.Sides r) i
-      first r h = sides_far i j r o.row_live o.first_live o.first_in (subst (λ (x : List Term). has r x ≡ true) (column_names p j o.first_live) h)
-
-      second : (r : ℕ) → has r (names k) ≡ true → IsWithin p 2 true (part.Sides r) i
-      second r h = sides_far i k r o.row_live o.second_live o.second_in (subst (λ (x : List Term). has r x ≡ true) (column_names p k o.second_live) h)
-
-      of_term : (t : Term) → Contains (names j ++ filter (λ u. not (has u.id (names j))) (names k)) t → IsWithin p 2 true (part.Sides t.id) i
+      of_term : (t : Term) → Contains (names j ++ filter (λ u. not (has u.id (names j))) (names k)) t → Leads p RowsOfBoth (part.Sides t.id) i
       of_term t d = among (Contains-append_cases (names j) (filter (λ u. not (has u.id (names j))) (names k)) t d)
         where
-          among : Contains (names j) t ⊎ Contains (filter (λ u. not (has u.id (names j))) (names k)) t → IsWithin p 2 true (part.Sides t.id) i
-          among (inl e) = first t.id (has_of (names j) t e)
-          among (inr e) = second t.id (has_of (names k) t (kept_is (λ u. not (has u.id (names j))) (names k) t e))
+          among : Contains (names j) t ⊎ Contains (filter (λ u. not (has u.id (names j))) (names k)) t → Leads p RowsOfBoth (part.Sides t.id) i
+          among (inl e) = far_sides_lead i j t.id o.row_live o.first_live o.first_in (has_of (names j) t e)
+          among (inr e) = far_sides_lead i k t.id o.row_live o.second_live o.second_in (has_of (names k) t (kept_is (λ u. not (has u.id (names j))) (names k) t e))
 
-      sides : Contains (map part.Sides (rows_of_both (names j) (names k))) a → IsWithin p 2 true a i
-      sides d = each_mapped (λ (b : Part). IsWithin p 2 true b i) part.Sides (rows_of_both (names j) (names k)) a
-          (λ r e. each_mapped (λ (m : ℕ). IsWithin p 2 true (part.Sides m) i) (λ (t : Term). t.id) (names j ++ filter (λ u. not (has u.id (names j))) (names k)) r of_term e) d
+      sides : Contains (map part.Sides (rows_of_both (names j) (names k))) a → Leads p RowsOfBoth a i
+      sides d = each_mapped (λ (b : Part). Leads p RowsOfBoth b i) part.Sides (rows_of_both (names j) (names k)) a
+          (λ r e. each_mapped (λ (m : ℕ). Leads p RowsOfBoth (part.Sides m) i) (λ (t : Term). t.id) (names j ++ filter (λ u. not (has u.id (names j))) (names k)) r of_term e) d
 
-      by : Contains (heads i j k) a ⊎ Contains (more (map (contents_of p) (heads i j k))) a → IsWithin p 2 true a i
-      by (inl d) = five_in (λ (b : Part). IsWithin p 2 true b i) (part.Row i) (part.Col j) (part.Col k) (part.Bounds j) (part.Bounds k) a
-          (inl (inl (alone i))) (column_far i j (part.Col j) refl o.row_live o.first_in (alone j)) (column_far i k (part.Col k) refl o.row_live o.second_in (alone k))
-          (column_far i j (part.Bounds j) refl o.row_live o.first_in (alone j)) (column_far i k (part.Bounds k) refl o.row_live o.second_in (alone k)) d
+      by : Contains (heads i j k) a ⊎ Contains (more (map (contents_of p) (heads i j k))) a → Leads p RowsOfBoth a i
+      by (inl d) = five_in (λ (b : Part). Leads p RowsOfBoth b i) (part.Row i) (part.Col j) (part.Col k) (part.Bounds j) (part.Bounds k) a
+          (inl (alone i)) (column_leads i j (part.Col j) o.row_live o.first_in (alone j)) (column_leads i k (part.Col k) o.row_live o.second_in (alone k))
+          (column_leads i j (part.Bounds j) o.row_live o.first_in (alone j)) (column_leads i k (part.Bounds k) o.row_live o.second_in (alone k)) d
       by (inr d) = sides d

@@ -12,29 +12,22 @@ use Rattle.presolve_model.specs.declared.instance.Verdict.TheVariants.{CrossedBo
 use Rattle.presolve_model.specs.declared.instance.Rule.{Rule}
 use Rattle.presolve_model.specs.declared.instance.Rule.TheVariants as rule
 use Rattle.presolve_model.specs.Enabled.{enabled_on, reads}
-use Rattle.presolve_model.specs.Instances.{id_at, instances_from, is_of_rows, reach_of, rule_at}
+use Rattle.presolve_model.specs.Instances.{id_at, instances_from, reach_of, rule_at}
 use Rattle.presolve_model.specs.Order.{verdict_order}
 use Rattle.presolve_model.proofs.ByCases.{IsListed, reductions_listed, verdicts_listed}
-use Rattle.place_laws.specs.Choosing.{columns_with, rows_with}
+use Rattle.place_laws.specs.Choosing.{columns_with, Leads, rows_with}
 use Rattle.place_laws.specs.Standing.{IsLaterAt}
 use Rattle.place_laws.proofs.Alike.{IsAlikeFrom, ReadsRow, alike_by_row}
-use Rattle.place_laws.proofs.Near.{IsWithin, by_column, by_pair}
+use Rattle.place_laws.proofs.Near.{by_column, by_pair}
 use Rattle.place_laws.proofs.ShortLists.{alone, each_mapped, one_in, three_in, two_in}
 use Rattle.problem_model.specs.Problems.{IsSparse, row_entries}
 use Rattle.dual_laws.specs.DominatedColumn.{pairs_of}
 use Rattle.dual_laws.proofs.FixedByCost as fixed_by_cost
 use Rattle.dual_laws.proofs.DominatedColumn as dominated_column
 use Rattle.dual_laws.proofs.Ray as ray
-use Rattle.presolve_model.specs.declared.instance.Reach.{Reach}
-use Rattle.presolve_model.specs.declared.instance.Reach.TheVariants.{Here, Near, Far}
 
--- ---- what an enabled instance reads is so near to its first id
-abbrev pub steps : Reach → ℕ
-steps Here = 0
-steps Near = 1
-steps Far = 2
-
-pub reads_near : (p : Sparse) → IsSparse p → (e : Instance) → enabled_on p e ≡ true → (a : Part) → Contains (reads p e) a → IsWithin p (steps (reach_of (rule_at e))) (is_of_rows (rule_at e)) a (id_at e)
+-- ---- what an enabled instance reads leads to its first id
+pub reads_near : (p : Sparse) → IsSparse p → (e : Instance) → enabled_on p e ≡ true → (a : Part) → Contains (reads p e) a → Leads p (reach_of (rule_at e)) a (id_at e)
 reads_near p s (at.Verdict (CrossedBounds j)) on a c = one_in (λ (b : Part). Contains (columns_with b) j) (part.Bounds j) a (alone j) c
 reads_near p s (at.Verdict (CrossedSides i)) on a c = one_in (λ (b : Part). Contains (rows_with b) i) (part.Sides i) a (alone i) c
 reads_near p s (at.Verdict (Ray j)) on a c = by_column p s j (ray.said p j on).live a c

@@ -1,5 +1,5 @@
 -- Ids of rows and columns to be looked at, and the instances there.
-use Rattle.std.specs.Prelude.{◌≡◌, ◌⊎◌, ℕ, ◌+◌, ◌≤◌, Bool, true, false, ⊤, List, [], ◌∷◌, ◌++◌, length, map, if◌then◌else◌}
+use Rattle.std.specs.Prelude.{◌≡◌, ◌⊎◌, ℕ, ◌+◌, ◌≤◌, true, ⊤, List, [], ◌∷◌, ◌++◌, length, map}
 use Rattle.std.specs.List.{Contains, filter, flat_map, range_with_len}
 use Rattle.fractions.specs.declared.Numbers.{Numbers}
 use Rattle.lp_model.specs.Sparse.{has}
@@ -9,41 +9,44 @@ use Rattle.problem_model.specs.Problems.{column_entries, row_entries}
 use Rattle.problem_model.specs.Sparse.{Sparse}
 use Rattle.presolve_model.specs.declared.instance.Instance.{Instance}
 use Rattle.presolve_model.specs.declared.instance.Reach.{Reach}
-use Rattle.presolve_model.specs.declared.instance.Reach.TheVariants.{Here, Near, Far}
+use Rattle.presolve_model.specs.declared.instance.Reach.TheVariants.{OwnRow, OwnColumn, RowsOfBounds, ColumnsOfSides, RowsOfBoth}
 use Rattle.presolve_model.specs.declared.instance.Rule.{Rule}
 use Rattle.presolve_model.specs.Enabled.{enabled_on}
 use Rattle.presolve_model.specs.Given.{Proposed}
-use Rattle.presolve_model.specs.Instances.{id_at, is_of_rows, rule_at, reach_of}
+use Rattle.presolve_model.specs.Instances.{id_at, rule_at, reach_of}
 use Rattle.presolve_model.specs.Order.{reduction_order, verdict_order}
 use Rattle.presolve_model.specs.Scans.{instances_at, proposal_of}
-use Rattle.place_laws.specs.Marks.{IsAsleep}
+use Rattle.place_laws.specs.Marks.{IsAsleep, Marks, parts_for}
 
 -- ids of rows and of columns
 pub record Places : Type 0 where
   pub rows : List ℕ
   pub columns : List ℕ
 
--- where rules are looked for that reach no further than a row or a column of their own, one step from it, and two
+-- where rules are looked for, by their reach
 pub record Around : Type 0 where
-  pub here : Places
-  pub near : Places
-  pub far : Places
+  pub own : Places
+  pub rows_of_bounds : List ℕ
+  pub columns_of_sides : List ℕ
+  pub rows_of_both : List ℕ
 
-abbrev pub within : Around → Reach → Places
-within n Here = n.here
-within n Near = n.near
-within n Far = n.far
+abbrev pub within : Around → Reach → List ℕ
+within n OwnRow = n.own.rows
+within n OwnColumn = n.own.columns
+within n RowsOfBounds = n.rows_of_bounds
+within n ColumnsOfSides = n.columns_of_sides
+within n RowsOfBoth = n.rows_of_both
 
 -- the first ids of a rule among them
 abbrev pub ids_of : Around → Rule → List ℕ
-ids_of n rule = if is_of_rows rule then (within n (reach_of rule)).rows else (within n (reach_of rule)).columns
+ids_of n rule = within n (reach_of rule)
 
 -- all of a problem
 abbrev pub all_places : Sparse → Places
 all_places p = record { rows = range_with_len 0 (length p.matrix.rows); columns = range_with_len 0 (length p.matrix.columns) }
 
 abbrev pub all_around : Sparse → Around
-all_around p = record { here = all_places p; near = all_places p; far = all_places p }
+all_around p = record { own = all_places p; rows_of_bounds = (all_places p).rows; columns_of_sides = (all_places p).columns; rows_of_both = (all_places p).rows }
 
 -- the row or the column of a part
 abbrev pub rows_with : Part → List ℕ
@@ -59,41 +62,45 @@ columns_with (part.Col j) = j ∷ []
 columns_with (part.Bounds j) = j ∷ []
 
 -- the rows and columns of parts are among them
-pub record HoldsParts (noted : List Part) (n : Places) : Type 0 where
-  pub rows : (a : Part) (i : ℕ) → Contains noted a → Contains (rows_with a) i → Contains n.rows i
-  pub columns : (a : Part) (j : ℕ) → Contains noted a → Contains (columns_with a) j → Contains n.columns j
+pub record HoldsParts (parts : List Part) (n : Places) : Type 0 where
+  pub rows : (a : Part) (i : ℕ) → Contains parts a → Contains (rows_with a) i → Contains n.rows i
+  pub columns : (a : Part) (j : ℕ) → Contains parts a → Contains (columns_with a) j → Contains n.columns j
 
--- a step: m has the rows and columns that n has, the columns that stand in these rows, and the rows in which these columns stand
-pub record HoldsStep (p : Sparse) (n m : Places) : Type 0 where
-  pub rows : (i : ℕ) → Contains n.rows i → Contains m.rows i
-  pub columns : (j : ℕ) → Contains n.columns j → Contains m.columns j
-  pub columns_of : (i j : ℕ) → Contains n.rows i → has j (row_entries p i) ≡ true → Contains m.columns j
-  pub rows_of : (i j : ℕ) → Contains n.columns j → has i (column_entries p j) ≡ true → Contains m.rows i
+-- the row whose sides it is, and the column whose bounds it is
+abbrev pub sides_with : Part → List ℕ
+sides_with (part.Sides i) = i ∷ []
+sides_with (part.Row i) = []
+sides_with (part.Col j) = []
+sides_with (part.Bounds j) = []
 
--- m has the rows and columns that n has
-pub record HoldsAll (n m : Places) : Type 0 where
-  pub rows : (i : ℕ) → Contains n.rows i → Contains m.rows i
-  pub columns : (j : ℕ) → Contains n.columns j → Contains m.columns j
+abbrev pub bounds_with : Part → List ℕ
+bounds_with (part.Bounds j) = j ∷ []
+bounds_with (part.Row i) = []
+bounds_with (part.Sides i) = []
+bounds_with (part.Col j) = []
 
--- the rows and columns of parts are there, and those that are one step and two from them
-pub record HoldsSteps (p : Sparse) (noted : List Part) (n : Around) : Type 0 where
-  pub here : HoldsParts noted n.here
-  pub near : HoldsStep p n.here n.near
-  pub far : HoldsStep p n.near n.far
+-- row k is one in which a column stands that is among these; column k is one that stands in a row among these
+abbrev pub StandsIn : Sparse → List ℕ → ℕ → Type 0
+StandsIn p js k = (j : ℕ) × Contains js j × (has k (column_entries p j) ≡ true)
 
--- whether what is around a part is looked at too. For what stands in a row it is not: the rules that read it have the row as their first id
-abbrev pub spreads : Part → Bool
-spreads (part.Row i) = false
-spreads (part.Sides i) = true
-spreads (part.Col j) = true
-spreads (part.Bounds j) = true
+abbrev pub StandsOn : Sparse → List ℕ → ℕ → Type 0
+StandsOn p is k = (i : ℕ) × Contains is i × (has k (row_entries p i) ≡ true)
 
--- the rows and columns of parts are there, and those around the parts that spread
-pub record HoldsAround (p : Sparse) (noted : List Part) (n : Around) : Type 0 where
-  pub here : HoldsParts noted n.here
-  pub near : HoldsParts noted n.near
-  pub far : HoldsParts noted n.far
-  pub around : (m : Around) × HoldsSteps p (filter spreads noted) m × HoldsAll m.near n.near × HoldsAll m.far n.far
+-- a part leads to row or column k: the first id of what reads it may be there
+abbrev pub Leads : Sparse → Reach → Part → ℕ → Type 0
+Leads p OwnRow a k = Contains (rows_with a) k
+Leads p OwnColumn a k = Contains (columns_with a) k
+Leads p RowsOfBounds a k = Contains (rows_with a) k ⊎ StandsIn p (bounds_with a) k
+Leads p ColumnsOfSides a k = Contains (columns_with a) k ⊎ StandsOn p (sides_with a) k
+Leads p RowsOfBoth a k = Contains (rows_with a) k ⊎ ((j : ℕ) × (Contains (columns_with a) j ⊎ StandsOn p (sides_with a) j) × (has k (column_entries p j) ≡ true))
+
+-- what parts lead to is among these
+abbrev pub HoldsLed : Sparse → Reach → List Part → List ℕ → Type 0
+HoldsLed p r parts ids = (a : Part) (k : ℕ) → Contains parts a → Leads p r a k → Contains ids k
+
+-- what the parts that count lead to is there
+abbrev pub HoldsAround : Sparse → Marks → Around → Type 0
+HoldsAround p m n = (r : Reach) → HoldsLed p r (parts_for m r) (within n r)
 
 -- they ascend from a
 abbrev pub AscendsFrom : ℕ → List ℕ → Type 0
@@ -105,9 +112,10 @@ pub record IsSorted (n : Places) : Type 0 where
   pub columns : AscendsFrom 0 n.columns
 
 pub record AreSorted (n : Around) : Type 0 where
-  pub here : IsSorted n.here
-  pub near : IsSorted n.near
-  pub far : IsSorted n.far
+  pub own : IsSorted n.own
+  pub rows_of_bounds : AscendsFrom 0 n.rows_of_bounds
+  pub columns_of_sides : AscendsFrom 0 n.columns_of_sides
+  pub rows_of_both : AscendsFrom 0 n.rows_of_both
 
 -- each enabled instance has its first id there
 abbrev pub HasEach : Sparse → Around → Type 0

@@ -1,5 +1,5 @@
 -- What rounds mark: parts that are noted for the next one, and a part of each instance that sleeps.
-use Rattle.std.specs.Prelude.{◌≡◌, ◌⊎◌, Bool, true, false, List}
+use Rattle.std.specs.Prelude.{◌≡◌, ◌⊎◌, Bool, true, false, List, if◌then◌else◌}
 use Rattle.std.specs.List.{Contains}
 use Rattle.fractions.specs.declared.Numbers.{Numbers}
 use Rattle.problem_model.specs.declared.part.Part.{Part}
@@ -8,17 +8,33 @@ use Rattle.presolve_model.specs.declared.instance.Instance.{Instance}
 use Rattle.presolve_model.specs.declared.instance.Instance.TheVariants as at
 use Rattle.presolve_model.specs.declared.outcome.Outcome.{Outcome}
 use Rattle.presolve_model.specs.declared.outcome.Outcome.TheVariants.{Closed, Full, Stale, Past, NotDecimal, Applied, NoMemory}
+use Rattle.dual_laws.specs.Forms.{seen_at}
+use Rattle.presolve_model.specs.declared.instance.Reach.{Reach}
 use Rattle.presolve_model.specs.Changes.{ChangeFits, ChangeIsWritten}
 use Rattle.presolve_model.specs.Enabled.{reading_of, reads}
+use Rattle.presolve_model.specs.Instances.{goes_by_form, reach_of, rule_at}
 
+-- what is noted: parts that have changed, and a part of each instance that is left over. What is stirred is the same for the rules that look
+-- only at the form of ends: parts of which something else is seen
 pub record Marks : Type 0 where
   pub noted : List Part
+  pub stirred : List Part
   pub asleep : List Part
+
+-- the parts that count for a reach
+abbrev pub parts_for : Marks → Reach → List Part
+parts_for n r = if goes_by_form r then n.stirred else n.noted
 
 -- the one has what the other has
 pub record Grows (n m : Marks) : Type 0 where
   pub noted : (a : Part) → Contains n.noted a → Contains m.noted a
+  pub stirred : (a : Part) → Contains n.stirred a → Contains m.stirred a
   pub asleep : (a : Part) → Contains n.asleep a → Contains m.asleep a
+
+-- each part of which something else is seen in q than in p is stirred, and what was still is
+pub record AreStirred (p q : Sparse) (before after : List Part) : Type 0 where
+  pub kept : (a : Part) → Contains before a → Contains after a
+  pub changed : (a : Part) → (seen_at q a ≡ seen_at p a) ⊎ Contains after a
 
 -- an instance reads a part that is noted
 abbrev pub IsNoted : Sparse → List Part → Instance → Type 0
@@ -34,12 +50,14 @@ abbrev pub RestsOnReading : Numbers → Sparse → Instance → Type 0
 RestsOnReading numbers p e = (q : Sparse) → reading_of q e ≡ reading_of p e → IsRefused numbers q e
 
 -- an instance sleeps: it reads a part that tells so, and is refused until what it reads changes
-abbrev pub IsAsleep : Numbers → Sparse → List Part → Instance → Type 0
-IsAsleep numbers p asleep e = IsNoted p asleep e × RestsOnReading numbers p e
+pub record IsAsleep (numbers : Numbers) (p : Sparse) (asleep : List Part) (e : Instance) : Type 0 where
+  pub told : IsNoted p asleep e
+  pub rests : RestsOnReading numbers p e
+  pub by_ends : goes_by_form (reach_of (rule_at e)) ≡ false
 
 -- it is looked at in the next round, or sleeps
 abbrev pub IsMarked : Numbers → Sparse → Marks → Instance → Type 0
-IsMarked numbers p n e = IsNoted p n.noted e ⊎ IsAsleep numbers p n.asleep e
+IsMarked numbers p n e = IsNoted p (parts_for n (reach_of (rule_at e))) e ⊎ IsAsleep numbers p n.asleep e
 
 -- an answer refuses for a number
 abbrev pub is_refusal : Outcome → Bool

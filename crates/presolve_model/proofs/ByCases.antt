@@ -1,5 +1,5 @@
 -- The laws of the tables by cases: one line a rule.
-use Rattle.std.proofs.Common.{◌≡◌, ◌<◌, ℕ, true, List, [], ◌∷◌, refl, sym, ap, subst, arith, true≢false}
+use Rattle.std.proofs.Common.{◌≡◌, ◌<◌, ℕ, false, true, List, [], ◌∷◌, refl, sym, ap, subst, arith, true≢false}
 use Rattle.std.specs.List.{All, Contains}
 use Rattle.rational.specs.Number.{Number}
 use Rattle.fractions.specs.declared.Numbers.{Numbers}
@@ -31,6 +31,7 @@ use Rattle.singleton_laws.proofs.CrossedSides as crossed_sides
 use Rattle.dual_laws.specs.DominatedColumn.{pairs_of}
 use Rattle.dual_laws.proofs.FixedByCost as fixed_by_cost
 use Rattle.dual_laws.proofs.DominatedColumn as dominated_column
+use Rattle.dual_laws.proofs.Forms.{dominated_more_rests, dominated_rests, fixed_by_cost_rests, ray_rests, RestsOnSeen, sides_named_rest}
 use Rattle.dual_laws.proofs.Ray as ray
 use Rattle.presolve_model.specs.declared.instance.Instance.{Instance}
 use Rattle.presolve_model.specs.declared.instance.Instance.TheVariants as at
@@ -40,10 +41,12 @@ use Rattle.presolve_model.specs.declared.instance.Verdict.{Verdict}
 use Rattle.presolve_model.specs.declared.instance.Verdict.TheVariants.{CrossedBounds, CrossedSides, Ray}
 use Rattle.presolve_model.specs.Changes.{ChangeFits, ChangeIsWritten}
 use Rattle.presolve_model.specs.Enabled.{enabled_on, reading_of}
-use Rattle.presolve_model.specs.Instances.{instances_from, id_count, rests_on_reading, rule_of, rule_at, id_at}
+use Rattle.presolve_model.specs.Instances.{goes_by_form, id_at, id_count, instances_from, reach_of, rests_on_reading, rule_at, rule_of}
+use Rattle.presolve_model.specs.declared.instance.Rule.{Rule}
+use Rattle.presolve_model.specs.declared.instance.Rule.TheVariants as rule
 use Rattle.presolve_model.specs.Meanings.{Meant, says_no_point}
 use Rattle.presolve_model.specs.Order.{verdict_order, reduction_order}
-use Rattle.presolve_model.specs.Tables.{Computes, edits, record_of}
+use Rattle.presolve_model.specs.Tables.{Computes, edits, holds, more, record_of}
 use Rattle.presolve_model.proofs.Lists.{contains_map, contains_pair}
 
 -- ---- what each rule owes
@@ -154,3 +157,25 @@ pub verdicts_do_not_rest : (v : Verdict) → rests_on_reading (rule_at (at.Verdi
 verdicts_do_not_rest (CrossedBounds j) t = true≢false (sym t)
 verdicts_do_not_rest (CrossedSides i) t = true≢false (sym t)
 verdicts_do_not_rest (Ray j) t = true≢false (sym t)
+
+-- ---- where only the form of ends is looked at, what is read and the condition rest on what is seen
+pub record RestsOnForms (e : Instance) : Type 0 where
+  pub more : RestsOnSeen (more e)
+  pub holds : RestsOnSeen (holds e)
+
+pub forms_suffice : (e : Instance) → goes_by_form (reach_of (rule_at e)) ≡ true → RestsOnForms e
+forms_suffice (at.Verdict (CrossedBounds j)) t = absurd (true≢false (sym t))
+forms_suffice (at.Verdict (CrossedSides i)) t = absurd (true≢false (sym t))
+forms_suffice (at.Verdict (Ray j)) t = record { more = sides_named_rest; holds = ray_rests }
+forms_suffice (at.Reduction (EmptyRow i)) t = absurd (true≢false (sym t))
+forms_suffice (at.Reduction (SingletonRow i)) t = absurd (true≢false (sym t))
+forms_suffice (at.Reduction (FixedColumn j)) t = absurd (true≢false (sym t))
+forms_suffice (at.Reduction (RoundBounds j)) t = absurd (true≢false (sym t))
+forms_suffice (at.Reduction (FixedByCost j)) t = record { more = sides_named_rest; holds = fixed_by_cost_rests }
+forms_suffice (at.Reduction (DominatedColumn i j k)) t = record { more = dominated_more_rests; holds = dominated_rests j k }
+forms_suffice (at.Reduction (EmptyColumn j)) t = absurd (true≢false (sym t))
+
+-- of those whose refusals rest on what is read more is looked at than the form
+pub sleepers_read_ends : (r : Rule) → rests_on_reading r ≡ true → goes_by_form (reach_of r) ≡ false
+sleepers_read_ends rule.RoundBounds t = refl
+sleepers_read_ends r t = absurd (true≢false (sym t))

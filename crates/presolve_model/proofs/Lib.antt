@@ -4,3 +4,4 @@ pub mod ByCases
 pub mod Tabled
 pub mod Listing
 pub mod Histories
+pub mod Forms

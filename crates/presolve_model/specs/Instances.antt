@@ -8,7 +8,7 @@ use Rattle.presolve_model.specs.declared.instance.Reduction.TheVariants.{EmptyRo
 use Rattle.presolve_model.specs.declared.instance.Verdict.{Verdict}
 use Rattle.presolve_model.specs.declared.instance.Verdict.TheVariants.{CrossedBounds, CrossedSides, Ray}
 use Rattle.presolve_model.specs.declared.instance.Reach.{Reach}
-use Rattle.presolve_model.specs.declared.instance.Reach.TheVariants.{Here, Near, Far}
+use Rattle.presolve_model.specs.declared.instance.Reach.TheVariants.{OwnRow, OwnColumn, RowsOfBounds, ColumnsOfSides, RowsOfBoth}
 use Rattle.presolve_model.specs.declared.instance.Rule.{Rule}
 use Rattle.presolve_model.specs.declared.instance.Rule.TheVariants as rule
 use Rattle.presolve_model.specs.declared.instance.Instance.{Instance}
@@ -27,31 +27,38 @@ instances_from p rule.FixedByCost j = at.Reduction (FixedByCost j) ∷ []
 instances_from p rule.DominatedColumn i = map (λ x. at.Reduction (DominatedColumn i x.0 x.1)) (pairs_of (row_entries p i))
 instances_from p rule.EmptyColumn j = at.Reduction (EmptyColumn j) ∷ []
 
+-- where the first id of an enabled instance is, seen from a part that it reads
+abbrev pub reach_of : Rule → Reach
+reach_of rule.CrossedBounds = OwnColumn
+reach_of rule.CrossedSides = OwnRow
+reach_of rule.Ray = ColumnsOfSides
+reach_of rule.EmptyRow = OwnRow
+reach_of rule.SingletonRow = OwnRow
+reach_of rule.FixedColumn = OwnColumn
+reach_of rule.RoundBounds = OwnColumn
+reach_of rule.FixedByCost = ColumnsOfSides
+reach_of rule.DominatedColumn = RowsOfBoth
+reach_of rule.EmptyColumn = OwnColumn
+
+-- whether it is a row; else it is a column
+abbrev pub is_at_rows : Reach → Bool
+is_at_rows OwnRow = true
+is_at_rows OwnColumn = false
+is_at_rows RowsOfBounds = true
+is_at_rows ColumnsOfSides = false
+is_at_rows RowsOfBoth = true
+
 -- whether the first ids of a rule are those of rows; else they are those of columns
 abbrev pub is_of_rows : Rule → Bool
-is_of_rows rule.CrossedBounds = false
-is_of_rows rule.CrossedSides = true
-is_of_rows rule.Ray = false
-is_of_rows rule.EmptyRow = true
-is_of_rows rule.SingletonRow = true
-is_of_rows rule.FixedColumn = false
-is_of_rows rule.RoundBounds = false
-is_of_rows rule.FixedByCost = false
-is_of_rows rule.DominatedColumn = true
-is_of_rows rule.EmptyColumn = false
+is_of_rows r = is_at_rows (reach_of r)
 
--- how far the first id of an enabled instance may be from a part that it reads
-abbrev pub reach_of : Rule → Reach
-reach_of rule.CrossedBounds = Here
-reach_of rule.CrossedSides = Here
-reach_of rule.Ray = Near
-reach_of rule.EmptyRow = Here
-reach_of rule.SingletonRow = Here
-reach_of rule.FixedColumn = Here
-reach_of rule.RoundBounds = Here
-reach_of rule.FixedByCost = Near
-reach_of rule.DominatedColumn = Far
-reach_of rule.EmptyColumn = Here
+-- whether only the form of ends is looked at
+abbrev pub goes_by_form : Reach → Bool
+goes_by_form OwnRow = false
+goes_by_form OwnColumn = false
+goes_by_form RowsOfBounds = false
+goes_by_form ColumnsOfSides = true
+goes_by_form RowsOfBoth = true
 
 -- whether a refusal of a rule's instances, for a number that is past or can't be written, rests on what they read alone
 abbrev pub rests_on_reading : Rule → Bool

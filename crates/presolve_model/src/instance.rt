@@ -25,16 +25,20 @@ pub enum Rule {
     EmptyColumn,
 }
 
-/// How far the first id of an instance may be from a part that it reads. A step is that from a row to a column that stands in it, or from a
-/// column to such a row.
+/// Where the first id of an instance is, seen from a part that it reads. So a round knows where to look when the part has changed.
 #[derive(Clone, Copy, Debug, PartialEq, Eq)]
 pub enum Reach {
-    /// It is the row or the column of the part.
-    Here,
-    /// At most one step away.
-    Near,
-    /// At most two steps away.
-    Far,
+    /// It is the row of the part.
+    OwnRow,
+    /// It is the column of the part.
+    OwnColumn,
+    /// It is a row: that of the part, or one in which the column stands whose bounds the part is.
+    RowsOfBounds,
+    /// It is a column: that of the part, or one that stands in the row whose sides the part is. Of ends only the form is looked at.
+    ColumnsOfSides,
+    /// It is a row: that of the part, one in which the column of the part stands, or one of a column that stands in the row whose sides the
+    /// part is. Of ends only the form is looked at.
+    RowsOfBoth,
 }
 
 /// A rule that changes the problem, at rows and columns by original id.

@@ -1,6 +1,6 @@
 //! Laws of the tables over the rules. No rule is named here.
 
-ghost use Rattle.std.specs.Prelude.{◌≡◌, ℕ, ◌+◌, ◌-◌, ◌^◌, ◌<◌, ◌≤◌, true, All, List, length};
+ghost use Rattle.std.specs.Prelude.{◌≡◌, ℕ, ◌+◌, ◌-◌, ◌^◌, ◌<◌, ◌≤◌, false, true, All, List, length, map};
 ghost use Rattle.std.specs.List.{Contains};
 ghost use Rattle.rational.specs.Number.{Number, ◌+ℚ◌};
 ghost use Rattle.fractions.specs.declared.Numbers.{Numbers};
@@ -30,7 +30,9 @@ ghost use Rattle.presolve_model.specs.declared.instance.Reduction.{Reduction};
 ghost use Rattle.presolve_model.specs.declared.instance.Verdict.{Verdict};
 ghost use Rattle.presolve_model.specs.Changes.{added, changed, ChangeFits, ChangeIsWritten};
 ghost use Rattle.presolve_model.specs.Enabled.{Enabled, enabled_on, reading_of, reads};
-ghost use Rattle.presolve_model.specs.Instances.{rests_on_reading, rule_of};
+ghost use Rattle.presolve_model.specs.Instances.{goes_by_form, reach_of, rests_on_reading, rule_at, rule_of};
+ghost use Rattle.presolve_model.specs.declared.instance.Rule.{Rule};
+ghost use Rattle.dual_laws.specs.Forms.{seen_at};
 ghost use Rattle.presolve_model.specs.Meanings.{Meant};
 ghost use Rattle.presolve_model.specs.Order.{reduction_order, verdict_order};
 ghost use Rattle.presolve_model.specs.Replay.{CanApply, replay, Replays};
@@ -83,6 +85,14 @@ pub fn refusals_rest_on_readings()
     ensures fits { (p q : Sparse) (r : Reduction) → rests_on_reading (rule_of r) ≡ true → enabled_on p (at.Reduction r) ≡ true → reading_of q (at.Reduction r) ≡ reading_of p (at.Reduction r) → ChangeFits r q → ChangeFits r p }
     ensures written { (numbers : Numbers) (p q : Sparse) (r : Reduction) → rests_on_reading (rule_of r) ≡ true → enabled_on p (at.Reduction r) ≡ true → reading_of q (at.Reduction r) ≡ reading_of p (at.Reduction r) → ChangeIsWritten numbers r q → ChangeIsWritten numbers r p }
     ensures applied { (numbers : Numbers) (p q : Sparse) (r : Reduction) → rests_on_reading (rule_of r) ≡ true → reading_of q (at.Reduction r) ≡ reading_of p (at.Reduction r) → CanApply numbers q r → CanApply numbers p r }
+{}
+
+/// Of a rule that looks at the form of ends alone, an instance reads the same parts, and is enabled alike, where the same is seen of what it
+/// reads; and no refusal of such a rule rests on what is read alone.
+pub fn forms_decide()
+    ensures parts { (p q : Sparse) (e : Instance) → goes_by_form (reach_of (rule_at e)) ≡ true → map (seen_at q) (reads p e) ≡ map (seen_at p) (reads p e) → reads q e ≡ reads p e }
+    ensures enabled { (p q : Sparse) (e : Instance) → goes_by_form (reach_of (rule_at e)) ≡ true → map (seen_at q) (reads p e) ≡ map (seen_at p) (reads p e) → enabled_on q e ≡ enabled_on p e }
+    ensures awake { (r : Rule) → rests_on_reading r ≡ true → goes_by_form (reach_of r) ≡ false }
 {}
 
 /// A look at all first ids lists each enabled instance with its reading, and as many reductions as are enabled.

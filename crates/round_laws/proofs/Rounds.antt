@@ -26,7 +26,7 @@ use Rattle.place_laws.specs.Choosing.{AreSorted, ids_of, instances_of, IsComplet
 use Rattle.place_laws.specs.Marks.{IsAsleep, IsMarked, Marks}
 use Rattle.round_laws.specs.Passing.{IsTracked, Passed, Tracks}
 use Rattle.place_laws.proofs.Choosing.{among_there, enabled_kept_there, is_there}
-use Rattle.round_laws.proofs.Committing.{left_how, left_open, proposals_append, same_reads}
+use Rattle.round_laws.proofs.Committing.{left_how, left_open, proposals_append}
 use Rattle.place_laws.proofs.ShortLists.{contains_in}
 use Rattle.round_laws.proofs.Thinning.{committed_more, IsIdle}
 
@@ -61,7 +61,7 @@ passed_round b c n k m sorted complete h =
       where
         by : Contains (ids_of n (rule_at e)) (id_at e) ⊎ IsAsleep b.numbers b.problem k.asleep e → IsIdle b.problem b e
         by (inl there) = absurd (true≢false (sym (contains_in (ids_of n (rule_at e)) (id_at e) there) ∙ off))
-        by (inr asleep) = inr asleep.1
+        by (inr asleep) = inr asleep.rests
 
 visited_there : (p : Sparse) (n : Around) → AreSorted n → (e : Instance) → enabled_on p e ≡ true → Contains (ids_of n (rule_at e)) (id_at e) → Contains (visited p n) e
 visited_there p n sorted (at.Verdict v) on there = Contains-append_left (instances_of p n verdict_order) (instances_of p n reduction_order) (at.Verdict v) (among_there p n sorted verdict_order (at.Verdict v) on there (verdicts_ordered v))
@@ -72,16 +72,16 @@ pub passed_marked : (b c : Ledger) (n : Around) (k m : Marks) → AreSorted n �
     → (e : Instance) → enabled_on c.problem e ≡ true → IsMarked c.numbers c.problem m e
 passed_marked b c n k m sorted complete h none room e on = by (h.tracks [] start none room e on)
   where
-    start : Tracks b.problem k (visited b.problem n ++ []) b
+    start : Tracks k (visited b.problem n ++ []) b
     start none' room' x on' = first (complete x on')
       where
-        first : Contains (ids_of n (rule_at x)) (id_at x) ⊎ IsAsleep b.numbers b.problem k.asleep x → IsTracked b.problem k (visited b.problem n ++ []) b x
-        first (inl there) = inr (subst (λ (es : List Instance). Contains es x) (sym (append-nil (visited b.problem n))) (visited_there b.problem n sorted x on' there), same_reads b.problem b.problem x refl)
+        first : Contains (ids_of n (rule_at x)) (id_at x) ⊎ IsAsleep b.numbers b.problem k.asleep x → IsTracked k (visited b.problem n ++ []) b x
+        first (inl there) = inr (subst (λ (es : List Instance). Contains es x) (sym (append-nil (visited b.problem n))) (visited_there b.problem n sorted x on' there))
         first (inr asleep) = inl (inr asleep)
 
-    by : IsTracked b.problem m [] c e → IsMarked c.numbers c.problem m e
+    by : IsTracked m [] c e → IsMarked c.numbers c.problem m e
     by (inl x) = x
-    by (inr (x, y)) = absurd (omega (arith, x.1))
+    by (inr x) = absurd (omega (arith, x.1))
 
 -- ---- commits that applied nothing were refused, each of them
 abbrev CanCommit : Ledger → Proposed → Type 0

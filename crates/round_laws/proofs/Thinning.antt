@@ -3,7 +3,7 @@ use Rattle.std.proofs.Common.{◌≡◌, ◌≢◌, ◌⊎◌, inl, inr, ℕ, ze
 use Rattle.std.specs.Prelude.{if◌then◌else◌}
 use Rattle.std.specs.List.{Contains, filter}
 use Rattle.std.proofs.lemmas.Bool.{cases_lt}
-use Rattle.std.proofs.lemmas.List.Elements.{Contains-append_cases, Contains-append_right}
+use Rattle.std.proofs.lemmas.List.Elements.{Contains-append_cases, Contains-append_left, Contains-append_right}
 use Rattle.std.proofs.lemmas.Simd.{map-map}
 use Rattle.fractions.specs.declared.Numbers.{Numbers}
 use Rattle.problem_model.specs.declared.part.Part.{Part}
@@ -21,7 +21,7 @@ use Rattle.presolve_model.specs.Changes.{changed}
 use Rattle.presolve_model.specs.Commits.{Allows, CanWrite, Fits, IsOpen, left_by, with_instance}
 use Rattle.presolve_model.specs.Enabled.{enabled_on, reading_of, reads}
 use Rattle.presolve_model.specs.Given.{Proposed}
-use Rattle.presolve_model.specs.Instances.{instances_from}
+use Rattle.presolve_model.specs.Instances.{id_at, instances_from}
 use Rattle.presolve_model.specs.Ledger.{Ledger}
 use Rattle.presolve_model.specs.Ordered.{Committed}
 use Rattle.presolve_model.specs.Scans.{proposal_of}
@@ -32,7 +32,7 @@ use Rattle.place_laws.specs.Standing.{IsFresh, IsLaterAt}
 use Rattle.round_laws.specs.Passing.{Follows, IsTracked, Passed, Tracks}
 use Rattle.place_laws.proofs.Alike.{IsAlikeFrom, NoneStands}
 use Rattle.round_laws.proofs.Committing.{committed_append, committed_same, fresh_enables, fresh_parts, fresh_reads, left_how, left_open, passed_over, proposals_append, refused_how, stays_or_differs}
-use Rattle.place_laws.proofs.Places.{from_stand}
+use Rattle.place_laws.proofs.Places.{enabled_listed, from_is, from_stand}
 use Rattle.place_laws.proofs.ShortLists.{passes_still}
 use Rattle.round_laws.proofs.Turns.{Moved, follows_applied, moved}
 use Rattle.problem_model.specs.Reading.{Agrees, DiffersAt}
@@ -180,12 +180,12 @@ passed_all f es n m b c h k = record {
   grows = k.grows;
 }
   where
-    fewer : (rest : List Instance) → Tracks f n (es ++ rest) b → Tracks f n (filter (enabled_on b.problem) es ++ rest) b
+    fewer : (rest : List Instance) → Tracks n (es ++ rest) b → Tracks n (filter (enabled_on b.problem) es ++ rest) b
     fewer rest t none room x on = by (t none room x on)
       where
-        by : IsTracked f n (es ++ rest) b x → IsTracked f n (filter (enabled_on b.problem) es ++ rest) b x
+        by : IsTracked n (es ++ rest) b x → IsTracked n (filter (enabled_on b.problem) es ++ rest) b x
         by (inl a) = inl a
-        by (inr (among, fresh)) = inr (passes_still (enabled_on b.problem) es rest x on among, fresh)
+        by (inr among) = inr (passes_still (enabled_on b.problem) es rest x on among)
 
 -- ---- of two lists of which none is enabled and fresh, either is passed over
 module _ (f : Sparse) (b : Ledger) (h : Follows f b) (v : ℕ) where
@@ -197,8 +197,8 @@ module _ (f : Sparse) (b : Ledger) (h : Follows f b) (v : ℕ) where
   none_left : (c : Ledger) (es : List Instance) → NoneStands f b.problem es → Committed b (proposals f v es) c → c ≡ b
   none_left c es none k = committed_same b c b (proposals f v es) k (none_commits es none)
 
-passed_either : (f : Sparse) (es fs : List Instance) (n m : Marks) (b c : Ledger) → Follows f b → NoneStands f b.problem es → NoneStands f b.problem fs → Passed f fs n b m c → Passed f es n b m c
-passed_either f es fs n m b c h none nor k = record {
+passed_either : (f : Sparse) (es fs : List Instance) (n m : Marks) (b c : Ledger) → Follows f b → NoneStands f b.problem es → NoneStands f b.problem fs → ((x : Instance) → enabled_on b.problem x ≡ true → Contains es x → Contains fs x) → Passed f fs n b m c → Passed f es n b m c
+passed_either f es fs n m b c h none nor still k = record {
   book = k.book;
   before = k.before;
   committed = λ v. subst (Committed b (proposals f v es)) (sym (none_left f b h v c fs nor (k.committed v))) (none_commits f b h v es none);
@@ -208,21 +208,27 @@ passed_either f es fs n m b c h none nor k = record {
   grows = k.grows;
 }
   where
-    other : (rest : List Instance) → Tracks f n (es ++ rest) b → Tracks f n (fs ++ rest) b
+    other : (rest : List Instance) → Tracks n (es ++ rest) b → Tracks n (fs ++ rest) b
     other rest t free room x on = by (t free room x on)
       where
-        behind : IsFresh f b.problem x → Contains es x ⊎ Contains rest x → IsTracked f n (fs ++ rest) b x
-        behind fresh (inl c) = absurd (none x c on fresh)
-        behind fresh (inr c) = inr (Contains-append_right fs rest x c, fresh)
+        behind : Contains es x ⊎ Contains rest x → IsTracked n (fs ++ rest) b x
+        behind (inl c) = inr (Contains-append_left fs rest x (still x on c))
+        behind (inr c) = inr (Contains-append_right fs rest x c)
 
-        by : IsTracked f n (es ++ rest) b x → IsTracked f n (fs ++ rest) b x
+        by : IsTracked n (es ++ rest) b x → IsTracked n (fs ++ rest) b x
         by (inl a) = inl a
-        by (inr (among, fresh)) = behind fresh (Contains-append_cases es rest x among)
+        by (inr among) = behind (Contains-append_cases es rest x among)
 
 -- ---- the instances of a rule with a first id, those of the present problem in place of those of f
 pub passed_found : (f : Sparse) (r : Rule) (k : ℕ) (n m : Marks) (b c : Ledger) → Follows f b → Passed f (filter (enabled_on b.problem) (instances_from b.problem r k)) n b m c → Passed f (instances_from f r k) n b m c
 passed_found f r k n m b c h passed = by (from_stand f b.problem h.later r k) (passed_all f (instances_from b.problem r k) n m b c h passed)
   where
+    -- what is enabled now is among the present ones
+    still : (x : Instance) → enabled_on b.problem x ≡ true → Contains (instances_from f r k) x → Contains (instances_from b.problem r k) x
+    still x on c =
+        let is = from_is f r k x c in
+        subst (λ (i : ℕ). Contains (instances_from b.problem r i) x) is.1 (subst (λ (s : Rule). Contains (instances_from b.problem s (id_at x)) x) is.0 (enabled_listed b.problem x on).there)
+
     by : IsAlikeFrom f b.problem (instances_from f r k) (instances_from b.problem r k) → Passed f (instances_from b.problem r k) n b m c → Passed f (instances_from f r k) n b m c
     by (inl same) x = subst (λ (es : List Instance). Passed f es n b m c) (sym same) x
-    by (inr (none, nor)) x = passed_either f (instances_from f r k) (instances_from b.problem r k) n m b c h none nor x
+    by (inr (none, nor)) x = passed_either f (instances_from f r k) (instances_from b.problem r k) n m b c h none nor still x

@@ -1,5 +1,6 @@
 -- What is enabled reads a part that is noted, or comes to its turn.
-use Rattle.std.proofs.Common.{◌≡◌, ◌⊎◌, inl, inr, suc, ◌<◌, true, List, [], ◌∷◌, ◌++◌, length, map, None, sym, refl, ap₂, ◌∙◌, subst, append_assoc, arith}
+use Rattle.std.specs.Prelude.{if◌then◌else◌}
+use Rattle.std.proofs.Common.{◌≡◌, ◌⊎◌, inl, inr, suc, ◌<◌, Bool, true, false, true≢false, ap, List, [], ◌∷◌, ◌++◌, length, map, None, sym, refl, ap₂, ◌∙◌, subst, append_assoc, arith}
 use Rattle.std.specs.List.{Contains}
 use Rattle.fractions.specs.declared.Numbers.{Numbers}
 use Rattle.problem_model.specs.declared.part.Part.{Part}
@@ -14,36 +15,39 @@ use Rattle.presolve_model.specs.Ledger.{Ledger}
 use Rattle.presolve_model.specs.Ordered.{Committed}
 use Rattle.presolve_model.proofs.Readings.{enabled_same, parts_same, reading_same}
 use Rattle.place_laws.specs.Choosing.{proposals}
-use Rattle.place_laws.specs.Marks.{Grows, IsMarked, Marks, RestsOnReading}
-use Rattle.place_laws.specs.Standing.{IsFresh}
+use Rattle.place_laws.specs.Marks.{AreStirred, Grows, IsMarked, IsNoted, Marks, parts_for, RestsOnReading}
+use Rattle.dual_laws.specs.Forms.{Seen, seen_at}
+use Rattle.presolve_model.specs.declared.instance.Reach.{Reach}
+use Rattle.presolve_model.specs.Instances.{goes_by_form, reach_of, rule_at}
+use Rattle.presolve_model.proofs.Forms.{enabled_by_form, parts_by_form}
 use Rattle.round_laws.specs.Passing.{Follows, IsTracked, Passed, Tracks}
-use Rattle.round_laws.proofs.Committing.{committed_append, fresh_reads, proposals_append, same_reads}
+use Rattle.round_laws.proofs.Committing.{committed_append, proposals_append}
 use Rattle.place_laws.proofs.ShortLists.{first_or_behind}
 
-module _ (f : Sparse) (n : Marks) (e : Instance) (es : List Instance) (b : Ledger) (t : Tracks f n (e ∷ es) b) where
-  -- the first one is passed over: it is stale, or not enabled
-  pub tracks_over : (enabled_on b.problem e ≡ true → IsFresh f b.problem e → ⊥) → Tracks f n es b
+module _ (n : Marks) (e : Instance) (es : List Instance) (b : Ledger) (t : Tracks n (e ∷ es) b) where
+  -- the first one is passed over: it is not enabled
+  pub tracks_over : (enabled_on b.problem e ≡ true → ⊥) → Tracks n es b
   tracks_over h none room x on = by (t none room x on)
     where
-      first : (e ≡ x) ⊎ Contains es x → IsFresh f b.problem x → IsTracked f n es b x
-      first (inl same) fresh = absurd (h (subst (λ (y : Instance). enabled_on b.problem y ≡ true) (sym same) on) (subst (λ (y : Instance). IsFresh f b.problem y) (sym same) fresh))
-      first (inr among) fresh = inr (among, fresh)
+      first : (e ≡ x) ⊎ Contains es x → IsTracked n es b x
+      first (inl same) = absurd (h (subst (λ (y : Instance). enabled_on b.problem y ≡ true) (sym same) on))
+      first (inr among) = inr among
 
-      by : IsTracked f n (e ∷ es) b x → IsTracked f n es b x
+      by : IsTracked n (e ∷ es) b x → IsTracked n es b x
       by (inl k) = inl k
-      by (inr (among, fresh)) = first (first_or_behind e es x among) fresh
+      by (inr among) = first (first_or_behind e es x among)
 
   -- the first one is marked
-  pub tracks_marked : IsMarked b.numbers b.problem n e → Tracks f n es b
+  pub tracks_marked : IsMarked b.numbers b.problem n e → Tracks n es b
   tracks_marked h none room x on = by (t none room x on)
     where
-      first : (e ≡ x) ⊎ Contains es x → IsFresh f b.problem x → IsTracked f n es b x
-      first (inl same) fresh = inl (subst (IsMarked b.numbers b.problem n) same h)
-      first (inr among) fresh = inr (among, fresh)
+      first : (e ≡ x) ⊎ Contains es x → IsTracked n es b x
+      first (inl same) = inl (subst (IsMarked b.numbers b.problem n) same h)
+      first (inr among) = inr among
 
-      by : IsTracked f n (e ∷ es) b x → IsTracked f n es b x
+      by : IsTracked n (e ∷ es) b x → IsTracked n es b x
       by (inl k) = inl k
-      by (inr (among, fresh)) = first (first_or_behind e es x among) fresh
+      by (inr among) = first (first_or_behind e es x among)
 
 -- ---- the problem changes, and what changes is noted
 abbrev ReadsNoted : List Part → List Part → Type 0
@@ -61,41 +65,86 @@ parts_kept p q n m h (a ∷ ps) = by (h.changed a) (parts_kept p q n m h ps)
     by (inl e) (inl x) = inl (behind a ps m x)
     by (inl e) (inr g) = inr (ap₂ (λ (x : Read) (xs : List Read). x ∷ xs) (sym e) g)
 
-module _ (f : Sparse) (n m : Marks) (es : List Instance) (b c : Ledger) (h : AreNoted b.problem c.problem n.noted m.noted) (alike : c.numbers ≡ b.numbers) (sleeps : (a : Part) → Contains n.asleep a → Contains m.asleep a) where
+parts_seen : (p q : Sparse) (n m : List Part) → AreStirred p q n m → (ps : List Part) → ReadsNoted m ps ⊎ (map (seen_at p) ps ≡ map (seen_at q) ps)
+parts_seen p q n m h [] = inr refl
+parts_seen p q n m h (a ∷ ps) = by (h.changed a) (parts_seen p q n m h ps)
+  where
+    by : (seen_at q a ≡ seen_at p a) ⊎ Contains m a → ReadsNoted m ps ⊎ (map (seen_at p) ps ≡ map (seen_at q) ps) → ReadsNoted m (a ∷ ps) ⊎ (map (seen_at p) (a ∷ ps) ≡ map (seen_at q) (a ∷ ps))
+    by (inr c) k = inl (a, (0, omega arith, refl), c)
+    by (inl e) (inl x) = inl (behind a ps m x)
+    by (inl e) (inr g) = inr (ap₂ (λ (x : Seen) (xs : List Seen). x ∷ xs) (sym e) g)
+
+-- the parts that count for a rule, by whether it goes by form
+stirred_count : (m : Marks) (r : Reach) → goes_by_form r ≡ true → parts_for m r ≡ m.stirred
+stirred_count m r t = ap (λ (s : Bool). if s then m.stirred else m.noted) t
+
+noted_count : (m : Marks) (r : Reach) → goes_by_form r ≡ false → parts_for m r ≡ m.noted
+noted_count m r t = ap (λ (s : Bool). if s then m.stirred else m.noted) t
+
+module _ (n m : Marks) (es : List Instance) (b c : Ledger) (h : AreNoted b.problem c.problem n.noted m.noted) (s : AreStirred b.problem c.problem n.stirred m.stirred) (alike : c.numbers ≡ b.numbers)
+    (sleeps : (a : Part) → Contains n.asleep a → Contains m.asleep a) where
   -- an instance that reads what it read
-  module _ (x : Instance) (same : map (read_of b.problem) (reads c.problem x) ≡ map (read_of c.problem) (reads c.problem x)) where
+  module _ (x : Instance) (by_ends : goes_by_form (reach_of (rule_at x)) ≡ false) (same : map (read_of b.problem) (reads c.problem x) ≡ map (read_of c.problem) (reads c.problem x)) where
     still_reads : (a : Part) → Contains (reads b.problem x) a → Contains (reads c.problem x) a
     still_reads a r = subst (λ (ps : List Part). Contains ps a) (parts_same c.problem b.problem x same) r
 
     still_rests : RestsOnReading b.numbers b.problem x → RestsOnReading c.numbers c.problem x
     still_rests rests = subst (λ (k : Numbers). RestsOnReading k c.problem x) (sym alike) (λ q g. rests q (g ∙ sym (reading_same c.problem b.problem x same)))
 
-    stays : IsTracked f n es b x → IsTracked f m es c x
-    stays (inl (inl (a, r, k))) = inl (inl (a, still_reads a r, h.kept a k))
-    stays (inl (inr ((a, r, k), rests))) = inl (inr ((a, still_reads a r, sleeps a k), still_rests rests))
-    stays (inr (among, fresh)) = inr (among, same_reads f c.problem x (sym (reading_same c.problem b.problem x same) ∙ fresh_reads f b.problem x fresh))
+    still_noted : IsNoted b.problem (parts_for n (reach_of (rule_at x))) x → IsNoted c.problem (parts_for m (reach_of (rule_at x))) x
+    still_noted (a, r, k) = (a, still_reads a r, subst (λ (ps : List Part). Contains ps a) (sym (noted_count m (reach_of (rule_at x)) by_ends)) (h.kept a (subst (λ (ps : List Part). Contains ps a) (noted_count n (reach_of (rule_at x)) by_ends) k)))
 
-  pub tracks_changed : b.verdict ≡ None → length b.history < b.limit → Tracks f n es b → Tracks f m es c
-  tracks_changed none room t none' room' x on = by (parts_kept b.problem c.problem n.noted m.noted h (reads c.problem x))
+    stays : IsTracked n es b x → IsTracked m es c x
+    stays (inl (inl k)) = inl (inl (still_noted k))
+    stays (inl (inr k)) = let told = k.told in inl (inr (record { told = (told.0, still_reads told.0 told.1, sleeps told.0 told.2); rests = still_rests k.rests; by_ends = k.by_ends }))
+    stays (inr among) = inr among
+
+  -- one of whose parts the same is seen
+  module _ (x : Instance) (by_form : goes_by_form (reach_of (rule_at x)) ≡ true) (same : map (seen_at b.problem) (reads c.problem x) ≡ map (seen_at c.problem) (reads c.problem x)) where
+    still_sees : IsNoted b.problem (parts_for n (reach_of (rule_at x))) x → IsNoted c.problem (parts_for m (reach_of (rule_at x))) x
+    still_sees (a, r, k) = (
+      a, subst (λ (ps : List Part). Contains ps a) (parts_by_form c.problem b.problem x by_form same) r,
+      subst (λ (ps : List Part). Contains ps a) (sym (stirred_count m (reach_of (rule_at x)) by_form)) (s.kept a (subst (λ (ps : List Part). Contains ps a) (stirred_count n (reach_of (rule_at x)) by_form) k)),
+    )
+
+    stays_seen : IsTracked n es b x → IsTracked m es c x
+    stays_seen (inl (inl k)) = inl (inl (still_sees k))
+    stays_seen (inl (inr k)) = absurd (true≢false (sym by_form ∙ k.by_ends))
+    stays_seen (inr among) = inr among
+
+  pub tracks_changed : b.verdict ≡ None → length b.history < b.limit → Tracks n es b → Tracks m es c
+  tracks_changed none room t none' room' x on = by (goes_by_form (reach_of (rule_at x))) refl
     where
-      by : ReadsNoted m.noted (reads c.problem x) ⊎ (map (read_of b.problem) (reads c.problem x) ≡ map (read_of c.problem) (reads c.problem x)) → IsTracked f m es c x
-      by (inl k) = inl (inl k)
-      by (inr same) = stays x same (t none room x (enabled_same c.problem b.problem x same ∙ on))
+      by_reading : goes_by_form (reach_of (rule_at x)) ≡ false → ReadsNoted m.noted (reads c.problem x) ⊎ (map (read_of b.problem) (reads c.problem x) ≡ map (read_of c.problem) (reads c.problem x)) → IsTracked m es c x
+      by_reading e (inl (a, r, k)) = inl (inl (a, r, subst (λ (ps : List Part). Contains ps a) (sym (noted_count m (reach_of (rule_at x)) e)) k))
+      by_reading e (inr same) = stays x e same (t none room x (enabled_same c.problem b.problem x same ∙ on))
+
+      by_seeing : goes_by_form (reach_of (rule_at x)) ≡ true → ReadsNoted m.stirred (reads c.problem x) ⊎ (map (seen_at b.problem) (reads c.problem x) ≡ map (seen_at c.problem) (reads c.problem x)) → IsTracked m es c x
+      by_seeing e (inl (a, r, k)) = inl (inl (a, r, subst (λ (ps : List Part). Contains ps a) (sym (stirred_count m (reach_of (rule_at x)) e)) k))
+      by_seeing e (inr same) = stays_seen x e same (t none room x (enabled_by_form c.problem b.problem x e same ∙ on))
+
+      by : (f : Bool) → goes_by_form (reach_of (rule_at x)) ≡ f → IsTracked m es c x
+      by true e = by_seeing e (parts_seen b.problem c.problem n.stirred m.stirred s (reads c.problem x))
+      by false e = by_reading e (parts_kept b.problem c.problem n.noted m.noted h (reads c.problem x))
 
 -- more is marked
 pub marked_more : (numbers : Numbers) (p : Sparse) (n m : Marks) (e : Instance) → Grows n m → IsMarked numbers p n e → IsMarked numbers p m e
-marked_more numbers p n m e h (inl (a, r, k)) = inl (a, r, h.noted a k)
-marked_more numbers p n m e h (inr ((a, r, k), rests)) = inr ((a, r, h.asleep a k), rests)
-
-pub tracks_more : (f : Sparse) (n m : Marks) (es : List Instance) (b : Ledger) → Grows n m → Tracks f n es b → Tracks f m es b
-tracks_more f n m es b h t none room x on = by (t none room x on)
+marked_more numbers p n m e h (inl (a, r, k)) = inl (a, r, by (goes_by_form (reach_of (rule_at e))) k)
   where
-    by : IsTracked f n es b x → IsTracked f m es b x
+    by : (s : Bool) → Contains (if s then n.stirred else n.noted) a → Contains (if s then m.stirred else m.noted) a
+    by true x = h.stirred a x
+    by false x = h.noted a x
+marked_more numbers p n m e h (inr k) = let told = k.told in inr (record { told = (told.0, told.1, h.asleep told.0 told.2); rests = k.rests; by_ends = k.by_ends })
+
+pub tracks_more : (n m : Marks) (es : List Instance) (b : Ledger) → Grows n m → Tracks n es b → Tracks m es b
+tracks_more n m es b h t none room x on = by (t none room x on)
+  where
+    by : IsTracked n es b x → IsTracked m es b x
     by (inl k) = inl (marked_more b.numbers b.problem n m x h k)
     by (inr k) = inr k
 
 pub grows_none : (n : Marks) → Grows n n
-grows_none n = record { noted = λ a x. x; asleep = λ a x. x }
+grows_none n = record { noted = λ a x. x; stirred = λ a x. x; asleep = λ a x. x }
 
 -- ---- one pass after another
 pub passed_on : (f : Sparse) (es fs : List Instance) (n m k : Marks) (b c d : Ledger) → Passed f es n b m c → Passed f fs m c k d → Passed f (es ++ fs) n b k d
@@ -104,9 +153,9 @@ passed_on f es fs n m k b c d x y = record {
   before = x.before;
   committed = λ v. subst (λ ps. Committed b ps d) (sym (proposals_append f v es fs)) (committed_append b c d (proposals f v es) (proposals f v fs) (x.committed v) (y.committed v));
   follows = y.follows;
-  tracks = λ rest t. y.tracks rest (x.tracks (fs ++ rest) (subst (λ (gs : List Instance). Tracks f n gs b) (append_assoc es fs rest) t));
+  tracks = λ rest t. y.tracks rest (x.tracks (fs ++ rest) (subst (λ (gs : List Instance). Tracks n gs b) (append_assoc es fs rest) t));
   moved = λ a. both_moved a (x.moved a) (y.moved a);
-  grows = record { noted = λ a h. y.grows.noted a (x.grows.noted a h); asleep = λ a h. y.grows.asleep a (x.grows.asleep a h) };
+  grows = record { noted = λ a h. y.grows.noted a (x.grows.noted a h); stirred = λ a h. y.grows.stirred a (x.grows.stirred a h); asleep = λ a h. y.grows.asleep a (x.grows.asleep a h) };
 }
   where
     both_moved : (a : Part) → (changes_of c.problem a ≡ changes_of b.problem a) ⊎ Contains m.noted a → (changes_of d.problem a ≡ changes_of c.problem a) ⊎ Contains k.noted a

@@ -24,16 +24,16 @@ use Rattle.presolve_model.specs.declared.outcome.Outcome.TheVariants.{Closed, Fu
 use Rattle.presolve_model.specs.Changes.{changed}
 use Rattle.presolve_model.specs.Commits.{Allows, left_by, with_instance}
 use Rattle.presolve_model.specs.Enabled.{enabled_on}
-use Rattle.presolve_model.specs.Instances.{rests_on_reading, rule_at}
+use Rattle.presolve_model.specs.Instances.{reach_of, rests_on_reading, rule_at}
 use Rattle.presolve_model.specs.Ledger.{Ledger}
 use Rattle.presolve_model.specs.Ordered.{Committed}
 use Rattle.presolve_model.specs.Scans.{proposal_of}
 use Rattle.presolve_model.specs.Tables.{heads, more}
-use Rattle.presolve_model.proofs.ByCases.{refusals_rest, verdicts_do_not_rest}
+use Rattle.presolve_model.proofs.ByCases.{refusals_rest, sleepers_read_ends, verdicts_do_not_rest}
 use Rattle.presolve_model.proofs.Readings.{enabled_same, reads_told}
 use Rattle.presolve_model.proofs.Tabled.{counted_changed, same_size, sound_changed}
 use Rattle.place_laws.specs.Choosing.{proposals}
-use Rattle.place_laws.specs.Marks.{Grows, IsMarked, IsNoted, is_refusal, Marks, RestsOnReading}
+use Rattle.place_laws.specs.Marks.{AreStirred, Grows, IsMarked, IsNoted, is_refusal, Marks, parts_for, RestsOnReading}
 use Rattle.place_laws.specs.Standing.{IsFresh, IsLaterAt}
 use Rattle.round_laws.specs.Passing.{Follows, IsSameBook, Passed}
 use Rattle.round_laws.proofs.Committing.{passed_at, passed_over}
@@ -104,19 +104,19 @@ module _ (b : Ledger) where
 same_book : (b : Ledger) → IsSameBook b b
 same_book b = record { start = refl; numbers = refl; limit = refl }
 
--- it is stale, or isn't enabled
-pub met_over : (f : Sparse) (e : Instance) (n : Marks) (b : Ledger) → Follows f b → (enabled_on b.problem e ≡ true → IsFresh f b.problem e → ⊥) → Passed f (e ∷ []) n b n b
-met_over f e n b h skip = record {
+-- it isn't enabled
+pub met_over : (f : Sparse) (e : Instance) (n : Marks) (b : Ledger) → Follows f b → (enabled_on b.problem e ≡ true → ⊥) → Passed f (e ∷ []) n b n b
+met_over f e n b h off = record {
   book = same_book b;
   before = h;
-  committed = λ v. passed_over f b v e h.later skip;
+  committed = λ v. passed_over f b v e h.later (λ on fresh. off on);
   follows = h;
-  tracks = λ rest t. tracks_over f n e rest b t skip;
+  tracks = λ rest t. tracks_over n e rest b t off;
   moved = λ a. inl refl;
   grows = grows_none n;
 }
 
--- a head of an instance is noted
+-- the marks of an instance that was not applied, with a head of it
 pub noted_head : (p : Sparse) (m : List Part) (e : Instance) (a : Part) → Contains (heads e) a → Contains m a → IsNoted p m e
 noted_head p m e a h c = (a, Contains-append_left (heads e) (more e _) a h, c)
 
@@ -128,20 +128,21 @@ module _ (f : Sparse) (n m : Marks) (b : Ledger) (h : Follows f b) (kept : Grows
     before = h;
     committed = k;
     follows = h;
-    tracks = λ rest t. tracks_marked f m e rest b (tracks_more f n m (e ∷ rest) b kept t) marked;
+    tracks = λ rest t. tracks_marked m e rest b (tracks_more n m (e ∷ rest) b kept t) marked;
     moved = λ a. inl refl;
     grows = kept;
   }
 
   -- a reduction is applied
-  met_applied : (r : Reduction) → enabled_on b.problem (at.Reduction r) ≡ true → b.verdict ≡ None → length b.history < b.limit → AreNoted b.problem (changed r b.problem) n.noted m.noted → IsNoted (changed r b.problem) m.noted (at.Reduction r)
+  met_applied : (r : Reduction) → enabled_on b.problem (at.Reduction r) ≡ true → b.verdict ≡ None → length b.history < b.limit → AreNoted b.problem (changed r b.problem) n.noted m.noted → AreStirred b.problem (changed r b.problem) n.stirred m.stirred
+      → IsNoted (changed r b.problem) (parts_for m (reach_of (rule_at (at.Reduction r)))) (at.Reduction r)
       → ((v : ℕ) → Committed b (proposals f v (at.Reduction r ∷ [])) (with_instance b (at.Reduction r))) → Passed f (at.Reduction r ∷ []) n b m (with_instance b (at.Reduction r))
-  met_applied r on none room noted own k = record {
+  met_applied r on none room noted stirred own k = record {
     book = record { start = refl; numbers = refl; limit = refl };
     before = h;
     committed = k;
     follows = follows_applied f b r h on room;
-    tracks = λ rest t. tracks_marked f m (at.Reduction r) rest (with_instance b (at.Reduction r)) (tracks_changed f n m (at.Reduction r ∷ rest) b (with_instance b (at.Reduction r)) noted refl kept.asleep none room t) (inl own);
+    tracks = λ rest t. tracks_marked m (at.Reduction r) rest (with_instance b (at.Reduction r)) (tracks_changed n m (at.Reduction r ∷ rest) b (with_instance b (at.Reduction r)) noted stirred refl kept.asleep none room t) (inl own);
     moved = λ a. by a (noted.changed a);
     grows = kept;
   }
@@ -162,22 +163,30 @@ module _ (f : Sparse) (n m : Marks) (b : Ledger) (h : Follows f b) (kept : Grows
     grows = kept;
   }
 
+-- it is enabled and stale: it is marked
+pub met_stale : (f : Sparse) (n m : Marks) (b : Ledger) (e : Instance) (a : Part) → Follows f b → (IsFresh f b.problem e → ⊥) → Grows n m → Contains (heads e) a → Contains (parts_for m (reach_of (rule_at e))) a → Passed f (e ∷ []) n b m b
+met_stale f n m b e a h stale kept own c = met_still f n m b h kept e (inl (noted_head b.problem (parts_for m (reach_of (rule_at e))) e a own c)) (λ v. passed_over f b v e h.later (λ on fresh. stale fresh))
+
 -- it is enabled and its parts stand: whatever the answer is
 module _ (f : Sparse) (w : ℕ) (n m : Marks) (b : Ledger) (h : Follows f b) (e : Instance) (fresh : IsFresh f b.problem e) (on : enabled_on b.problem e ≡ true) where
-  met_by : (o : Outcome) → o ≢ NoMemory → Allows b (proposal_of b.problem w e) o → AreNoted b.problem (left_by b (proposal_of b.problem w e) o).problem n.noted m.noted → Grows n m → (a : Part) → Contains (heads e) a → Contains m.noted a
-      → Passed f (e ∷ []) n b m (left_by b (proposal_of b.problem w e) o)
-  met_by (Closed x) mem ok noted kept a own c = met_still f n m b h kept e (inl (noted_head b.problem m.noted e a own c)) (λ v. passed_at f b v w e (Closed x) fresh on mem ok)
-  met_by Full mem ok noted kept a own c = met_still f n m b h kept e (inl (noted_head b.problem m.noted e a own c)) (λ v. passed_at f b v w e Full fresh on mem ok)
-  met_by (Stale k) mem ok noted kept a own c = met_still f n m b h kept e (inl (noted_head b.problem m.noted e a own c)) (λ v. passed_at f b v w e (Stale k) fresh on mem ok)
-  met_by Past mem ok noted kept a own c = met_still f n m b h kept e (inl (noted_head b.problem m.noted e a own c)) (λ v. passed_at f b v w e Past fresh on mem ok)
-  met_by NotDecimal mem ok noted kept a own c = met_still f n m b h kept e (inl (noted_head b.problem m.noted e a own c)) (λ v. passed_at f b v w e NotDecimal fresh on mem ok)
-  met_by (Applied k) mem ok noted kept a own c = by e fresh on ok noted own
+  abbrev count : List Part
+  count = parts_for m (reach_of (rule_at e))
+
+  met_by : (o : Outcome) → o ≢ NoMemory → Allows b (proposal_of b.problem w e) o → AreNoted b.problem (left_by b (proposal_of b.problem w e) o).problem n.noted m.noted
+      → AreStirred b.problem (left_by b (proposal_of b.problem w e) o).problem n.stirred m.stirred → Grows n m → (a : Part) → Contains (heads e) a → Contains count a → Passed f (e ∷ []) n b m (left_by b (proposal_of b.problem w e) o)
+  met_by (Closed x) mem ok noted stirred kept a own c = met_still f n m b h kept e (inl (noted_head b.problem count e a own c)) (λ v. passed_at f b v w e (Closed x) fresh on mem ok)
+  met_by Full mem ok noted stirred kept a own c = met_still f n m b h kept e (inl (noted_head b.problem count e a own c)) (λ v. passed_at f b v w e Full fresh on mem ok)
+  met_by (Stale k) mem ok noted stirred kept a own c = met_still f n m b h kept e (inl (noted_head b.problem count e a own c)) (λ v. passed_at f b v w e (Stale k) fresh on mem ok)
+  met_by Past mem ok noted stirred kept a own c = met_still f n m b h kept e (inl (noted_head b.problem count e a own c)) (λ v. passed_at f b v w e Past fresh on mem ok)
+  met_by NotDecimal mem ok noted stirred kept a own c = met_still f n m b h kept e (inl (noted_head b.problem count e a own c)) (λ v. passed_at f b v w e NotDecimal fresh on mem ok)
+  met_by (Applied k) mem ok noted stirred kept a own c = by e fresh on ok noted stirred own c
     where
-      by : (e : Instance) → IsFresh f b.problem e → enabled_on b.problem e ≡ true → Allows b (proposal_of b.problem w e) (Applied k) → AreNoted b.problem (with_instance b e).problem n.noted m.noted → Contains (heads e) a
-          → Passed f (e ∷ []) n b m (with_instance b e)
-      by (at.Reduction r) fresh on ok noted own = met_applied f n m b h kept r on ok.0.undecided ok.0.room noted (noted_head (changed r b.problem) m.noted (at.Reduction r) a own c) (λ v. passed_at f b v w (at.Reduction r) (Applied k) fresh on mem ok)
-      by (at.Verdict x) fresh on ok noted own = met_verdict f n m b h kept x (λ v. passed_at f b v w (at.Verdict x) (Applied k) fresh on mem ok)
-  met_by NoMemory mem ok noted kept a own c = absurd (mem refl)
+      by : (e : Instance) → IsFresh f b.problem e → enabled_on b.problem e ≡ true → Allows b (proposal_of b.problem w e) (Applied k) → AreNoted b.problem (with_instance b e).problem n.noted m.noted
+          → AreStirred b.problem (with_instance b e).problem n.stirred m.stirred → Contains (heads e) a → Contains (parts_for m (reach_of (rule_at e))) a → Passed f (e ∷ []) n b m (with_instance b e)
+      by (at.Reduction r) fresh on ok noted stirred own c = met_applied f n m b h kept r on ok.0.undecided ok.0.room noted stirred (noted_head (changed r b.problem) (parts_for m (reach_of (rule_at (at.Reduction r)))) (at.Reduction r) a own c)
+          (λ v. passed_at f b v w (at.Reduction r) (Applied k) fresh on mem ok)
+      by (at.Verdict x) fresh on ok noted stirred own c = met_verdict f n m b h kept x (λ v. passed_at f b v w (at.Verdict x) (Applied k) fresh on mem ok)
+  met_by NoMemory mem ok noted stirred kept a own c = absurd (mem refl)
 
   -- it is refused for a number, and sleeps
   asleep_by : (o : Outcome) → is_refusal o ≡ true → rests_on_reading (rule_at e) ≡ true → Allows b (proposal_of b.problem w e) o → Grows n m → (a : Part) → Contains (heads e) a → Contains m.asleep a
@@ -185,16 +194,20 @@ module _ (f : Sparse) (w : ℕ) (n m : Marks) (b : Ledger) (h : Follows f b) (e 
   asleep_by (Closed x) refused rests ok kept a own c = absurd (true≢false (sym refused))
   asleep_by Full refused rests ok kept a own c = absurd (true≢false (sym refused))
   asleep_by (Stale k) refused rests ok kept a own c = absurd (true≢false (sym refused))
-  asleep_by Past refused rests ok kept a own c = met_still f n m b h kept e (inr (noted_head b.problem m.asleep e a own c, past_rests b e w rests on ok)) (λ v. passed_at f b v w e Past fresh on (λ x. cc) ok)
-  asleep_by NotDecimal refused rests ok kept a own c = met_still f n m b h kept e (inr (noted_head b.problem m.asleep e a own c, not_decimal_rests b e w rests on ok)) (λ v. passed_at f b v w e NotDecimal fresh on (λ x. cc) ok)
+  asleep_by Past refused rests ok kept a own c =
+      met_still f n m b h kept e (inr (record { told = noted_head b.problem m.asleep e a own c; rests = past_rests b e w rests on ok; by_ends = sleepers_read_ends (rule_at e) rests })) (λ v. passed_at f b v w e Past fresh on (λ x. cc) ok)
+  asleep_by NotDecimal refused rests ok kept a own c =
+      met_still f n m b h kept e (inr (record { told = noted_head b.problem m.asleep e a own c; rests = not_decimal_rests b e w rests on ok; by_ends = sleepers_read_ends (rule_at e) rests })) (λ v. passed_at f b v w e NotDecimal fresh on (λ x. cc) ok)
   asleep_by (Applied k) refused rests ok kept a own c = absurd (true≢false (sym refused))
   asleep_by NoMemory refused rests ok kept a own c = absurd (true≢false (sym refused))
 
 pub met : (f : Sparse) (w : ℕ) (n m : Marks) (b c : Ledger) (e : Instance) (o : Outcome) (a : Part) → Follows f b → IsFresh f b.problem e → enabled_on b.problem e ≡ true → o ≢ NoMemory → Allows b (proposal_of b.problem w e) o
-    → c ≡ left_by b (proposal_of b.problem w e) o → AreNoted b.problem c.problem n.noted m.noted → ((x : Part) → Contains n.asleep x → Contains m.asleep x) → Contains (heads e) a → Contains m.noted a → Passed f (e ∷ []) n b m c
-met f w n m b c e o a h fresh on mem ok left noted sleeps own there =
+    → c ≡ left_by b (proposal_of b.problem w e) o → AreNoted b.problem c.problem n.noted m.noted → AreStirred b.problem c.problem n.stirred m.stirred → ((x : Part) → Contains n.asleep x → Contains m.asleep x)
+    → Contains (heads e) a → Contains (parts_for m (reach_of (rule_at e))) a → Passed f (e ∷ []) n b m c
+met f w n m b c e o a h fresh on mem ok left noted stirred sleeps own there =
     subst (λ (x : Ledger). Passed f (e ∷ []) n b m x) (sym left)
-    (met_by f w n m b h e fresh on o mem ok (subst (λ (x : Ledger). AreNoted b.problem x.problem n.noted m.noted) left noted) (record { noted = noted.kept; asleep = sleeps }) a own there)
+    (met_by f w n m b h e fresh on o mem ok (subst (λ (x : Ledger). AreNoted b.problem x.problem n.noted m.noted) left noted) (subst (λ (x : Ledger). AreStirred b.problem x.problem n.stirred m.stirred) left stirred)
+    (record { noted = noted.kept; stirred = stirred.kept; asleep = sleeps }) a own there)
 
 pub met_asleep : (f : Sparse) (w : ℕ) (n m : Marks) (b c : Ledger) (e : Instance) (o : Outcome) (a : Part) → Follows f b → IsFresh f b.problem e → enabled_on b.problem e ≡ true → is_refusal o ≡ true → rests_on_reading (rule_at e) ≡ true
     → Allows b (proposal_of b.problem w e) o → c ≡ left_by b (proposal_of b.problem w e) o → Grows n m → Contains (heads e) a → Contains m.asleep a → Passed f (e ∷ []) n b m c

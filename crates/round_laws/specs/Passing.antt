@@ -12,7 +12,7 @@ use Rattle.presolve_model.specs.Ledger.{Ledger}
 use Rattle.presolve_model.specs.Ordered.{Committed}
 use Rattle.place_laws.specs.Choosing.{proposals}
 use Rattle.place_laws.specs.Marks.{Grows, IsMarked, Marks}
-use Rattle.place_laws.specs.Standing.{IsFresh, IsLaterAt}
+use Rattle.place_laws.specs.Standing.{IsLaterAt}
 
 -- the book was opened alike
 pub record IsSameBook (b c : Ledger) : Type 0 where
@@ -28,13 +28,13 @@ pub record Follows (f : Sparse) (b : Ledger) : Type 0 where
   pub sparse : IsSparse b.problem
   pub size : SameSize f b.problem
 
--- an instance reads a part that is noted, or sleeps, or its turn is still to come, its parts as they stood on f
-abbrev pub IsTracked : Sparse → Marks → List Instance → Ledger → Instance → Type 0
-IsTracked f n es b e = IsMarked b.numbers b.problem n e ⊎ (Contains es e × IsFresh f b.problem e)
+-- an instance is marked, or its turn is still to come
+abbrev pub IsTracked : Marks → List Instance → Ledger → Instance → Type 0
+IsTracked n es b e = IsMarked b.numbers b.problem n e ⊎ Contains es e
 
 -- where the run goes on, what is enabled is tracked
-abbrev pub Tracks : Sparse → Marks → List Instance → Ledger → Type 0
-Tracks f n es b = b.verdict ≡ None → length b.history < b.limit → (e : Instance) → enabled_on b.problem e ≡ true → IsTracked f n es b e
+abbrev pub Tracks : Marks → List Instance → Ledger → Type 0
+Tracks n es b = b.verdict ≡ None → length b.history < b.limit → (e : Instance) → enabled_on b.problem e ≡ true → IsTracked n es b e
 
 -- The book c after a pass, with the marks m where there were n before: b comes after f, and c does; those of the instances that are enabled
 -- on f were committed; what is enabled is tracked, whatever comes after them; and each part that has changed is noted.
@@ -43,7 +43,7 @@ pub record Passed (f : Sparse) (es : List Instance) (n : Marks) (b : Ledger) (m 
   pub before : Follows f b
   pub committed : (version : ℕ) → Committed b (proposals f version es) c
   pub follows : Follows f c
-  pub tracks : (rest : List Instance) → Tracks f n (es ++ rest) b → Tracks f m rest c
+  pub tracks : (rest : List Instance) → Tracks n (es ++ rest) b → Tracks m rest c
   pub moved : (a : Part) → (changes_of c.problem a ≡ changes_of b.problem a) ⊎ Contains m.noted a
   pub grows : Grows n m
 

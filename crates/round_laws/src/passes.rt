@@ -15,14 +15,14 @@ ghost use Rattle.presolve_model.specs.declared.outcome.Outcome.TheVariants.{NoMe
 ghost use Rattle.presolve_model.specs.Commits.{Allows, left_by};
 ghost use Rattle.presolve_model.specs.Enabled.{enabled_on};
 ghost use Rattle.presolve_model.specs.Given.{Proposed};
-ghost use Rattle.presolve_model.specs.Instances.{instances_from, rests_on_reading, rule_at};
+ghost use Rattle.presolve_model.specs.Instances.{instances_from, reach_of, rests_on_reading, rule_at};
 ghost use Rattle.presolve_model.specs.Ledger.{Ledger};
 ghost use Rattle.presolve_model.specs.Ordered.{Committed, round_list};
 ghost use Rattle.presolve_model.specs.Scans.{proposal_of};
 ghost use Rattle.presolve_model.specs.Stuck.{Stuck};
 ghost use Rattle.presolve_model.specs.Tables.{heads};
-ghost use Rattle.place_laws.specs.Choosing.{AreSorted, Around, HasEach, HoldsAround, IsComplete, visited};
-ghost use Rattle.place_laws.specs.Marks.{Grows, IsMarked, IsNoted, is_refusal, Marks};
+ghost use Rattle.place_laws.specs.Choosing.{AreSorted, Around, IsComplete, visited};
+ghost use Rattle.place_laws.specs.Marks.{AreStirred, Grows, IsMarked, is_refusal, Marks, parts_for};
 ghost use Rattle.place_laws.specs.Standing.{IsFresh};
 ghost use Rattle.round_laws.specs.Passing.{Follows, Passed};
 
@@ -32,13 +32,14 @@ pub fn commits_are_met()
     ensures fresh { (f : Sparse) (b : Ledger) (e : Instance) (v w : ℕ) (o : Outcome) → IsFresh f b.problem e → Allows b (proposal_of b.problem w e) o → Allows b (proposal_of f v e) o }
 {}
 
-/// An instance at its turn: where it is stale or not enabled nothing is done; else it is committed on the present problem, and what changes
-/// is noted, with a part that it reads. Where it is refused for a number, and such a refusal rests on what it reads, it may be put to sleep
-/// in place of that. Those of a rule's instances with a first id are met that are enabled on the present problem. Passes follow one after
-/// another.
+/// An instance at its turn: where it is not enabled nothing is done; where it is stale it is marked; else it is committed on the present
+/// problem, and what changes is noted, and stirred where something else is seen of it, with a part that it reads. Where it is refused for a
+/// number, and such a refusal rests on what it reads, it may be put to sleep in place of that. Those of a rule's instances with a first id are
+/// met that are enabled on the present problem. Passes follow one after another.
 pub fn turns_pass()
-    ensures over { (f : Sparse) (e : Instance) (n : Marks) (b : Ledger) → Follows f b → (enabled_on b.problem e ≡ true → IsFresh f b.problem e → ⊥) → Passed f (e ∷ []) n b n b }
-    ensures met { (f : Sparse) (w : ℕ) (n m : Marks) (b c : Ledger) (e : Instance) (o : Outcome) (a : Part) → Follows f b → IsFresh f b.problem e → enabled_on b.problem e ≡ true → o ≢ NoMemory → Allows b (proposal_of b.problem w e) o → c ≡ left_by b (proposal_of b.problem w e) o → AreNoted b.problem c.problem n.noted m.noted → ((x : Part) → Contains n.asleep x → Contains m.asleep x) → Contains (heads e) a → Contains m.noted a → Passed f (e ∷ []) n b m c }
+    ensures over { (f : Sparse) (e : Instance) (n : Marks) (b : Ledger) → Follows f b → (enabled_on b.problem e ≡ true → ⊥) → Passed f (e ∷ []) n b n b }
+    ensures stale { (f : Sparse) (n m : Marks) (b : Ledger) (e : Instance) (a : Part) → Follows f b → (IsFresh f b.problem e → ⊥) → Grows n m → Contains (heads e) a → Contains (parts_for m (reach_of (rule_at e))) a → Passed f (e ∷ []) n b m b }
+    ensures met { (f : Sparse) (w : ℕ) (n m : Marks) (b c : Ledger) (e : Instance) (o : Outcome) (a : Part) → Follows f b → IsFresh f b.problem e → enabled_on b.problem e ≡ true → o ≢ NoMemory → Allows b (proposal_of b.problem w e) o → c ≡ left_by b (proposal_of b.problem w e) o → AreNoted b.problem c.problem n.noted m.noted → AreStirred b.problem c.problem n.stirred m.stirred → ((x : Part) → Contains n.asleep x → Contains m.asleep x) → Contains (heads e) a → Contains (parts_for m (reach_of (rule_at e))) a → Passed f (e ∷ []) n b m c }
     ensures asleep { (f : Sparse) (w : ℕ) (n m : Marks) (b c : Ledger) (e : Instance) (o : Outcome) (a : Part) → Follows f b → IsFresh f b.problem e → enabled_on b.problem e ≡ true → is_refusal o ≡ true → rests_on_reading (rule_at e) ≡ true → Allows b (proposal_of b.problem w e) o → c ≡ left_by b (proposal_of b.problem w e) o → Grows n m → Contains (heads e) a → Contains m.asleep a → Passed f (e ∷ []) n b m c }
     ensures found { (f : Sparse) (r : Rule) (k : ℕ) (n m : Marks) (b c : Ledger) → Follows f b → Passed f (filter (enabled_on b.problem) (instances_from b.problem r k)) n b m c → Passed f (instances_from f r k) n b m c }
     ensures more { (f : Sparse) (es fs : List Instance) (n m k : Marks) (b c d : Ledger) → Passed f es n b m c → Passed f fs m c k d → Passed f (es ++ fs) n b k d }

@@ -1,4 +1,4 @@
-use Rattle.round_laws.proofs.Turns.{met, met_asleep, met_over}
+use Rattle.round_laws.proofs.Turns.{met, met_asleep, met_over, met_stale}
 use Rattle.round_laws.proofs.Thinning.{passed_found}
 use Rattle.round_laws.proofs.Tracking.{passed_on}
 use Rattle.round_laws.proofs.passes.turns_pass.Goals as goal
@@ -17,3 +17,6 @@ returns-clause-found c = passed_found
 
 pub returns-clause-more : goal.returns-clause-more
 returns-clause-more c = passed_on
+
+pub returns-clause-stale : goal.returns-clause-stale
+returns-clause-stale c = met_stale

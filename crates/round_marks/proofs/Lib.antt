@@ -1,0 +1,4 @@
+pub mod Sorting
+pub mod Restamping
+pub mod Reforming
+pub mod Watching

@@ -1,0 +1,3 @@
+pub mod Stamping
+pub mod Forming
+pub mod Marking

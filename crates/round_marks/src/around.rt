@@ -1,0 +1,173 @@
+//! Rows and columns to be looked at.
+
+ghost use Rattle.std.specs.Prelude.{◌≡◌, IfOk};
+ghost use Rattle.presolve_model.specs.declared.instance.Reach.TheVariants as reach;
+ghost use Rattle.place_laws.specs.Choosing.{all_around, all_places, AreSorted, AscendsFrom, HoldsAround, HoldsLed, HoldsParts, ids_of as ids_there, IsSorted};
+ghost use Rattle.place_laws.specs.Marks.{Marks};
+
+use crate::ids::{add_across, bounds_of, columns_of, ids_below, rows_of, sides_of, sort_ids};
+use instances::reach_of;
+use presolve_model::{Part, Reach, Rule};
+use sparse_problem::Problem;
+use std::alloc::{AllocError, Global};
+use std::marker::Model;
+
+/// Ids of rows and columns.
+#[derive(Drop)]
+pub struct Places {
+    rows: Vec<u32>,
+    columns: Vec<u32>,
+}
+
+impl Model for Places {
+    ghost use Rattle.place_laws.specs.Choosing.{Places};
+
+    ghost Value = { Places };
+
+    ghost view = { λ n. record { rows = n.rows.items; columns = n.columns.items } };
+}
+
+impl Places {
+    /// All rows and columns of a problem.
+    fn all_of(alloc: Global, problem: &Problem) -> Result<Places, AllocError>
+        ensures { IfOk result (λ places. places ≡ all_places problem.now) }
+    {
+        let rows = ids_below(alloc, problem.row_count() as u32)?;
+        let columns = ids_below(alloc, problem.column_count() as u32)?;
+        Ok(Places { rows, columns })
+    }
+
+    /// The rows and columns of parts.
+    fn of_parts(alloc: Global, parts: &[Part]) -> Result<Places, AllocError>
+        ensures sorted { IfOk result IsSorted }
+        ensures holds { IfOk result (HoldsParts parts.now) }
+    {
+        let mut rows = rows_of(alloc, parts)?;
+        let mut columns = columns_of(alloc, parts)?;
+        sort_ids(&mut rows);
+        sort_ids(&mut columns);
+        Ok(Places { rows, columns })
+    }
+}
+
+/// The rows of parts, and those in which the columns stand whose bounds the parts are.
+fn rows_of_bounds(alloc: Global, problem: &Problem, parts: &[Part]) -> Result<Vec<u32>, AllocError>
+    ensures sorted { IfOk result (λ ids. AscendsFrom 0 ids.items) }
+    ensures holds { IfOk result (λ ids. HoldsLed problem.now reach.RowsOfBounds parts.now ids.items) }
+{
+    let mut ids = rows_of(alloc, parts)?;
+    let mut columns = bounds_of(alloc, parts)?;
+    sort_ids(&mut columns);
+    add_across(
+        problem.columns(),
+        problem.rows(),
+        columns.as_slice(),
+        &mut ids,
+    )?;
+    sort_ids(&mut ids);
+    Ok(ids)
+}
+
+/// The columns of parts, and those that stand in the rows whose sides the parts are.
+fn columns_of_sides(
+    alloc: Global,
+    problem: &Problem,
+    parts: &[Part],
+) -> Result<Vec<u32>, AllocError>
+    ensures sorted { IfOk result (λ ids. AscendsFrom 0 ids.items) }
+    ensures holds { IfOk result (λ ids. HoldsLed problem.now reach.ColumnsOfSides parts.now ids.items) }
+{
+    let mut ids = columns_of(alloc, parts)?;
+    let mut rows = sides_of(alloc, parts)?;
+    sort_ids(&mut rows);
+    add_across(problem.rows(), problem.columns(), rows.as_slice(), &mut ids)?;
+    sort_ids(&mut ids);
+    Ok(ids)
+}
+
+/// The rows of parts, and those in which columns stand to which the parts lead.
+fn rows_of_both(
+    alloc: Global,
+    problem: &Problem,
+    parts: &[Part],
+    columns: &[u32],
+) -> Result<Vec<u32>, AllocError>
+    requires { HoldsLed problem.now reach.ColumnsOfSides parts.now columns.now }
+    ensures sorted { IfOk result (λ ids. AscendsFrom 0 ids.items) }
+    ensures holds { IfOk result (λ ids. HoldsLed problem.now reach.RowsOfBoth parts.now ids.items) }
+{
+    let mut ids = rows_of(alloc, parts)?;
+    add_across(problem.columns(), problem.rows(), columns, &mut ids)?;
+    sort_ids(&mut ids);
+    Ok(ids)
+}
+
+/// Where rules are looked for, by their reach. Each list ascends.
+#[derive(Drop)]
+pub struct Around {
+    own: Places,
+    rows_of_bounds: Vec<u32>,
+    columns_of_sides: Vec<u32>,
+    rows_of_both: Vec<u32>,
+}
+
+impl Model for Around {
+    ghost use Rattle.place_laws.specs.Choosing.{Around};
+
+    ghost Value = { Around };
+
+    ghost view = { λ n. record { own = n.own; rows_of_bounds = n.rows_of_bounds.items; columns_of_sides = n.columns_of_sides.items; rows_of_both = n.rows_of_both.items } };
+}
+
+impl Around {
+    /// All rows and columns of a problem.
+    pub fn all_of(alloc: Global, problem: &Problem) -> Result<Around, AllocError>
+        ensures { IfOk result (λ around. around ≡ all_around problem.now) }
+    {
+        let own = Places::all_of(alloc, problem)?;
+        let rows_of_bounds = ids_below(alloc, problem.row_count() as u32)?;
+        let columns_of_sides = ids_below(alloc, problem.column_count() as u32)?;
+        let rows_of_both = ids_below(alloc, problem.row_count() as u32)?;
+        Ok(Around {
+            own,
+            rows_of_bounds,
+            columns_of_sides,
+            rows_of_both,
+        })
+    }
+
+    /// The rows and columns to which parts lead that are noted, and parts that are stirred.
+    pub fn of_parts(
+        alloc: Global,
+        problem: &Problem,
+        noted: &[Part],
+        stirred: &[Part],
+    ) -> Result<Around, AllocError>
+        ensures sorted { IfOk result AreSorted }
+        ensures holds { (marks : Marks) → marks.noted ≡ noted.now → marks.stirred ≡ stirred.now → IfOk result (HoldsAround problem.now marks) }
+    {
+        let own = Places::of_parts(alloc, noted)?;
+        let rows_of_bounds = rows_of_bounds(alloc, problem, noted)?;
+        let columns_of_sides = columns_of_sides(alloc, problem, stirred)?;
+        let rows_of_both = rows_of_both(alloc, problem, stirred, columns_of_sides.as_slice())?;
+        Ok(Around {
+            own,
+            rows_of_bounds,
+            columns_of_sides,
+            rows_of_both,
+        })
+    }
+
+    /// The first ids of a rule among them.
+    pub fn of(&self, rule: Rule) -> &[u32]
+        ensures { result.now ≡ ids_there self.now rule }
+    {
+        match reach_of(rule) {
+            Reach::OwnRow => self.own.rows.as_slice(),
+            Reach::OwnColumn => self.own.columns.as_slice(),
+            Reach::RowsOfBounds => self.rows_of_bounds.as_slice(),
+            Reach::ColumnsOfSides => self.columns_of_sides.as_slice(),
+            Reach::RowsOfBoth => self.rows_of_both.as_slice(),
+        }
+    }
+}

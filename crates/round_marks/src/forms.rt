@@ -1,0 +1,169 @@
+//! The forms of the ends of a problem's rows and columns.
+
+ghost use Rattle.std.specs.Prelude.{◌≡◌, length, map, slice_index_or, slice_set, IfOk};
+ghost use Rattle.std.specs.List.{range_with_len};
+ghost use Rattle.problem_model.specs.declared.part.Part.TheVariants as part;
+ghost use Rattle.dual_laws.specs.declared.form.Form.TheVariants as form;
+ghost use Rattle.round_marks.specs.Forming.{form_at, form_on, form_put, forms_of, keeps, same_flag, same_form};
+
+use dual_laws::form::Form;
+use dual_rules::form::form_of;
+use presolve_model::Part;
+use sparse_problem::Problem;
+use std::alloc::{AllocError, Global};
+use std::marker::Model;
+
+/// The forms of the sides by row, and of the bounds by column.
+#[derive(Drop)]
+pub struct Forms {
+    sides: Vec<Form>,
+    bounds: Vec<Form>,
+}
+
+impl Model for Forms {
+    ghost use Rattle.round_marks.specs.Forming.{Formed};
+
+    ghost Value = { Formed };
+
+    ghost view = { λ f. record { sides = f.sides.items; bounds = f.bounds.items } };
+}
+
+fn of_sides(alloc: Global, problem: &Problem) -> Result<Vec<Form>, AllocError>
+    ensures { IfOk result (λ forms. forms.items ≡ map (λ i. form_on problem.now (part.Sides i)) (range_with_len 0 (length problem.now.matrix.rows))) }
+{
+    let count = problem.row_count() as u32;
+    let mut forms = Vec::with_capacity(alloc, count as usize)?;
+    for row in 0..count {
+        forms.push(form_of(problem, Part::Sides(row)))?;
+    }
+    Ok(forms)
+}
+
+fn of_bounds(alloc: Global, problem: &Problem) -> Result<Vec<Form>, AllocError>
+    ensures { IfOk result (λ forms. forms.items ≡ map (λ j. form_on problem.now (part.Bounds j)) (range_with_len 0 (length problem.now.matrix.columns))) }
+{
+    let count = problem.column_count() as u32;
+    let mut forms = Vec::with_capacity(alloc, count as usize)?;
+    for column in 0..count {
+        forms.push(form_of(problem, Part::Bounds(column)))?;
+    }
+    Ok(forms)
+}
+
+fn form_there(forms: &[Form], id: u32) -> Form
+    ensures { result ≡ slice_index_or forms.now id form.NoEnds }
+{
+    match forms.get(id as usize) {
+        Some(form) => *form,
+        None => Form::NoEnds,
+    }
+}
+
+fn set_form(forms: &mut [Form], id: u32, form: Form)
+    ensures { forms.new ≡ slice_set forms.old id form }
+{
+    if (id as usize) < forms.len() {
+        forms[id as usize] = form;
+    }
+}
+
+fn are_alike(first: bool, second: bool) -> bool
+    ensures { result ≡ same_flag first second }
+{
+    first == second
+}
+
+/// Whether two forms are the same.
+fn are_same(first: Form, second: Form) -> bool
+    ensures { result ≡ same_form first second }
+{
+    match first {
+        Form::NoEnds => match second {
+            Form::NoEnds => true,
+            _ => false,
+        },
+        Form::Sides {
+            no_lower,
+            no_upper,
+            in_order,
+        } => match second {
+            Form::Sides {
+                no_lower: lower,
+                no_upper: upper,
+                in_order: order,
+            } => {
+                are_alike(no_lower, lower)
+                    & (are_alike(no_upper, upper) & are_alike(in_order, order))
+            }
+            _ => false,
+        },
+        Form::Bounds {
+            no_lower,
+            no_upper,
+            in_order,
+            apart,
+            lower_holds,
+            upper_holds,
+            whole,
+        } => match second {
+            Form::Bounds {
+                no_lower: lower,
+                no_upper: upper,
+                in_order: order,
+                apart: differ,
+                lower_holds: lower_place,
+                upper_holds: upper_place,
+                whole: whole_too,
+            } => {
+                let places = are_alike(lower_holds, lower_place)
+                    & (are_alike(upper_holds, upper_place) & are_alike(whole, whole_too));
+                let order = are_alike(in_order, order) & (are_alike(apart, differ) & places);
+                are_alike(no_lower, lower) & (are_alike(no_upper, upper) & order)
+            }
+            _ => false,
+        },
+    }
+}
+
+impl Forms {
+    /// The forms of a problem.
+    pub fn of(alloc: Global, problem: &Problem) -> Result<Forms, AllocError>
+        ensures { IfOk result (λ forms. forms ≡ forms_of problem.now) }
+    {
+        let sides = of_sides(alloc, problem)?;
+        let bounds = of_bounds(alloc, problem)?;
+        Ok(Forms { sides, bounds })
+    }
+
+    fn at(&self, part: Part) -> Form
+        ensures { result ≡ form_at self.now part }
+    {
+        match part {
+            Part::Row(_) | Part::Col(_) => Form::NoEnds,
+            Part::Sides(row) => form_there(self.sides.as_slice(), row),
+            Part::Bounds(column) => form_there(self.bounds.as_slice(), column),
+        }
+    }
+
+    /// Whether a part is of ends whose form is as it was.
+    pub fn keep(&self, problem: &Problem, part: Part) -> bool
+        ensures { result ≡ keeps self.now problem.now part }
+    {
+        match part {
+            Part::Row(_) | Part::Col(_) => false,
+            Part::Sides(_) | Part::Bounds(_) => are_same(self.at(part), form_of(problem, part)),
+        }
+    }
+
+    /// Puts right the form of a part.
+    pub fn refresh(&mut self, problem: &Problem, part: Part)
+        ensures { self.new ≡ form_put self.old part (form_on problem.now part) }
+    {
+        let form = form_of(problem, part);
+        match part {
+            Part::Row(_) | Part::Col(_) => {}
+            Part::Sides(row) => set_form(self.sides.as_mut_slice(), row, form),
+            Part::Bounds(column) => set_form(self.bounds.as_mut_slice(), column, form),
+        }
+    }
+}

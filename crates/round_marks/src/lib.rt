@@ -1,0 +1,10 @@
+//! What rounds keep from one to the next: what is marked, how often parts had changed, the forms of ends, and the rows and columns where the
+//! next round looks.
+#![tactic(auto)]
+
+pub mod around;
+mod forms;
+pub mod found;
+mod ids;
+pub mod stamps;
+pub mod watch;
