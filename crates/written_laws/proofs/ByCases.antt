@@ -1,5 +1,6 @@
 -- What the rules say at other ids, by cases: one line a rule, and what a rule reads and computes in a lemma of its own.
 use Rattle.std.proofs.Common.{◌≡◌, ◌↔◌, ℕ, true, ◌&&◌, List, [], ◌∷◌, ◌++◌, get_or, map, Option, unwrap_or, refl, sym, ap, ap₂, ◌∙◌, subst, arith}
+use Rattle.std.specs.Prelude.{if◌then◌else◌}
 use Rattle.std.specs.List.{All}
 use Rattle.std.proofs.lemmas.List.{map-append}
 use Rattle.std.proofs.lemmas.List.Elements.{All-head, All-map, All-nil, All-tail}
@@ -14,6 +15,7 @@ use Rattle.lp_columns.specs.EmptyColumn.{resting_place}
 use Rattle.lp_columns.specs.RoundBounds.{rounded_up, rounded_down}
 use Rattle.problem_model.specs.declared.edit.Edit.{Edit}
 use Rattle.problem_model.specs.declared.edit.Edit.TheVariants.{DeleteRow, SetBounds, SetSides}
+use Rattle.problem_model.specs.declared.line.Line.{Line}
 use Rattle.problem_model.specs.declared.part.Contents.{Contents}
 use Rattle.problem_model.specs.declared.part.Contents.TheVariants as holding
 use Rattle.problem_model.specs.declared.part.Part.{Part}
@@ -52,15 +54,17 @@ use Rattle.presolve_model.specs.declared.instance.Rule.TheVariants as rule
 use Rattle.presolve_model.specs.declared.instance.Verdict.{Verdict}
 use Rattle.presolve_model.specs.declared.instance.Verdict.TheVariants.{CrossedBounds, CrossedSides, Ray}
 use Rattle.presolve_model.specs.Enabled.{enabled_on}
-use Rattle.presolve_model.specs.Instances.{instances_from}
+use Rattle.presolve_model.specs.Instances.{instances_from, is_of_rows}
 use Rattle.presolve_model.specs.Tables.{Computes, edits, heads, heads_of, holds_by, holds_of, looked_at_by, more_by, more_of}
+use Rattle.written_ids.specs.NewIds.{Ids, new_ids, term_at, terms_at}
+use Rattle.written_ids.specs.Standing.{AreOneToOne, LinesStand}
+use Rattle.written_ids.proofs.Lists.{all_both, all_one, all_two, both_by, both_then}
+use Rattle.written_ids.proofs.Naming.{entries_read, sides_read_at, sides_read_there}
+use Rattle.written_ids.proofs.NewIds.{contents_at, edit_at, id_of, none_at, one_at, part_at}
+use Rattle.written_ids.proofs.Pairs.{all_pairs, at_pairs}
+use Rattle.written_ids.proofs.Standing.{AreThere, IsThere, one_part, two_parts}
 use Rattle.written_laws.proofs.DominatedColumn.{dominated_alike, lines_there, sides_of_both_at, sides_of_both_there}
-use Rattle.written_laws.proofs.Lists.{all_both, all_one, all_two, both_by, both_then}
 use Rattle.written_laws.proofs.Locks.{fixed_by_cost_alike, place_kept, ray_alike}
-use Rattle.written_laws.proofs.Naming.{entries_read, sides_read_at, sides_read_there}
-use Rattle.written_laws.proofs.NewIds.{Ids, contents_at, edit_at, id_of, lines_of, new_ids, none_at, one_at, part_at, term_at, terms_at}
-use Rattle.written_laws.proofs.Pairs.{all_pairs, at_pairs}
-use Rattle.written_laws.proofs.Standing.{AreOneToOne, AreThere, IsThere, LinesStand, one_part, two_parts}
 
 -- ---- instances at other ids
 abbrev pub reduction_at : Ids → Reduction → Reduction
@@ -285,6 +289,10 @@ module _ (n : Ids) (p q : Sparse) (s : LinesStand n p q) where
   computes_stand (FixedByCost j) e = (λ h. h, λ h. h)
   computes_stand (DominatedColumn i j k) e = (λ h. h, λ h. h)
   computes_stand (EmptyColumn j) e = (λ h. h, λ h. h)
+
+-- the lines that the first ids of a rule name
+abbrev pub lines_of : Sparse → Rule → List Line
+lines_of p kind = if is_of_rows kind then p.matrix.rows else p.matrix.columns
 
 -- ---- the instances at a line: as many at its new id, each there exactly where the line is live
 abbrev pub IsAtLine : Sparse → Rule → ℕ → Instance → Type 0

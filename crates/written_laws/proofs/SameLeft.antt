@@ -16,12 +16,14 @@ use Rattle.presolve_model.specs.Replay.{CanApply}
 use Rattle.presolve_model.specs.Stuck.{IsUndecided, Stuck}
 use Rattle.presolve_model.specs.Tables.{heads, heads_of}
 use Rattle.written_laws.specs.Left.{HaveSameLeft}
+use Rattle.written_ids.specs.NewIds.{new_ids}
+use Rattle.written_ids.specs.Standing.{IsLeft}
+use Rattle.written_ids.proofs.NewIds.{old_ids}
+use Rattle.written_ids.proofs.Standing.{AreThere}
+use Rattle.written_ids.proofs.WrittenStand.{still_of, written_left}
 use Rattle.written_laws.proofs.ByCases.{instance_at, reduction_at, verdict_at}
 use Rattle.written_laws.proofs.Counting.{skipped_same}
-use Rattle.written_laws.proofs.NewIds.{new_ids, old_ids}
-use Rattle.written_laws.proofs.Standing.{AreThere, IsLeft}
 use Rattle.written_laws.proofs.Tabled.{applies_stand, enabled_stands, heads_back, instances_back, reductions_back, there_where_enabled}
-use Rattle.written_laws.proofs.WrittenStand.{still_of, written_left}
 
 no_true : (b : Bool) → (b ≡ true → ⊥) → b ≡ false
 no_true true h = absurd (h refl)

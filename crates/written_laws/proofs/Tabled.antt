@@ -20,10 +20,12 @@ use Rattle.presolve_model.specs.declared.instance.Reduction.{Reduction}
 use Rattle.presolve_model.specs.Enabled.{enabled_on, reads}
 use Rattle.presolve_model.specs.Replay.{CanApply}
 use Rattle.presolve_model.specs.Tables.{edits, heads, heads_of, holds, more}
+use Rattle.written_ids.specs.NewIds.{Ids, new_ids}
+use Rattle.written_ids.specs.Standing.{AreOneToOne, IsLeft, LinesStand}
+use Rattle.written_ids.proofs.EditsAtIds.{edits_fit, edits_written}
+use Rattle.written_ids.proofs.NewIds.{contents_at, old_ids, part_at}
+use Rattle.written_ids.proofs.Standing.{AreThere, IsThere, all_stand}
 use Rattle.written_laws.proofs.ByCases.{ComesBack, computes_stand, edits_stand, instance_at, reduction_at, reduction_back, reduction_heads, reduction_holds, reduction_more, reduction_names, reduction_there, verdict_back, verdict_heads, verdict_holds, verdict_more, verdict_names, verdict_there}
-use Rattle.written_laws.proofs.EditsAtIds.{edits_fit, edits_written}
-use Rattle.written_laws.proofs.NewIds.{Ids, contents_at, new_ids, old_ids, part_at}
-use Rattle.written_laws.proofs.Standing.{AreOneToOne, AreThere, IsLeft, IsThere, LinesStand, all_stand}
 
 -- ---- of instances
 heads_at : (n : Ids) (e : Instance) → heads (instance_at n e) ≡ map (part_at n) (heads e)

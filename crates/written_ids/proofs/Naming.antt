@@ -10,10 +10,11 @@ use Rattle.problem_model.specs.Problems.{column_at, column_entries, cost_at}
 use Rattle.problem_model.specs.Sparse.{Sparse}
 use Rattle.problem_laws.proofs.Entries.{column_entries-live}
 use Rattle.rule_words.specs.Reading.{sides_of, terms_in}
-use Rattle.written_laws.proofs.Lists.{map_across}
-use Rattle.written_laws.proofs.NewIds.{Ids, contents_at, part_at, term_at, terms_at}
-use Rattle.written_laws.proofs.OneToOne.{NamesLive}
-use Rattle.written_laws.proofs.Standing.{AreThere, IsThere, held}
+use Rattle.written_ids.specs.NewIds.{Ids, term_at, terms_at}
+use Rattle.written_ids.proofs.Lists.{map_across}
+use Rattle.written_ids.proofs.NewIds.{contents_at, part_at}
+use Rattle.written_ids.proofs.OneToOne.{NamesLive}
+use Rattle.written_ids.proofs.Standing.{AreThere, IsThere, held}
 
 -- the entries of a column that was read
 abbrev pub entries_read : Sparse → ℕ → List Term

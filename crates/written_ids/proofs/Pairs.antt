@@ -4,8 +4,8 @@ use Rattle.std.specs.List.{All}
 use Rattle.std.proofs.lemmas.List.Elements.{All-map}
 use Rattle.lp_model.specs.declared.terms.Term.{Term}
 use Rattle.dual_laws.specs.DominatedColumn.{pairs_of}
-use Rattle.written_laws.proofs.Lists.{all_flat, flat_across, map_across}
-use Rattle.written_laws.proofs.NewIds.{term_at, terms_at}
+use Rattle.written_ids.specs.NewIds.{term_at, terms_at}
+use Rattle.written_ids.proofs.Lists.{all_flat, flat_across, map_across}
 
 abbrev pub pair_at : (ℕ → ℕ) → ℕ × ℕ → ℕ × ℕ
 pair_at f x = (f x.0, f x.1)

@@ -22,10 +22,9 @@ use Rattle.program_laws.proofs.Ranks.{rank-id, rank-inside}
 use Rattle.program_laws.proofs.Renumbering.{ascends-renumbered, dense-renumbered}
 use Rattle.program_laws.proofs.WrittenShow.{written_alike}
 use Rattle.rule_words.proofs.Coefficients.{coefficient_in_column, coefficient_in_row, end_live}
-use Rattle.written_laws.proofs.NewIds.{new_ids}
-use Rattle.written_laws.proofs.OneToOne.{IsOneToOne}
-use Rattle.written_laws.proofs.SameTerms.{TellAlike, same_terms}
-use Rattle.written_laws.proofs.Standing.{AreOneToOne, ColumnStands, IsLeft, RowStands}
+use Rattle.written_ids.specs.NewIds.{new_ids}
+use Rattle.written_ids.specs.Standing.{AreOneToOne, ColumnStands, IsLeft, IsOneToOne, RowStands}
+use Rattle.written_ids.proofs.SameTerms.{TellAlike, same_terms}
 
 -- a problem of the same size is of the program too
 pub still_of : (program : ProgramData) (start p : Sparse) → IsProblemOf program start → SameSize start p → IsOf program p

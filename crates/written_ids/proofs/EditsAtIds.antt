@@ -7,8 +7,9 @@ use Rattle.problem_model.specs.declared.edit.Edit.TheVariants.{AddOffset, SetSid
 use Rattle.problem_model.specs.NewNumbers.{EditFits, EditIsWritten, EditsAreWritten, EditsFit}
 use Rattle.problem_model.specs.Offsets.{OffsetFits}
 use Rattle.problem_model.specs.Sparse.{Sparse}
-use Rattle.written_laws.proofs.Lists.{all_both}
-use Rattle.written_laws.proofs.NewIds.{Ids, edit_at}
+use Rattle.written_ids.specs.NewIds.{Ids}
+use Rattle.written_ids.proofs.Lists.{all_both}
+use Rattle.written_ids.proofs.NewIds.{edit_at}
 
 module _ (n : Ids) where
   edit_fits : (e : Edit) → EditFits e ↔ EditFits (edit_at n e)

@@ -1,24 +1,17 @@
 -- New ids of which no two are the same: terms have the same ids among them, and tell the same numbers at them.
-use Rattle.std.proofs.Common.{◌≡◌, ◌≢◌, ◌⊎◌, inl, inr, ℕ, Bool, true, ◌||◌, nat_eq, List, [], ◌∷◌, refl, sym, ap, ap₂, ◌∙◌}
+use Rattle.std.proofs.Common.{◌≡◌, ◌≢◌, ◌⊎◌, inl, inr, ℕ, Bool, ◌||◌, nat_eq, List, [], ◌∷◌, refl, sym, ap, ap₂, ◌∙◌}
 use Rattle.std.specs.List.{All}
 use Rattle.std.proofs.lemmas.Bool.{cases_eq, eq-eqb, ne_eqb}
 use Rattle.std.proofs.lemmas.List.Elements.{All-head, All-tail}
 use Rattle.lp_model.specs.declared.terms.Term.{Term}
 use Rattle.lp_model.specs.Sparse.{dense, has}
 use Rattle.problem_model.specs.declared.line.Line.{Line}
-use Rattle.problem_model.specs.Matrices.{line_at}
 use Rattle.problem_laws.proofs.Terms.{dense-cons_other, dense-cons_same}
-use Rattle.written_laws.proofs.NewIds.{term_at, terms_at}
-
-abbrev pub IsLive : List Line → ℕ → Type 0
-IsLive lines k = (line_at lines k).live ≡ true
+use Rattle.written_ids.specs.NewIds.{term_at, terms_at}
+use Rattle.written_ids.specs.Standing.{IsLive, IsOneToOne}
 
 abbrev pub NamesLive : List Line → Term → Type 0
 NamesLive lines t = IsLive lines t.id
-
--- live lines with the same new id are the same
-abbrev pub IsOneToOne : (ℕ → ℕ) → List Line → Type 0
-IsOneToOne f lines = (i k : ℕ) → IsLive lines i → IsLive lines k → f i ≡ f k → i ≡ k
 
 module _ (f : ℕ → ℕ) (lines : List Line) (o : IsOneToOne f lines) where
   pub equal_at : (i k : ℕ) → IsLive lines i → IsLive lines k → nat_eq (f i) (f k) ≡ nat_eq i k
