@@ -218,7 +218,7 @@ module _ (p : Sparse) (i j : ℕ) (s : IsSparse p) (live : (row_at p i).live ≡
     deletes = refl;
   }
 
-said_at : (p : Sparse) (i j : ℕ) (side : Side) → enabled p i j side ≡ true → Tightened p (row_entries p i) j side (sides_at p i).lower (sides_at p i).upper (spans_of p i)
+pub said_at : (p : Sparse) (i j : ℕ) (side : Side) → enabled p i j side ≡ true → Tightened p (row_entries p i) j side (sides_at p i).lower (sides_at p i).upper (spans_of p i)
 said_at p i j side e =
     let l : Option Number = (sides_at p i).lower in
     let u : Option Number = (sides_at p i).upper in

@@ -1,9 +1,11 @@
 -- K8: a bound of a column becomes the one that a row implies with the bounds of its other columns, where that is a better one.
 use Rattle.std.specs.Prelude.{◌≡◌, ℕ, ⊤, Bool, false, ◌&&◌, nat_eq, if◌then◌else◌, List, [], ◌∷◌, Option, Some, None, Result, Ok, Err}
+use Rattle.std.specs.List.{flat_map}
 use Rattle.rational.specs.Number.{Number, zero_ℚ}
 use Rattle.rational.specs.Order.{◌<ℚ◌}
 use Rattle.rational.specs.Compare.{lt_ℚ}
 use Rattle.fractions.specs.declared.Past.{Past}
+use Rattle.lp_model.specs.declared.terms.Term.{Term}
 use Rattle.lp_model.specs.EndTests.{is_apart}
 use Rattle.lp_model.specs.Sparse.{dense}
 use Rattle.undo_records.specs.declared.side.Side.{Side}
@@ -112,3 +114,7 @@ Improves p i j side = (b : Number) × (new_bound p i j side ≡ Some b) × IsBet
 -- nothing more is computed for the change
 abbrev pub Computes : Sparse → ℕ → ℕ → Side → Type 0
 Computes p i j side = ⊤
+
+-- the ends that the entries of a row name: by column, the lower one first
+abbrev pub bounds_of : List Term → List (ℕ × Side)
+bounds_of ts = flat_map (λ t. (t.id, Lower) ∷ (t.id, Upper) ∷ []) ts

@@ -8,3 +8,5 @@ pub mod WrittenStand
 pub mod EditsAtIds
 pub mod Naming
 pub mod Pairs
+pub mod Ends
+pub mod Spans
