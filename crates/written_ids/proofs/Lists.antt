@@ -20,6 +20,10 @@ all_one P x h = All-cons P x [] h (All-nil P)
 pub all_two : {X : Type 0} (P : X → Type 0) (x y : X) → P x → P y → All P (x ∷ y ∷ [])
 all_two P x y h k = All-cons P x (y ∷ []) h (all_one P y k)
 
+pub all_first : {X : Type 0} (P : X → Type 0) (xs ys : List X) → All P (xs ++ ys) → All P xs
+all_first P [] ys h = All-nil P
+all_first P (x ∷ xs) ys h = All-cons P x xs (All-head P x (xs ++ ys) h) (all_first P xs ys (All-tail P x (xs ++ ys) h))
+
 -- ---- lists that are made of items, before and after a change of the items
 pub map_across : {X X' Y Y' : Type 0} (f : X → X') (old : X → Y) (g : Y → Y') (new : X' → Y') → ((x : X) → new (f x) ≡ g (old x))
     → (xs : List X) → map new (map f xs) ≡ map g (map old xs)

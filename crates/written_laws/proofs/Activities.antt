@@ -4,7 +4,7 @@ use Rattle.std.specs.Prelude.{if◌then◌else◌}
 use Rattle.std.specs.List.{All}
 use Rattle.std.proofs.lemmas.Bool.{and_parts}
 use Rattle.std.proofs.lemmas.List.{map-append}
-use Rattle.std.proofs.lemmas.List.Elements.{All-head, All-map, All-nil, All-tail}
+use Rattle.std.proofs.lemmas.List.Elements.{All-append, All-head, All-map, All-nil, All-tail}
 use Rattle.rational.specs.Number.{Number, zero_ℚ}
 use Rattle.rational.specs.Compare.{lt_ℚ}
 use Rattle.lp_model.specs.declared.terms.Term.{Term}
@@ -37,7 +37,7 @@ use Rattle.activity_laws.proofs.Rows.{said, tested}
 use Rattle.activity_laws.proofs.TightenedBound.{said_at}
 use Rattle.written_ids.specs.NewIds.{Ids, term_at, terms_at}
 use Rattle.written_ids.specs.Standing.{AreOneToOne, LinesStand}
-use Rattle.written_ids.proofs.Lists.{all_two, map_across}
+use Rattle.written_ids.proofs.Lists.{all_one, all_two, map_across}
 use Rattle.written_ids.proofs.NewIds.{contents_at, edit_at, part_at}
 use Rattle.written_ids.proofs.OneToOne.{dense_at, equal_at, NamesLive}
 use Rattle.written_ids.proofs.Standing.{AreThere, IsThere, held}
@@ -145,6 +145,13 @@ tightened_alike n p o i j side on =
 -- the column of a bound that is tightened is live
 pub tightened_live : (p : Sparse) (i j : ℕ) (side : Side) → tightened.enabled p i j side ≡ true → (column_at p j).live ≡ true
 tightened_live p i j side e = (and_parts (column_at p j).live (has j (row_at p i).entries) (sym (has-live_only p.matrix.columns j (row_at p i).entries) ∙ (said_at p i j side e).named)).0
+
+-- where a bound can be tightened, the row is live, and so is the column
+pub bound_there : (p : Sparse) (i j : ℕ) → (row_at p i).live ≡ true → (column_at p j).live ≡ true → AreThere p (heads i ++ Bounds j ∷ [])
+bound_there p i j h g = All-append (IsThere p) (heads i) (Bounds j ∷ []) (all_two (IsThere p) (Row i) (Sides i) h h) (all_one (IsThere p) (Bounds j) g)
+
+pub tightened_there : (p : Sparse) (i j : ℕ) (side : Side) → tightened.enabled p i j side ≡ true → AreThere p (heads i ++ Bounds j ∷ [])
+tightened_there p i j side e = bound_there p i j (said (tightened.is_tightened_bound j side) p i e).live (tightened_live p i j side e)
 
 -- ---- the edits
 module _ (n : Ids) (p q : Sparse) (s : LinesStand n p q) (i : ℕ) where
