@@ -1,11 +1,13 @@
 -- K8: a bound of a column becomes the one that a row implies with the bounds of its other columns, where that is a better one.
 use Rattle.std.specs.Prelude.{◌≡◌, ℕ, ⊤, Bool, false, ◌&&◌, nat_eq, if◌then◌else◌, List, [], ◌∷◌, Option, Some, None, Result, Ok, Err}
+use Rattle.std.specs.List.{flat_map}
 use Rattle.rational.specs.Number.{Number, zero_ℚ}
 use Rattle.rational.specs.Order.{◌<ℚ◌}
 use Rattle.rational.specs.Compare.{lt_ℚ}
 use Rattle.fractions.specs.declared.Past.{Past}
 use Rattle.lp_model.specs.EndTests.{is_apart}
 use Rattle.lp_model.specs.Sparse.{dense}
+use Rattle.lp_model.specs.declared.terms.Term.{Term}
 use Rattle.undo_records.specs.declared.side.Side.{Side}
 use Rattle.undo_records.specs.declared.side.Side.TheVariants.{Lower, Upper}
 use Rattle.undo_records.specs.declared.undo.Undo.{Undo}
@@ -112,3 +114,7 @@ Improves p i j side = (b : Number) × (new_bound p i j side ≡ Some b) × IsBet
 -- nothing more is computed for the change
 abbrev pub Computes : Sparse → ℕ → ℕ → Side → Type 0
 Computes p i j side = ⊤
+
+-- the bounds of the columns of terms, in order: the lower one of each, and then the upper one
+abbrev pub bounds_of : List Term → List (ℕ × Side)
+bounds_of ts = flat_map (λ t. (t.id, Lower) ∷ (t.id, Upper) ∷ []) ts
