@@ -86,6 +86,10 @@ holds j side cs = on_row (is_tightened_bound j side) cs
 abbrev pub enabled : Sparse → ℕ → ℕ → Side → Bool
 enabled p i j side = holds j side (row_found p i)
 
+-- both bounds of each column of a row, in the order of its entries, the lower one first
+abbrev pub bounds_of : List Term → List (ℕ × Side)
+bounds_of ts = flat_map (λ t. (t.id, Lower) ∷ (t.id, Upper) ∷ []) ts
+
 -- the new bound
 abbrev pub new_bound : Sparse → ℕ → ℕ → Side → Option Number
 new_bound p i j side = implied side j (dense (row_entries p i) j) (sides_at p i).lower (sides_at p i).upper (spans_of p i)
@@ -114,7 +118,3 @@ Improves p i j side = (b : Number) × (new_bound p i j side ≡ Some b) × IsBet
 -- nothing more is computed for the change
 abbrev pub Computes : Sparse → ℕ → ℕ → Side → Type 0
 Computes p i j side = ⊤
-
--- the bounds of the columns of terms, in order: the lower one of each, and then the upper one
-abbrev pub bounds_of : List Term → List (ℕ × Side)
-bounds_of ts = flat_map (λ t. (t.id, Lower) ∷ (t.id, Upper) ∷ []) ts
