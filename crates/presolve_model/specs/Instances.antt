@@ -1,41 +1,54 @@
--- All instances of a rule with a first id, and which rule and which first id an instance has.
+-- The instances of a rule with a first id that are open, and which rule and which first id an instance has.
 use Rattle.std.specs.Prelude.{ℕ, Bool, true, false, List, [], ◌∷◌, length, map, if◌then◌else◌}
+use Rattle.std.specs.List.{filter}
 use Rattle.problem_model.specs.Problems.{row_entries}
 use Rattle.problem_model.specs.Sparse.{Sparse}
+use Rattle.activity_laws.specs.TightenedBound.{bounds_of}
 use Rattle.dual_laws.specs.DominatedColumn.{pairs_of}
 use Rattle.presolve_model.specs.declared.instance.Reduction.{Reduction}
-use Rattle.presolve_model.specs.declared.instance.Reduction.TheVariants.{EmptyRow, SingletonRow, FixedColumn, RoundBounds, FixedByCost, DominatedColumn, EmptyColumn}
+use Rattle.presolve_model.specs.declared.instance.Reduction.TheVariants.{EmptyRow, SingletonRow, FixedColumn, RoundBounds, RedundantRow, RedundantSide, ForcingRow, TightenedBound, FixedByCost, DominatedColumn, EmptyColumn}
 use Rattle.presolve_model.specs.declared.instance.Verdict.{Verdict}
-use Rattle.presolve_model.specs.declared.instance.Verdict.TheVariants.{CrossedBounds, CrossedSides, Ray}
+use Rattle.presolve_model.specs.declared.instance.Verdict.TheVariants.{CrossedBounds, CrossedSides, OutOfReach, Ray}
 use Rattle.presolve_model.specs.declared.instance.Reach.{Reach}
 use Rattle.presolve_model.specs.declared.instance.Reach.TheVariants.{Here, Near, Far}
 use Rattle.presolve_model.specs.declared.instance.Rule.{Rule}
 use Rattle.presolve_model.specs.declared.instance.Rule.TheVariants as rule
 use Rattle.presolve_model.specs.declared.instance.Instance.{Instance}
 use Rattle.presolve_model.specs.declared.instance.Instance.TheVariants as at
+use Rattle.presolve_model.specs.Tallies.{Counts, counted, Open}
 
--- the instances of a rule with this first id, in order
-abbrev pub instances_from : Sparse → Rule → ℕ → List Instance
-instances_from p rule.CrossedBounds j = at.Verdict (CrossedBounds j) ∷ []
-instances_from p rule.CrossedSides i = at.Verdict (CrossedSides i) ∷ []
-instances_from p rule.Ray j = at.Verdict (Ray j) ∷ []
-instances_from p rule.EmptyRow i = at.Reduction (EmptyRow i) ∷ []
-instances_from p rule.SingletonRow i = at.Reduction (SingletonRow i) ∷ []
-instances_from p rule.FixedColumn j = at.Reduction (FixedColumn j) ∷ []
-instances_from p rule.RoundBounds j = at.Reduction (RoundBounds j) ∷ []
-instances_from p rule.FixedByCost j = at.Reduction (FixedByCost j) ∷ []
-instances_from p rule.DominatedColumn i = map (λ x. at.Reduction (DominatedColumn i x.0 x.1)) (pairs_of (row_entries p i))
-instances_from p rule.EmptyColumn j = at.Reduction (EmptyColumn j) ∷ []
+-- the instances of a rule with this first id that are open, in order
+abbrev pub instances_from : Open → Sparse → Rule → ℕ → List Instance
+instances_from opens p rule.CrossedBounds j = at.Verdict (CrossedBounds j) ∷ []
+instances_from opens p rule.CrossedSides i = at.Verdict (CrossedSides i) ∷ []
+instances_from opens p rule.OutOfReach i = at.Verdict (OutOfReach i) ∷ []
+instances_from opens p rule.Ray j = at.Verdict (Ray j) ∷ []
+instances_from opens p rule.EmptyRow i = at.Reduction (EmptyRow i) ∷ []
+instances_from opens p rule.SingletonRow i = at.Reduction (SingletonRow i) ∷ []
+instances_from opens p rule.FixedColumn j = at.Reduction (FixedColumn j) ∷ []
+instances_from opens p rule.RoundBounds j = at.Reduction (RoundBounds j) ∷ []
+instances_from opens p rule.RedundantRow i = at.Reduction (RedundantRow i) ∷ []
+instances_from opens p rule.RedundantSide i = at.Reduction (RedundantSide i) ∷ []
+instances_from opens p rule.ForcingRow i = at.Reduction (ForcingRow i) ∷ []
+instances_from opens p rule.TightenedBound i = map (λ x. at.Reduction (TightenedBound i x.0 x.1)) (filter (λ x. opens x.0 x.1) (bounds_of (row_entries p i)))
+instances_from opens p rule.FixedByCost j = at.Reduction (FixedByCost j) ∷ []
+instances_from opens p rule.DominatedColumn i = map (λ x. at.Reduction (DominatedColumn i x.0 x.1)) (pairs_of (row_entries p i))
+instances_from opens p rule.EmptyColumn j = at.Reduction (EmptyColumn j) ∷ []
 
 -- whether the first ids of a rule are those of rows; else they are those of columns
 abbrev pub is_of_rows : Rule → Bool
 is_of_rows rule.CrossedBounds = false
 is_of_rows rule.CrossedSides = true
+is_of_rows rule.OutOfReach = true
 is_of_rows rule.Ray = false
 is_of_rows rule.EmptyRow = true
 is_of_rows rule.SingletonRow = true
 is_of_rows rule.FixedColumn = false
 is_of_rows rule.RoundBounds = false
+is_of_rows rule.RedundantRow = true
+is_of_rows rule.RedundantSide = true
+is_of_rows rule.ForcingRow = true
+is_of_rows rule.TightenedBound = true
 is_of_rows rule.FixedByCost = false
 is_of_rows rule.DominatedColumn = true
 is_of_rows rule.EmptyColumn = false
@@ -44,11 +57,16 @@ is_of_rows rule.EmptyColumn = false
 abbrev pub reach_of : Rule → Reach
 reach_of rule.CrossedBounds = Here
 reach_of rule.CrossedSides = Here
+reach_of rule.OutOfReach = Near
 reach_of rule.Ray = Near
 reach_of rule.EmptyRow = Here
 reach_of rule.SingletonRow = Here
 reach_of rule.FixedColumn = Here
 reach_of rule.RoundBounds = Here
+reach_of rule.RedundantRow = Near
+reach_of rule.RedundantSide = Near
+reach_of rule.ForcingRow = Near
+reach_of rule.TightenedBound = Near
 reach_of rule.FixedByCost = Near
 reach_of rule.DominatedColumn = Far
 reach_of rule.EmptyColumn = Here
@@ -57,11 +75,16 @@ reach_of rule.EmptyColumn = Here
 abbrev pub rests_on_reading : Rule → Bool
 rests_on_reading rule.CrossedBounds = false
 rests_on_reading rule.CrossedSides = false
+rests_on_reading rule.OutOfReach = false
 rests_on_reading rule.Ray = false
 rests_on_reading rule.EmptyRow = false
 rests_on_reading rule.SingletonRow = false
 rests_on_reading rule.FixedColumn = false
 rests_on_reading rule.RoundBounds = true
+rests_on_reading rule.RedundantRow = false
+rests_on_reading rule.RedundantSide = false
+rests_on_reading rule.ForcingRow = false
+rests_on_reading rule.TightenedBound = true
 rests_on_reading rule.FixedByCost = false
 rests_on_reading rule.DominatedColumn = false
 rests_on_reading rule.EmptyColumn = false
@@ -75,6 +98,10 @@ rule_of (EmptyRow i) = rule.EmptyRow
 rule_of (SingletonRow i) = rule.SingletonRow
 rule_of (FixedColumn j) = rule.FixedColumn
 rule_of (RoundBounds j) = rule.RoundBounds
+rule_of (RedundantRow i) = rule.RedundantRow
+rule_of (RedundantSide i) = rule.RedundantSide
+rule_of (ForcingRow i) = rule.ForcingRow
+rule_of (TightenedBound i j side) = rule.TightenedBound
 rule_of (FixedByCost j) = rule.FixedByCost
 rule_of (DominatedColumn i j k) = rule.DominatedColumn
 rule_of (EmptyColumn j) = rule.EmptyColumn
@@ -84,6 +111,10 @@ first_id (EmptyRow i) = i
 first_id (SingletonRow i) = i
 first_id (FixedColumn j) = j
 first_id (RoundBounds j) = j
+first_id (RedundantRow i) = i
+first_id (RedundantSide i) = i
+first_id (ForcingRow i) = i
+first_id (TightenedBound i j side) = i
 first_id (FixedByCost j) = j
 first_id (DominatedColumn i j k) = i
 first_id (EmptyColumn j) = j
@@ -91,11 +122,13 @@ first_id (EmptyColumn j) = j
 abbrev pub verdict_rule : Verdict → Rule
 verdict_rule (CrossedBounds j) = rule.CrossedBounds
 verdict_rule (CrossedSides i) = rule.CrossedSides
+verdict_rule (OutOfReach i) = rule.OutOfReach
 verdict_rule (Ray j) = rule.Ray
 
 abbrev pub verdict_id : Verdict → ℕ
 verdict_id (CrossedBounds j) = j
 verdict_id (CrossedSides i) = i
+verdict_id (OutOfReach i) = i
 verdict_id (Ray j) = j
 
 abbrev pub rule_at : Instance → Rule
@@ -105,3 +138,14 @@ rule_at (at.Verdict v) = verdict_rule v
 abbrev pub id_at : Instance → ℕ
 id_at (at.Reduction r) = first_id r
 id_at (at.Verdict v) = verdict_id v
+
+-- ---- counts
+-- one that tightens a bound is open where that bound may be tightened; every other one is
+abbrev pub is_open : Open → Instance → Bool
+is_open opens (at.Reduction (TightenedBound i j side)) = opens j side
+is_open opens other = true
+
+-- the counts after a reduction
+abbrev pub tallied : Reduction → Counts → Counts
+tallied (TightenedBound i j side) c = counted c j side
+tallied other c = c
