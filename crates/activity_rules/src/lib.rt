@@ -6,4 +6,4 @@ pub mod forcing_row;
 pub mod out_of_reach;
 pub mod redundant_row;
 pub mod redundant_side;
-mod rows;
+pub mod rows;
