@@ -1,10 +1,13 @@
 -- K9.
-use Rattle.std.proofs.Common.{◌≡◌, ℕ, Bool, true, false, ◌&&◌, pos, List, [], ◌∷◌, Option, Some, None, is_some, Result, Ok, Err, refl, sym, ap, ap₂, ◌∙◌, subst}
+use Rattle.std.proofs.Common.{◌≡◌, ◌≢◌, T, not, ℕ, Bool, true, false, ◌&&◌, pos, List, [], ◌∷◌, Option, Some, None, is_some, Result, Ok, Err, refl, sym, ap, ap₂, ◌∙◌, subst}
 use Rattle.std.specs.Prelude.{if◌then◌else◌}
 use Rattle.std.proofs.lemmas.Bool.{and_parts}
 use Rattle.rational.specs.Number.{Number, rational, zero_ℚ, one_ℚ, neg_ℚ, ◌+ℚ◌, ◌-ℚ◌, ◌*ℚ◌}
-use Rattle.rational.specs.Ring.{ring, v, num, inv, ◌:*◌}
-use Rattle.rational.specs.Order.{◌<ℚ◌}
+use Rattle.rational.specs.Ring.{ring, v, num, inv, ◌:*◌, ◌:+◌, ◌:-◌}
+use Rattle.rational.specs.Order.{◌<ℚ◌, <ℚ-≤ℚ, non_neg_ℚ}
+use Rattle.rational.proofs.MinMaxLaws.{abs_ℚ-is, abs_ℚ-neg}
+use Rattle.rational.proofs.Signs.{<ℚ-≢, <ℚ-≢'}
+use Rattle.lp_theory.proofs.ActivityLaws.{lt_true, lt_false}
 use Rattle.rational.specs.Compare.{lt_ℚ}
 use Rattle.rational.specs.Ends.{scaled}
 use Rattle.rational.specs.Floor.{IsWhole, is_whole}
@@ -46,7 +49,7 @@ use Rattle.activity_laws.specs.TightenedBound.{entry_at, if_made}
 use Rattle.activity_laws.proofs.Rows.{said}
 use Rattle.activity_laws.proofs.TightenedBound.{found}
 use Rattle.coef_laws.specs.declared.tightening.Tightening.{Tightening}
-use Rattle.coef_laws.specs.TightenedCoefficient.{best_bound, edits, edits_by, enabled, extreme_of, given, if_finite, if_short, is_tightened, left_at, new_coefficient, new_limit, next_best, one_side, record_of, side_set, slack, step, tightened_at, tightened_by, tightened_in, tightening, tightening_of, turned, whole_bounds}
+use Rattle.coef_laws.specs.TightenedCoefficient.{Shrinks, best_bound, edits, edits_by, enabled, extreme_of, given, if_finite, if_short, is_tightened, left_at, new_coefficient, new_limit, next_best, one_side, record_of, side_set, slack, step, tightened_at, tightened_by, tightened_in, tightening, tightening_of, turned, whole_bounds}
 
 -- ---- what comes of a value
 record IsGiven (A B : Type 0) (o : Option A) (f : A → Option B) (b : B) : Type 0 where
@@ -247,8 +250,8 @@ module _ (p : Sparse) (i j : ℕ) (s : IsSparse p) (live : (row_at p i).live ≡
   abbrev b : Number
   b = turned x.side x.limit
 
-  abbrev T : theory.Tightening
-  T = record { lower = x.bounds.0; upper = x.bounds.1; side = x.limit; rest = turned x.side x.greatest }
+  abbrev numbers_there : theory.Tightening
+  numbers_there = record { lower = x.bounds.0; upper = x.bounds.1; side = x.limit; rest = turned x.side x.greatest }
 
   named : has j (row_entries p i) ≡ true
   named = (found p j (row_entries p i) x.span x.entry).named
@@ -268,10 +271,10 @@ module _ (p : Sparse) (i j : ℕ) (s : IsSparse p) (live : (row_at p i).live ≡
   b_is : theory.sign f *ℚ x.limit ≡ b
   b_is = sym (turned_is x.side x.limit)
 
-  gap_at : theory.slack_at M i j f T ≡ x.gap
-  gap_at = ap₂ (λ q r. theory.slack_of q r T) a_is b_is ∙ slack_is a b (turned x.side x.greatest) x.bounds.0 x.bounds.1 x.gap x.gap_is
+  gap_at : theory.slack_at M i j f numbers_there ≡ x.gap
+  gap_at = ap₂ (λ q r. theory.slack_of q r numbers_there) a_is b_is ∙ slack_is a b (turned x.side x.greatest) x.bounds.0 x.bounds.1 x.gap x.gap_is
 
-  enabled_there : theory.IsTightenedCoefficient M i j f T
+  enabled_there : theory.IsTightenedCoefficient M i j f numbers_there
   enabled_there = record {
     row = row_inside p i live;
     column = column_inside p j column_on;
@@ -290,19 +293,19 @@ module _ (p : Sparse) (i j : ℕ) (s : IsSparse p) (live : (row_at p i).live ≡
   abbrev one_told : Tightening
   one_told = told x.side x.span.value x.limit x.bounds.0 x.bounds.1 x.greatest x.gap
 
-  coefficient_is : theory.new_coefficient M i j f T ≡ turned x.side (new_coefficient one_told)
+  coefficient_is : theory.new_coefficient M i j f numbers_there ≡ turned x.side (new_coefficient one_told)
   coefficient_is = ap₂ (λ q d. theory.sign f *ℚ theory.shrunk q d) a_is gap_at ∙ ap (λ q. theory.sign f *ℚ q) (sym (shrunk_is a x.gap)) ∙ sym (turned_is x.side (new_coefficient one_told))
 
-  side_is : theory.new_side M i j f T ≡ turned x.side (new_limit one_told)
-  side_is = ap₂ (λ q r. theory.sign f *ℚ theory.moved_side q r T (theory.slack_at M i j f T)) a_is b_is
-      ∙ ap (λ d. theory.sign f *ℚ theory.moved_side a b T d) gap_at
+  side_is : theory.new_side M i j f numbers_there ≡ turned x.side (new_limit one_told)
+  side_is = ap₂ (λ q r. theory.sign f *ℚ theory.moved_side q r numbers_there (theory.slack_at M i j f numbers_there)) a_is b_is
+      ∙ ap (λ d. theory.sign f *ℚ theory.moved_side a b numbers_there d) gap_at
       ∙ ap (λ q. theory.sign f *ℚ q) (sym (moved_is a b x.gap x.bounds.0 x.bounds.1)) ∙ sym (turned_is x.side (new_limit one_told))
 
   -- an entry, and a side alone
   abbrev edits_with : Number → Number → List Edit
   edits_with c e = SetEntry i j c ∷ SetSides i (theory.lower_alone f e) (theory.upper_alone f e) ∷ []
 
-  edits_are : edits_by i j (Some t) ≡ edits_with (theory.new_coefficient M i j f T) (theory.new_side M i j f T)
+  edits_are : edits_by i j (Some t) ≡ edits_with (theory.new_coefficient M i j f numbers_there) (theory.new_side M i j f numbers_there)
   edits_are = ap (λ (y : Tightening). edits_by i j (Some y)) (sym x.short.same)
       ∙ ap (λ (e : Edit). SetEntry i j (turned x.side (new_coefficient one_told)) ∷ e ∷ []) (set_is x.side i (turned x.side (new_limit one_told)))
       ∙ ap₂ edits_with (sym coefficient_is) (sym side_is)
@@ -310,11 +313,11 @@ module _ (p : Sparse) (i j : ℕ) (s : IsSparse p) (live : (row_at p i).live ≡
   allowed : (c e : Number) → AreAllowed p (edits_with c e)
   allowed c e = ((live, column_on), (put_row_live p i j c live i ∙ live, tt))
 
-  owes_with : Owes p (edits_with (theory.new_coefficient M i j f T) (theory.new_side M i j f T)) (record_of p i j)
-  owes_with = let c = theory.new_coefficient M i j f T in let e = theory.new_side M i j f T in record {
+  owes_with : Owes p (edits_with (theory.new_coefficient M i j f numbers_there) (theory.new_side M i j f numbers_there)) (record_of p i j)
+  owes_with = let c = theory.new_coefficient M i j f numbers_there in let e = theory.new_side M i j f numbers_there in record {
     allowed = allowed c e;
     ordered = tt;
-    reduces = by_edits p (edits_with c e) (theory.coefficient_tightened M i j f T) (λ y. y) zero_ℚ s (allowed c e) refl nothing_twice (tightened_coefficient M i j f T enabled_there Min);
+    reduces = by_edits p (edits_with c e) (theory.coefficient_tightened M i j f numbers_there) (λ y. y) zero_ℚ s (allowed c e) refl nothing_twice (tightened_coefficient M i j f numbers_there enabled_there Min);
     sided = λ numbers h. two_sided (SetEntry i j c) (SetSides i (theory.lower_alone f e) (theory.upper_alone f e)) tt (one_sided_ends f e);
     sound = (row_inside p i live, column_inside p j column_on);
     names = (one_on p.matrix.rows i live, one_on p.matrix.columns j column_on);
@@ -331,3 +334,36 @@ owes p i j s e = let h = said (is_tightened j) p i e in by h.live (tightening_of
     by live None f h = absurd (not_true h)
     by live (Some t) f h = subst (λ o. Owes p (edits_by i j o) (record_of p i j)) (sym f)
         (owes_by p i j s live t (tells j (sides_at p i).lower (sides_at p i).upper (spans_of p i) t f))
+
+-- ---- a coefficient that shrinks
+less_by : (p q r s : Number) → p -ℚ q ≡ r -ℚ s → p <ℚ q → r <ℚ s
+less_by p q r s e h = record { lt = subst (λ d. T (not (non_neg_ℚ d))) e h.lt }
+
+record IsSmaller (a c : Number) : Type 0 where
+  some : c ≢ zero_ℚ
+  closer : abs_ℚ c <ℚ abs_ℚ a
+
+smaller : (a d : Number) → zero_ℚ <ℚ d → d <ℚ abs_ℚ a → IsSmaller a (a +ℚ step a d)
+smaller a d p q = by (lt_ℚ zero_ℚ a) refl
+  where
+    by : (c : Bool) → lt_ℚ zero_ℚ a ≡ c → IsSmaller a (a +ℚ (if c then neg_ℚ d else d))
+    by true e =
+        let same : abs_ℚ a ≡ a = abs_ℚ-is a (<ℚ-≤ℚ (lt_true _ _ e)) in
+        let above : zero_ℚ <ℚ (a -ℚ d) = less_by d a zero_ℚ (a -ℚ d) (ring rational (a ∷ d ∷ []) (v 1 :- v 0) (num (pos 0) :- (v 0 :- v 1)) refl) (subst (λ x. d <ℚ x) same q) in
+        let below : (a -ℚ d) <ℚ a = less_by zero_ℚ d (a -ℚ d) a (ring rational (a ∷ d ∷ []) (num (pos 0) :- v 1) ((v 0 :- v 1) :- v 0) refl) p in
+        record { some = <ℚ-≢ above; closer = subst (λ x. x <ℚ abs_ℚ a) (sym (abs_ℚ-is (a -ℚ d) (<ℚ-≤ℚ above))) (subst (λ x. (a -ℚ d) <ℚ x) (sym same) below) }
+    by false e =
+        let same : abs_ℚ a ≡ neg_ℚ a = abs_ℚ-neg a (lt_false _ _ e) in
+        let below : (a +ℚ d) <ℚ zero_ℚ = less_by d (neg_ℚ a) (a +ℚ d) zero_ℚ (ring rational (a ∷ d ∷ []) (v 1 :- inv (v 0)) ((v 0 :+ v 1) :- num (pos 0)) refl) (subst (λ x. d <ℚ x) same q) in
+        let closer : neg_ℚ (a +ℚ d) <ℚ neg_ℚ a = less_by zero_ℚ d (neg_ℚ (a +ℚ d)) (neg_ℚ a) (ring rational (a ∷ d ∷ []) (num (pos 0) :- v 1) (inv (v 0 :+ v 1) :- inv (v 0)) refl) p in
+        record { some = <ℚ-≢' below; closer = subst (λ x. x <ℚ abs_ℚ a) (sym (abs_ℚ-neg (a +ℚ d) (<ℚ-≤ℚ below))) (subst (λ x. neg_ℚ (a +ℚ d) <ℚ x) (sym same) closer) }
+
+pub shrinks : (p : Sparse) (i j : ℕ) → enabled p i j ≡ true → Shrinks p i j
+shrinks p i j e = by (tightening_of p i j) refl (said (is_tightened j) p i e).holds
+  where
+    told_smaller : (t : Tightening) → Tells j (sides_at p i).lower (sides_at p i).upper (spans_of p i) t → IsSmaller t.coefficient (new_coefficient t)
+    told_smaller t x = subst (λ (y : Tightening). IsSmaller y.coefficient (new_coefficient y)) x.short.same (smaller (turned x.side x.span.value) x.gap x.short.positive x.short.below)
+
+    by : (o : Option Tightening) → tightening_of p i j ≡ o → is_some o ≡ true → Shrinks p i j
+    by None f h = absurd (not_true h)
+    by (Some t) f h = let s = told_smaller t (tells j (sides_at p i).lower (sides_at p i).upper (spans_of p i) t f) in (t, f, s.some, s.closer)

@@ -1,7 +1,8 @@
 -- K9: the coefficient of a whole column shrinks in a row with one finite side, and the side with it. f is 1 where that side is the upper
 -- one, and -1 where it is the lower one: times f the row has an upper side.
-use Rattle.std.specs.Prelude.{ℕ, ⊤, Bool, true, ◌&&◌, if◌then◌else◌, List, [], ◌∷◌, Option, Some, None, is_some, Result, Ok, Err}
+use Rattle.std.specs.Prelude.{◌≡◌, ◌≢◌, ℕ, ⊤, Bool, true, ◌&&◌, if◌then◌else◌, List, [], ◌∷◌, Option, Some, None, is_some, Result, Ok, Err}
 use Rattle.rational.specs.Number.{Number, zero_ℚ, one_ℚ, neg_ℚ, ◌+ℚ◌, ◌*ℚ◌}
+use Rattle.rational.specs.Order.{◌<ℚ◌}
 use Rattle.rational.specs.Compare.{lt_ℚ}
 use Rattle.rational.specs.Floor.{is_whole}
 use Rattle.rational.specs.Lowest.{Fits}
@@ -133,6 +134,10 @@ edits p i j = edits_by i j (tightening_of p i j)
 
 abbrev pub record_of : Sparse → ℕ → ℕ → Undo
 record_of p i j = undo.TightenCoefficient i j
+
+-- what is owed beside: the coefficient comes strictly closer to 0, and doesn't become 0
+abbrev pub Shrinks : Sparse → ℕ → ℕ → Type 0
+Shrinks p i j = (t : Tightening) × (tightening_of p i j ≡ Some t) × (new_coefficient t ≢ zero_ℚ) × (abs_ℚ (new_coefficient t) <ℚ abs_ℚ t.coefficient)
 
 -- the product and the sums are computed
 pub record AreComputed (t : Tightening) : Type 0 where

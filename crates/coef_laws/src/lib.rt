@@ -12,8 +12,9 @@ mod tightening;
 
 pub use tightening::Tightening;
 
-/// The coefficient of a whole column in a row with one finite side can shrink, and the side with it, where the row's greatest rest leaves
-/// less than the coefficient of it in use.
+/// The coefficient of a whole column in a row with one finite side can shrink, and the side with it, by what the greatest rest of the row
+/// leaves unused; it comes strictly closer to 0, and doesn't become 0.
 pub fn coefficients_can_be_tightened()
-    ensures { (p : Sparse) (i j : ℕ) → IsSparse p → tightened_coefficient.enabled p i j ≡ true → Owes p (tightened_coefficient.edits p i j) (tightened_coefficient.record_of p i j) }
+    ensures owes { (p : Sparse) (i j : ℕ) → IsSparse p → tightened_coefficient.enabled p i j ≡ true → Owes p (tightened_coefficient.edits p i j) (tightened_coefficient.record_of p i j) }
+    ensures shrinks { (p : Sparse) (i j : ℕ) → tightened_coefficient.enabled p i j ≡ true → tightened_coefficient.Shrinks p i j }
 {}
