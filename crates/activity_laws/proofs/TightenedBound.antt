@@ -64,7 +64,7 @@ pub record IsFound (p : Sparse) (ts : List Term) (j : ℕ) (s : Span) : Type 0 w
   pub named : has j ts ≡ true
   pub span : s ≡ span_of p (record { id = j; value = dense ts j })
 
-found : (p : Sparse) (j : ℕ) (ts : List Term) (s : Span) → entry_at j (map (span_of p) ts) ≡ Some s → IsFound p ts j s
+pub found : (p : Sparse) (j : ℕ) (ts : List Term) (s : Span) → entry_at j (map (span_of p) ts) ≡ Some s → IsFound p ts j s
 found p j [] s e = cc
 found p j (t ∷ ts) s e = by (cases_eq t.id j) (found p j ts s)
   where

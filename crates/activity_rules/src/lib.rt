@@ -7,5 +7,5 @@ pub mod out_of_reach;
 pub mod redundant_row;
 pub mod redundant_side;
 mod row_bounds;
-mod rows;
+pub mod rows;
 pub mod tightened_bound;
