@@ -1,1 +1,2 @@
 pub mod TightenedCoefficient
+pub mod Changing

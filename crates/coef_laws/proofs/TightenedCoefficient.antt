@@ -206,6 +206,22 @@ tells j l u ss t e =
       short = is_short (told f s.value b k.value.0 k.value.1 m.value n.value) t n.after;
     }
 
+-- what it says of the entry of column j
+pub record IsEntry (p : Sparse) (i j : ℕ) (t : Tightening) : Type 0 where
+  pub named : has j (row_entries p i) ≡ true
+  pub coefficient : turned t.side (dense (row_entries p i) j) ≡ t.coefficient
+
+pub entry_told : (p : Sparse) (i j : ℕ) (t : Tightening) → tightening_of p i j ≡ Some t → IsEntry p i j t
+entry_told p i j t e =
+    let x = tells j (sides_at p i).lower (sides_at p i).upper (spans_of p i) t e in
+    let there = found p j (row_entries p i) x.span x.entry in
+    record {
+      named = there.named;
+      coefficient = ap (λ (y : Span). turned t.side y.value) (sym there.span)
+          ∙ ap (λ (f : Side). turned f x.span.value) (sym (ap (λ (y : Tightening). y.side) x.short.same))
+          ∙ ap (λ (y : Tightening). y.coefficient) x.short.same;
+    }
+
 -- ---- in the words of the theory
 turned_is : (f : Side) (q : Number) → turned f q ≡ theory.sign (side_of f) *ℚ q
 turned_is Lower q = ring rational (q ∷ []) (inv (v 0)) (inv (num (pos 1)) :* v 0) refl

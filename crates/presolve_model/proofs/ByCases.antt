@@ -1,5 +1,5 @@
 -- The laws of the tables by cases: one line a rule.
-use Rattle.std.proofs.Common.{◌≡◌, ◌<◌, ℕ, true, List, [], ◌∷◌, ◌++◌, Option, length, refl, sym, ap, subst, arith, true≢false}
+use Rattle.std.proofs.Common.{◌≡◌, ◌<◌, ℕ, true, List, [], ◌∷◌, ◌++◌, Option, Some, None, length, map, refl, sym, ap, subst, arith, true≢false}
 use Rattle.std.specs.List.{All, Contains, filter}
 use Rattle.rational.specs.Number.{Number}
 use Rattle.fractions.specs.declared.Numbers.{Numbers}
@@ -44,6 +44,10 @@ use Rattle.activity_laws.proofs.RedundantSide as redundant_side
 use Rattle.activity_laws.proofs.ForcingRow as forcing_row
 use Rattle.activity_laws.proofs.TightenedBound as tightened_bound
 use Rattle.activity_laws.proofs.OutOfReach as out_of_reach
+use Rattle.coef_laws.specs.TightenedCoefficient as coefficient_words
+use Rattle.coef_laws.specs.declared.tightening.Tightening.{Tightening}
+use Rattle.coef_laws.proofs.TightenedCoefficient as tightened_coefficient
+use Rattle.coef_laws.proofs.Changing as coefficients
 use Rattle.dual_laws.specs.DominatedColumn.{pairs_of}
 use Rattle.dual_laws.proofs.FixedByCost as fixed_by_cost
 use Rattle.dual_laws.proofs.DominatedColumn as dominated_column
@@ -51,7 +55,7 @@ use Rattle.dual_laws.proofs.Ray as ray
 use Rattle.presolve_model.specs.declared.instance.Instance.{Instance}
 use Rattle.presolve_model.specs.declared.instance.Instance.TheVariants as at
 use Rattle.presolve_model.specs.declared.instance.Reduction.{Reduction}
-use Rattle.presolve_model.specs.declared.instance.Reduction.TheVariants.{EmptyRow, SingletonRow, FixedColumn, RoundBounds, RedundantRow, RedundantSide, ForcingRow, TightenedBound, FixedByCost, DominatedColumn, EmptyColumn}
+use Rattle.presolve_model.specs.declared.instance.Reduction.TheVariants.{EmptyRow, SingletonRow, FixedColumn, RoundBounds, RedundantRow, RedundantSide, ForcingRow, TightenedBound, TightenedCoefficient, FixedByCost, DominatedColumn, EmptyColumn}
 use Rattle.presolve_model.specs.declared.instance.Verdict.{Verdict}
 use Rattle.presolve_model.specs.declared.instance.Verdict.TheVariants.{CrossedBounds, CrossedSides, OutOfReach, Ray}
 use Rattle.presolve_model.specs.Changes.{ChangeFits, ChangeIsWritten}
@@ -61,7 +65,7 @@ use Rattle.presolve_model.specs.Meanings.{Meant, says_no_point}
 use Rattle.presolve_model.specs.Order.{verdict_order, reduction_order}
 use Rattle.presolve_model.specs.Tables.{Computes, edits, record_of}
 use Rattle.presolve_model.specs.Tallies.{AreCountsOf, Counts, IsTally, Open}
-use Rattle.presolve_model.proofs.Lists.{contains_bound, contains_filter, contains_map, contains_pair}
+use Rattle.presolve_model.proofs.Lists.{contains_bound, contains_filter, contains_id, contains_map, contains_pair}
 use Rattle.presolve_model.proofs.Readings.{found_told}
 use Rattle.presolve_model.proofs.Tallying.{counts_long, tally_more, tally_same}
 
@@ -76,6 +80,7 @@ reductions_owe p (RedundantRow i) s e = redundant_row.owes p i s e
 reductions_owe p (RedundantSide i) s e = redundant_side.owes p i s e
 reductions_owe p (ForcingRow i) s e = forcing_row.owes p i s e
 reductions_owe p (TightenedBound i j side) s e = tightened_bound.owes p i j side s e
+reductions_owe p (TightenedCoefficient i j) s e = tightened_coefficient.owes p i j s e
 reductions_owe p (FixedByCost j) s e = fixed_by_cost.owes p j s e
 reductions_owe p (DominatedColumn i j k) s e = dominated_column.owes p i j k s e
 reductions_owe p (EmptyColumn j) s e = empty_column.owes p j s e
@@ -101,6 +106,10 @@ reductions_listed opens p (TightenedBound i j side) o e = let t = tightened_boun
   there = contains_map (λ x. at.Reduction (TightenedBound i x.0 x.1)) (filter (λ x. opens x.0 x.1) (bounds_of (row_entries p i))) (j, side)
       (contains_filter (λ x. opens x.0 x.1) (bounds_of (row_entries p i)) (j, side) (contains_bound (row_entries p i) j side t.named) o);
 }
+reductions_listed opens p (TightenedCoefficient i j) o e = record {
+  within = row_inside p i (coefficients.row_live p i j e);
+  there = contains_map (λ k. at.Reduction (TightenedCoefficient i k)) (map (λ t. t.id) (row_entries p i)) j (contains_id (row_entries p i) j (coefficients.entry_named p i j e));
+}
 reductions_listed opens p (FixedByCost j) o e = alone opens p (at.Reduction (FixedByCost j)) (column_inside p j (fixed_by_cost.said p j e).live) refl
 reductions_listed opens p (DominatedColumn i j k) o e = let d = dominated_column.said p i j k e in record {
   within = row_inside p i d.row_live;
@@ -124,9 +133,10 @@ reductions_ordered (RedundantRow i) = (4, omega arith, refl)
 reductions_ordered (RedundantSide i) = (5, omega arith, refl)
 reductions_ordered (ForcingRow i) = (6, omega arith, refl)
 reductions_ordered (TightenedBound i j side) = (7, omega arith, refl)
-reductions_ordered (FixedByCost j) = (8, omega arith, refl)
-reductions_ordered (DominatedColumn i j k) = (9, omega arith, refl)
-reductions_ordered (EmptyColumn j) = (10, omega arith, refl)
+reductions_ordered (TightenedCoefficient i j) = (8, omega arith, refl)
+reductions_ordered (FixedByCost j) = (9, omega arith, refl)
+reductions_ordered (DominatedColumn i j k) = (10, omega arith, refl)
+reductions_ordered (EmptyColumn j) = (11, omega arith, refl)
 
 pub verdicts_ordered : (v : Verdict) → Contains verdict_order (rule_at (at.Verdict v))
 verdicts_ordered (CrossedBounds j) = (0, omega arith, refl)
@@ -196,6 +206,26 @@ tightened_alike numbers p q i j side e h =
       λ written. subst (EditsAreWritten numbers) same written,
     )
 
+no_offset : (i j : ℕ) (o : Option Tightening) (offset : Number) → OffsetFits offset (coefficient_words.edits_by i j o)
+no_offset i j None offset = tt
+no_offset i j (Some t) offset = by t.side (coefficient_words.turned t.side (coefficient_words.new_limit t))
+  where
+    by : (side : Side) (b : Number) → OffsetFits offset (coefficient_words.side_set side i b ∷ [])
+    by Lower b = tt
+    by Upper b = tt
+
+coefficients_alike : (numbers : Numbers) (p q : Sparse) (i j : ℕ) → enabled_on p (at.Reduction (TightenedCoefficient i j)) ≡ true → reading_of q (at.Reduction (TightenedCoefficient i j)) ≡ reading_of p (at.Reduction (TightenedCoefficient i j))
+    → IsAlike numbers p q (TightenedCoefficient i j)
+unfolding edits Computes
+coefficients_alike numbers p q i j e h =
+    let same = coefficients.tightening_same p q i j e (found_told p q (at.Reduction (TightenedCoefficient i j)) h) in (
+      λ fits. record {
+        computes = subst coefficient_words.ComputedBy same fits.computes;
+        edits = record { each = subst (λ o. All EditFits (coefficient_words.edits_by i j o)) same fits.edits.each; offset = no_offset i j (coefficient_words.tightening_of p i j) p.offset };
+      },
+      λ written. subst (λ o. EditsAreWritten numbers (coefficient_words.edits_by i j o)) same written,
+    )
+
 pub refusals_rest : (numbers : Numbers) (p q : Sparse) (r : Reduction) → rests_on_reading (rule_of r) ≡ true → enabled_on p (at.Reduction r) ≡ true → reading_of q (at.Reduction r) ≡ reading_of p (at.Reduction r) → IsAlike numbers p q r
 refusals_rest numbers p q (EmptyRow i) t e h = absurd (true≢false (sym t))
 refusals_rest numbers p q (SingletonRow i) t e h = absurd (true≢false (sym t))
@@ -205,6 +235,7 @@ refusals_rest numbers p q (RedundantRow i) t e h = absurd (true≢false (sym t))
 refusals_rest numbers p q (RedundantSide i) t e h = absurd (true≢false (sym t))
 refusals_rest numbers p q (ForcingRow i) t e h = absurd (true≢false (sym t))
 refusals_rest numbers p q (TightenedBound i j side) t e h = tightened_alike numbers p q i j side e h
+refusals_rest numbers p q (TightenedCoefficient i j) t e h = coefficients_alike numbers p q i j e h
 refusals_rest numbers p q (FixedByCost j) t e h = absurd (true≢false (sym t))
 refusals_rest numbers p q (DominatedColumn i j k) t e h = absurd (true≢false (sym t))
 refusals_rest numbers p q (EmptyColumn j) t e h = absurd (true≢false (sym t))
@@ -227,6 +258,7 @@ records_tallied p (RedundantSide i) c us e a h = tally_same c us (record_of (Red
 records_tallied p (ForcingRow i) c us e a h = tally_same c us (record_of (ForcingRow i) p) (λ k s. refl) h
 records_tallied p (TightenedBound i j side) c us e a h =
     tally_more c us (length p.matrix.columns) i j side (old_bound side (bounds_at p j).lower (bounds_at p j).upper) (row_entries p i) a (column_inside p j (tightened_bound.column_live p i j side e)) h
+records_tallied p (TightenedCoefficient i j) c us e a h = tally_same c us (record_of (TightenedCoefficient i j) p) (λ k s. refl) h
 records_tallied p (FixedByCost j) c us e a h = tally_same c us (record_of (FixedByCost j) p) (λ k s. refl) h
 records_tallied p (DominatedColumn i j k) c us e a h = tally_same c us (record_of (DominatedColumn i j k) p) (λ k s. refl) h
 records_tallied p (EmptyColumn j) c us e a h = tally_same c us (record_of (EmptyColumn j) p) (λ k s. refl) h
@@ -240,6 +272,7 @@ tallied_long (RedundantRow i) c n a = a
 tallied_long (RedundantSide i) c n a = a
 tallied_long (ForcingRow i) c n a = a
 tallied_long (TightenedBound i j side) c n a = counts_long c n j side a
+tallied_long (TightenedCoefficient i j) c n a = a
 tallied_long (FixedByCost j) c n a = a
 tallied_long (DominatedColumn i j k) c n a = a
 tallied_long (EmptyColumn j) c n a = a

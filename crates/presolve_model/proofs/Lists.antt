@@ -51,6 +51,13 @@ contains_filter t (z ∷ xs) x (suc k, l, e) h = by (t z) (contains_filter t xs 
     by true (i, m, d) = (suc i, omega (arith, m), d)
     by false c = c
 
+-- an id that terms have is among those of the terms
+pub contains_id : (ts : List Term) (j : ℕ) → has j ts ≡ true → Contains (map (λ t. t.id) ts) j
+contains_id ts j h = by (term_with ts j h)
+  where
+    by : ((t : Term) × Contains ts t × (t.id ≡ j)) → Contains (map (λ t. t.id) ts) j
+    by (t, c, e) = subst (Contains (map (λ t. t.id) ts)) e (contains_map (λ t. t.id) ts t c)
+
 -- a bound of a column that terms name is among those of the terms
 pub contains_bound : (ts : List Term) (j : ℕ) (side : Side) → has j ts ≡ true → Contains (named_bounds ts) (j, side)
 contains_bound ts j side h = by (term_with ts j h)

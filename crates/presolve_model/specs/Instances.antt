@@ -6,7 +6,7 @@ use Rattle.problem_model.specs.Sparse.{Sparse}
 use Rattle.activity_laws.specs.TightenedBound.{bounds_of}
 use Rattle.dual_laws.specs.DominatedColumn.{pairs_of}
 use Rattle.presolve_model.specs.declared.instance.Reduction.{Reduction}
-use Rattle.presolve_model.specs.declared.instance.Reduction.TheVariants.{EmptyRow, SingletonRow, FixedColumn, RoundBounds, RedundantRow, RedundantSide, ForcingRow, TightenedBound, FixedByCost, DominatedColumn, EmptyColumn}
+use Rattle.presolve_model.specs.declared.instance.Reduction.TheVariants.{EmptyRow, SingletonRow, FixedColumn, RoundBounds, RedundantRow, RedundantSide, ForcingRow, TightenedBound, TightenedCoefficient, FixedByCost, DominatedColumn, EmptyColumn}
 use Rattle.presolve_model.specs.declared.instance.Verdict.{Verdict}
 use Rattle.presolve_model.specs.declared.instance.Verdict.TheVariants.{CrossedBounds, CrossedSides, OutOfReach, Ray}
 use Rattle.presolve_model.specs.declared.instance.Reach.{Reach}
@@ -31,6 +31,7 @@ instances_from opens p rule.RedundantRow i = at.Reduction (RedundantRow i) ∷ [
 instances_from opens p rule.RedundantSide i = at.Reduction (RedundantSide i) ∷ []
 instances_from opens p rule.ForcingRow i = at.Reduction (ForcingRow i) ∷ []
 instances_from opens p rule.TightenedBound i = map (λ x. at.Reduction (TightenedBound i x.0 x.1)) (filter (λ x. opens x.0 x.1) (bounds_of (row_entries p i)))
+instances_from opens p rule.TightenedCoefficient i = map (λ j. at.Reduction (TightenedCoefficient i j)) (map (λ t. t.id) (row_entries p i))
 instances_from opens p rule.FixedByCost j = at.Reduction (FixedByCost j) ∷ []
 instances_from opens p rule.DominatedColumn i = map (λ x. at.Reduction (DominatedColumn i x.0 x.1)) (pairs_of (row_entries p i))
 instances_from opens p rule.EmptyColumn j = at.Reduction (EmptyColumn j) ∷ []
@@ -49,6 +50,7 @@ is_of_rows rule.RedundantRow = true
 is_of_rows rule.RedundantSide = true
 is_of_rows rule.ForcingRow = true
 is_of_rows rule.TightenedBound = true
+is_of_rows rule.TightenedCoefficient = true
 is_of_rows rule.FixedByCost = false
 is_of_rows rule.DominatedColumn = true
 is_of_rows rule.EmptyColumn = false
@@ -67,6 +69,7 @@ reach_of rule.RedundantRow = Near
 reach_of rule.RedundantSide = Near
 reach_of rule.ForcingRow = Near
 reach_of rule.TightenedBound = Near
+reach_of rule.TightenedCoefficient = Near
 reach_of rule.FixedByCost = Near
 reach_of rule.DominatedColumn = Far
 reach_of rule.EmptyColumn = Here
@@ -85,6 +88,7 @@ rests_on_reading rule.RedundantRow = false
 rests_on_reading rule.RedundantSide = false
 rests_on_reading rule.ForcingRow = false
 rests_on_reading rule.TightenedBound = true
+rests_on_reading rule.TightenedCoefficient = true
 rests_on_reading rule.FixedByCost = false
 rests_on_reading rule.DominatedColumn = false
 rests_on_reading rule.EmptyColumn = false
@@ -102,6 +106,7 @@ rule_of (RedundantRow i) = rule.RedundantRow
 rule_of (RedundantSide i) = rule.RedundantSide
 rule_of (ForcingRow i) = rule.ForcingRow
 rule_of (TightenedBound i j side) = rule.TightenedBound
+rule_of (TightenedCoefficient i j) = rule.TightenedCoefficient
 rule_of (FixedByCost j) = rule.FixedByCost
 rule_of (DominatedColumn i j k) = rule.DominatedColumn
 rule_of (EmptyColumn j) = rule.EmptyColumn
@@ -115,6 +120,7 @@ first_id (RedundantRow i) = i
 first_id (RedundantSide i) = i
 first_id (ForcingRow i) = i
 first_id (TightenedBound i j side) = i
+first_id (TightenedCoefficient i j) = i
 first_id (FixedByCost j) = j
 first_id (DominatedColumn i j k) = i
 first_id (EmptyColumn j) = j

@@ -19,11 +19,12 @@ use Rattle.activity_laws.specs.RedundantSide as redundant_side
 use Rattle.activity_laws.specs.ForcingRow as forcing_row
 use Rattle.activity_laws.specs.TightenedBound as tightened_bound
 use Rattle.activity_laws.specs.OutOfReach as out_of_reach
+use Rattle.coef_laws.specs.TightenedCoefficient as tightened_coefficient
 use Rattle.dual_laws.specs.FixedByCost as fixed_by_cost
 use Rattle.dual_laws.specs.DominatedColumn as dominated_column
 use Rattle.dual_laws.specs.Ray as ray
 use Rattle.presolve_model.specs.declared.instance.Reduction.{Reduction}
-use Rattle.presolve_model.specs.declared.instance.Reduction.TheVariants.{EmptyRow, SingletonRow, FixedColumn, RoundBounds, RedundantRow, RedundantSide, ForcingRow, TightenedBound, FixedByCost, DominatedColumn, EmptyColumn}
+use Rattle.presolve_model.specs.declared.instance.Reduction.TheVariants.{EmptyRow, SingletonRow, FixedColumn, RoundBounds, RedundantRow, RedundantSide, ForcingRow, TightenedBound, TightenedCoefficient, FixedByCost, DominatedColumn, EmptyColumn}
 use Rattle.presolve_model.specs.declared.instance.Verdict.{Verdict}
 use Rattle.presolve_model.specs.declared.instance.Verdict.TheVariants.{CrossedBounds, CrossedSides, OutOfReach, Ray}
 use Rattle.presolve_model.specs.declared.instance.Instance.{Instance}
@@ -39,6 +40,7 @@ heads_of (RedundantRow i) = rows.heads i
 heads_of (RedundantSide i) = rows.heads i
 heads_of (ForcingRow i) = rows.heads i
 heads_of (TightenedBound i j side) = rows.heads i
+heads_of (TightenedCoefficient i j) = rows.heads i
 heads_of (FixedByCost j) = fixed_by_cost.heads j
 heads_of (DominatedColumn i j k) = dominated_column.heads i j k
 heads_of (EmptyColumn j) = empty_column.heads j
@@ -53,6 +55,7 @@ more_of (RedundantRow i) cs = bounds_named cs
 more_of (RedundantSide i) cs = bounds_named cs
 more_of (ForcingRow i) cs = bounds_named cs
 more_of (TightenedBound i j side) cs = bounds_named cs
+more_of (TightenedCoefficient i j) cs = bounds_named cs
 more_of (FixedByCost j) cs = sides_named cs
 more_of (DominatedColumn i j k) cs = dominated_column.more cs
 more_of (EmptyColumn j) cs = no_more cs
@@ -67,6 +70,7 @@ holds_of (RedundantRow i) cs = redundant_row.holds cs
 holds_of (RedundantSide i) cs = redundant_side.holds cs
 holds_of (ForcingRow i) cs = forcing_row.holds cs
 holds_of (TightenedBound i j side) cs = tightened_bound.holds j side cs
+holds_of (TightenedCoefficient i j) cs = tightened_coefficient.holds j cs
 holds_of (FixedByCost j) cs = fixed_by_cost.holds cs
 holds_of (DominatedColumn i j k) cs = dominated_column.holds j k cs
 holds_of (EmptyColumn j) cs = empty_column.holds cs
@@ -81,6 +85,7 @@ edits (RedundantRow i) p = redundant_row.edits p i
 edits (RedundantSide i) p = redundant_side.edits p i
 edits (ForcingRow i) p = forcing_row.edits p i
 edits (TightenedBound i j side) p = tightened_bound.edits p i j side
+edits (TightenedCoefficient i j) p = tightened_coefficient.edits p i j
 edits (FixedByCost j) p = fixed_by_cost.edits p j
 edits (DominatedColumn i j k) p = dominated_column.edits p k
 edits (EmptyColumn j) p = empty_column.edits p j
@@ -95,6 +100,7 @@ record_of (RedundantRow i) p = redundant_row.record_of p i
 record_of (RedundantSide i) p = redundant_side.record_of p i
 record_of (ForcingRow i) p = forcing_row.record_of p i
 record_of (TightenedBound i j side) p = tightened_bound.record_of p i j side
+record_of (TightenedCoefficient i j) p = tightened_coefficient.record_of p i j
 record_of (FixedByCost j) p = fixed_by_cost.record_of p j
 record_of (DominatedColumn i j k) p = dominated_column.record_of i j k
 record_of (EmptyColumn j) p = empty_column.record_of p j
@@ -109,6 +115,7 @@ Computes (RedundantRow i) p = redundant_row.Computes p i
 Computes (RedundantSide i) p = redundant_side.Computes p i
 Computes (ForcingRow i) p = forcing_row.Computes p i
 Computes (TightenedBound i j side) p = tightened_bound.Computes p i j side
+Computes (TightenedCoefficient i j) p = tightened_coefficient.Computes p i j
 Computes (FixedByCost j) p = fixed_by_cost.Computes p j
 Computes (DominatedColumn i j k) p = dominated_column.Computes p k
 Computes (EmptyColumn j) p = empty_column.Computes p j

@@ -29,6 +29,8 @@ pub enum Rule {
     ForcingRow,
     /// K8: a bound of a column becomes the one that a row implies with the bounds of its other columns.
     TightenedBound,
+    /// K9: the coefficient of a whole column in a row with one side comes closer to 0, and the side moves with it.
+    TightenedCoefficient,
     /// K10: a column that no row locks where it costs least is fixed there.
     FixedByCost,
     /// K11: a column that another one can stand in for stays at its lower bound.
@@ -68,6 +70,8 @@ pub enum Reduction {
     ForcingRow { row: u32 },
     /// K8: the bound on a side of `column`, by `row`.
     TightenedBound { row: u32, column: u32, side: Side },
+    /// K9: the coefficient of `column` in `row`.
+    TightenedCoefficient { row: u32, column: u32 },
     /// K10.
     FixedByCost { column: u32 },
     /// K11: in a row that has both, `better` stands in for `column`.
