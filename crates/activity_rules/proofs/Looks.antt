@@ -21,7 +21,7 @@ regroup true false c d = refl
 regroup true true c d = refl
 
 -- a test of a row: nothing is crossed, and it holds
-split : (test : RowTest) (p : Sparse) (i : ℕ) → on_row test (row_found p i) ≡ (is_uncrossed p i && test (sides_at p i).lower (sides_at p i).upper (spans_of p i))
+pub split : (test : RowTest) (p : Sparse) (i : ℕ) → on_row test (row_found p i) ≡ (is_uncrossed p i && test (sides_at p i).lower (sides_at p i).upper (spans_of p i))
 split test p i = tested test p i ∙ regroup (row_at p i).live (is_in_order (sides_at p i).lower (sides_at p i).upper) (all_in_order (spans_of p i)) (test (sides_at p i).lower (sides_at p i).upper (spans_of p i))
 
 pub redundant_row_is : (p : Sparse) (i : ℕ) → redundant_row.enabled p i ≡ (is_uncrossed p i && redundant_row.is_redundant_row (sides_at p i).lower (sides_at p i).upper (spans_of p i))

@@ -1,5 +1,5 @@
 -- What a book means, and that a commit keeps what a book keeps.
-use Rattle.std.proofs.Common.{◌≡◌, ℕ, ◌+◌, ◌<◌, ◌≤◌, true, List, [], ◌∷◌, ◌++◌, length, Option, Some, None, IfSome, sym, refl, ap, ap₂, ◌∙◌, subst, arith, length-append}
+use Rattle.std.proofs.Common.{◌≡◌, ℕ, ◌+◌, ◌<◌, true, List, [], ◌∷◌, ◌++◌, length, Option, Some, None, IfSome, sym, ap, ap₂, ◌∙◌, subst, arith, length-append}
 use Rattle.rational.specs.Number.{◌-ℚ◌}
 use Rattle.lp_model.specs.declared.program.Sense.TheVariants.{Min}
 use Rattle.lp_model.specs.Reductions.{Reduces}
@@ -18,10 +18,12 @@ use Rattle.problem_model.specs.Reading.{Agrees}
 use Rattle.presolve_model.specs.Changes.{changed}
 use Rattle.presolve_model.specs.Tables.{record_of}
 use Rattle.presolve_model.specs.Meanings.{Meant}
-use Rattle.presolve_model.specs.Replay.{replay, records, Replays, CanApply}
+use Rattle.presolve_model.specs.Replay.{replay, CanApply}
 use Rattle.presolve_model.specs.Ledger.{Ledger, Stands}
-use Rattle.presolve_model.specs.Commits.{Allows, left_by, with_instance, IsOpen, HasRoom, Fits, CanWrite}
-use Rattle.presolve_model.proofs.Tabled.{enabled_by}
+use Rattle.presolve_model.specs.Commits.{Allows, left_by, with_instance, HasRoom, Fits, CanWrite}
+use Rattle.presolve_model.specs.Tallies.{AreCountsOf}
+use Rattle.presolve_model.proofs.ByCases.{records_tallied, tallied_long}
+use Rattle.presolve_model.proofs.Tabled.{enabled_by, same_size}
 use Rattle.history_laws.specs.Meanings.{Means}
 use Rattle.history_laws.proofs.Histories.{history_reduces, replay_grows, replays_grow, records_grow}
 use Rattle.history_laws.proofs.Keeping.{verdict_means}
@@ -34,13 +36,15 @@ stands_reduction b r s undecided room can = record {
   replays = replays_grow b.numbers b.start b.history r s.replays (subst (λ q. CanApply b.numbers q r) s.problem can);
   problem = ap (changed r) s.problem ∙ sym (replay_grows b.start b.history r);
   records = ap₂ (λ us q. us ++ record_of r q ∷ []) s.records s.problem ∙ sym (records_grow b.start b.history r);
+  counts = tallied_long r b.tally (length (changed r b.problem).matrix.columns) (subst (λ (n : ℕ). AreCountsOf n b.tally) (sym (same_size b.problem r).columns) s.counts);
+  tally = records_tallied b.problem r b.tally b.records can.enabled s.counts s.tally;
   verdict = subst (λ v. IfSome v (λ w. enabled_on (changed r b.problem) (at.Verdict w) ≡ true)) (sym undecided) tt;
   within = let e : length (b.history ++ r ∷ []) ≡ length b.history + 1 = length-append _ _ in omega (arith, room, e);
 }
 
 -- a verdict that closes it
 pub stands_verdict : (b : Ledger) (v : Verdict) → Stands b → enabled_on b.problem (at.Verdict v) ≡ true → Stands (with_instance b (at.Verdict v))
-stands_verdict b v s e = record { sound = s.sound; writable = s.writable; replays = s.replays; problem = s.problem; records = s.records; verdict = e; within = s.within }
+stands_verdict b v s e = record { sound = s.sound; writable = s.writable; replays = s.replays; problem = s.problem; records = s.records; counts = s.counts; tally = s.tally; verdict = e; within = s.within }
 
 pub stands_with : (b : Ledger) (e : Instance) (rs : List Read) → Stands b → Enabled e rs → b.verdict ≡ None → HasRoom b e → Agrees b.problem rs → Fits e b.problem → CanWrite b e → Stands (with_instance b e)
 stands_with b (at.Reduction r) rs s on undecided room agrees fits writes =

@@ -1,6 +1,6 @@
 -- The laws of the tables by cases: one line a rule.
-use Rattle.std.proofs.Common.{◌≡◌, ◌<◌, ℕ, false, true, List, [], ◌∷◌, refl, sym, ap, subst, arith, true≢false}
-use Rattle.std.specs.List.{All, Contains}
+use Rattle.std.proofs.Common.{◌≡◌, ◌<◌, ℕ, false, true, List, [], ◌∷◌, ◌++◌, Option, Some, None, length, map, refl, sym, ap, subst, arith, true≢false}
+use Rattle.std.specs.List.{All, Contains, filter}
 use Rattle.rational.specs.Number.{Number}
 use Rattle.fractions.specs.declared.Numbers.{Numbers}
 use Rattle.lp_model.specs.declared.program.Sense.{Sense}
@@ -16,7 +16,12 @@ use Rattle.problem_model.specs.declared.part.Contents.{Contents}
 use Rattle.problem_model.specs.declared.part.Contents.TheVariants as holding
 use Rattle.problem_model.specs.declared.part.Read.{Read}
 use Rattle.problem_model.specs.NewNumbers.{EditFits, EditsAreWritten}
-use Rattle.problem_model.specs.Problems.{IsSparse, row_entries}
+use Rattle.undo_records.specs.declared.side.Side.{Side}
+use Rattle.undo_records.specs.declared.side.Side.TheVariants.{Lower, Upper}
+use Rattle.problem_model.specs.declared.line.Bounds.{Bounds}
+use Rattle.problem_model.specs.Offsets.{OffsetFits}
+use Rattle.undo_records.specs.declared.undo.Undo.{Undo}
+use Rattle.problem_model.specs.Problems.{bounds_at, IsSparse, row_entries}
 use Rattle.problem_model.specs.Showing.{shown}
 use Rattle.problem_model.specs.Sparse.{Sparse}
 use Rattle.problem_laws.proofs.AtIds.{row_inside, column_inside}
@@ -28,6 +33,21 @@ use Rattle.singleton_laws.proofs.RoundBounds as round_bounds
 use Rattle.singleton_laws.proofs.EmptyColumn as empty_column
 use Rattle.singleton_laws.proofs.CrossedBounds as crossed_bounds
 use Rattle.singleton_laws.proofs.CrossedSides as crossed_sides
+use Rattle.activity_laws.specs.ForcingRow.{is_forcing_row}
+use Rattle.activity_laws.specs.OutOfReach.{is_out_of_reach}
+use Rattle.activity_laws.specs.RedundantRow.{is_redundant_row}
+use Rattle.activity_laws.specs.RedundantSide.{has_redundant_side}
+use Rattle.activity_laws.specs.TightenedBound.{bound_set, bounds_of, new_bound, old_bound}
+use Rattle.activity_laws.proofs.Rows.{said}
+use Rattle.activity_laws.proofs.RedundantRow as redundant_row
+use Rattle.activity_laws.proofs.RedundantSide as redundant_side
+use Rattle.activity_laws.proofs.ForcingRow as forcing_row
+use Rattle.activity_laws.proofs.TightenedBound as tightened_bound
+use Rattle.activity_laws.proofs.OutOfReach as out_of_reach
+use Rattle.coef_laws.specs.TightenedCoefficient as coefficient_words
+use Rattle.coef_laws.specs.declared.tightening.Tightening.{Tightening}
+use Rattle.coef_laws.proofs.TightenedCoefficient as tightened_coefficient
+use Rattle.coef_laws.proofs.Changing as coefficients
 use Rattle.dual_laws.specs.DominatedColumn.{pairs_of}
 use Rattle.dual_laws.proofs.FixedByCost as fixed_by_cost
 use Rattle.dual_laws.proofs.DominatedColumn as dominated_column
@@ -36,18 +56,21 @@ use Rattle.dual_laws.proofs.Ray as ray
 use Rattle.presolve_model.specs.declared.instance.Instance.{Instance}
 use Rattle.presolve_model.specs.declared.instance.Instance.TheVariants as at
 use Rattle.presolve_model.specs.declared.instance.Reduction.{Reduction}
-use Rattle.presolve_model.specs.declared.instance.Reduction.TheVariants.{EmptyRow, SingletonRow, FixedColumn, RoundBounds, FixedByCost, DominatedColumn, EmptyColumn}
+use Rattle.presolve_model.specs.declared.instance.Reduction.TheVariants.{EmptyRow, SingletonRow, FixedColumn, RoundBounds, RedundantRow, RedundantSide, ForcingRow, TightenedBound, TightenedCoefficient, FixedByCost, DominatedColumn, EmptyColumn}
 use Rattle.presolve_model.specs.declared.instance.Verdict.{Verdict}
-use Rattle.presolve_model.specs.declared.instance.Verdict.TheVariants.{CrossedBounds, CrossedSides, Ray}
+use Rattle.presolve_model.specs.declared.instance.Verdict.TheVariants.{CrossedBounds, CrossedSides, OutOfReach, Ray}
 use Rattle.presolve_model.specs.Changes.{ChangeFits, ChangeIsWritten}
 use Rattle.presolve_model.specs.Enabled.{enabled_on, reading_of}
-use Rattle.presolve_model.specs.Instances.{goes_by_form, id_at, id_count, instances_from, reach_of, rests_on_reading, rule_at, rule_of}
 use Rattle.presolve_model.specs.declared.instance.Rule.{Rule}
 use Rattle.presolve_model.specs.declared.instance.Rule.TheVariants as rule
+use Rattle.presolve_model.specs.Instances.{goes_by_form, id_at, id_count, instances_from, is_open, reach_of, rests_on_reading, rule_at, rule_of, tallied}
 use Rattle.presolve_model.specs.Meanings.{Meant, says_no_point}
 use Rattle.presolve_model.specs.Order.{verdict_order, reduction_order}
 use Rattle.presolve_model.specs.Tables.{Computes, edits, holds, more, record_of}
-use Rattle.presolve_model.proofs.Lists.{contains_map, contains_pair}
+use Rattle.presolve_model.specs.Tallies.{AreCountsOf, Counts, IsTally, Open}
+use Rattle.presolve_model.proofs.Lists.{contains_bound, contains_filter, contains_id, contains_map, contains_pair}
+use Rattle.presolve_model.proofs.Readings.{found_told}
+use Rattle.presolve_model.proofs.Tallying.{counts_long, tally_more, tally_same}
 
 -- ---- what each rule owes
 pub reductions_owe : (p : Sparse) (r : Reduction) → IsSparse p → enabled_on p (at.Reduction r) ≡ true → Owes p (edits r p) (record_of r p)
@@ -56,34 +79,52 @@ reductions_owe p (EmptyRow i) s e = empty_row.owes p i s e
 reductions_owe p (SingletonRow i) s e = singleton_row.owes p i s e
 reductions_owe p (FixedColumn j) s e = fixed_column.owes p j s e
 reductions_owe p (RoundBounds j) s e = round_bounds.owes p j s e
+reductions_owe p (RedundantRow i) s e = redundant_row.owes p i s e
+reductions_owe p (RedundantSide i) s e = redundant_side.owes p i s e
+reductions_owe p (ForcingRow i) s e = forcing_row.owes p i s e
+reductions_owe p (TightenedBound i j side) s e = tightened_bound.owes p i j side s e
+reductions_owe p (TightenedCoefficient i j) s e = tightened_coefficient.owes p i j s e
 reductions_owe p (FixedByCost j) s e = fixed_by_cost.owes p j s e
 reductions_owe p (DominatedColumn i j k) s e = dominated_column.owes p i j k s e
 reductions_owe p (EmptyColumn j) s e = empty_column.owes p j s e
 
--- ---- each enabled instance is among those of its rule and its first id, which is the problem's
-pub record IsListed (p : Sparse) (e : Instance) : Type 0 where
+-- ---- each enabled instance that is open is among those of its rule and its first id, which is the problem's
+pub record IsListed (opens : Open) (p : Sparse) (e : Instance) : Type 0 where
   pub within : id_at e < id_count p (rule_at e)
-  pub there : Contains (instances_from p (rule_at e) (id_at e)) e
+  pub there : Contains (instances_from opens p (rule_at e) (id_at e)) e
 
-alone : (p : Sparse) (e : Instance) → id_at e < id_count p (rule_at e) → instances_from p (rule_at e) (id_at e) ≡ e ∷ [] → IsListed p e
-alone p e l h = record { within = l; there = subst (λ es. Contains es e) (sym h) (0, omega arith, refl) }
+alone : (opens : Open) (p : Sparse) (e : Instance) → id_at e < id_count p (rule_at e) → instances_from opens p (rule_at e) (id_at e) ≡ e ∷ [] → IsListed opens p e
+alone opens p e l h = record { within = l; there = subst (λ es. Contains es e) (sym h) (0, omega arith, refl) }
 
-pub reductions_listed : (p : Sparse) (r : Reduction) → enabled_on p (at.Reduction r) ≡ true → IsListed p (at.Reduction r)
-reductions_listed p (EmptyRow i) e = alone p (at.Reduction (EmptyRow i)) (row_inside p i (empty_row.said p i e).live) refl
-reductions_listed p (SingletonRow i) e = alone p (at.Reduction (SingletonRow i)) (row_inside p i (singleton_row.said p i e).live) refl
-reductions_listed p (FixedColumn j) e = alone p (at.Reduction (FixedColumn j)) (column_inside p j (fixed_column.said p j e).live) refl
-reductions_listed p (RoundBounds j) e = alone p (at.Reduction (RoundBounds j)) (column_inside p j (round_bounds.said p j e).live) refl
-reductions_listed p (FixedByCost j) e = alone p (at.Reduction (FixedByCost j)) (column_inside p j (fixed_by_cost.said p j e).live) refl
-reductions_listed p (DominatedColumn i j k) e = let o = dominated_column.said p i j k e in record {
-  within = row_inside p i o.row_live;
-  there = contains_map (λ x. at.Reduction (DominatedColumn i x.0 x.1)) (pairs_of (row_entries p i)) (j, k) (contains_pair (row_entries p i) j k o.first_in o.second_in);
+pub reductions_listed : (opens : Open) (p : Sparse) (r : Reduction) → is_open opens (at.Reduction r) ≡ true → enabled_on p (at.Reduction r) ≡ true → IsListed opens p (at.Reduction r)
+reductions_listed opens p (EmptyRow i) o e = alone opens p (at.Reduction (EmptyRow i)) (row_inside p i (empty_row.said p i e).live) refl
+reductions_listed opens p (SingletonRow i) o e = alone opens p (at.Reduction (SingletonRow i)) (row_inside p i (singleton_row.said p i e).live) refl
+reductions_listed opens p (FixedColumn j) o e = alone opens p (at.Reduction (FixedColumn j)) (column_inside p j (fixed_column.said p j e).live) refl
+reductions_listed opens p (RoundBounds j) o e = alone opens p (at.Reduction (RoundBounds j)) (column_inside p j (round_bounds.said p j e).live) refl
+reductions_listed opens p (RedundantRow i) o e = alone opens p (at.Reduction (RedundantRow i)) (row_inside p i (said is_redundant_row p i e).live) refl
+reductions_listed opens p (RedundantSide i) o e = alone opens p (at.Reduction (RedundantSide i)) (row_inside p i (said has_redundant_side p i e).live) refl
+reductions_listed opens p (ForcingRow i) o e = alone opens p (at.Reduction (ForcingRow i)) (row_inside p i (said is_forcing_row p i e).live) refl
+reductions_listed opens p (TightenedBound i j side) o e = let t = tightened_bound.said_at p i j side e in record {
+  within = row_inside p i (tightened_bound.row_live p i j side e);
+  there = contains_map (λ x. at.Reduction (TightenedBound i x.0 x.1)) (filter (λ x. opens x.0 x.1) (bounds_of (row_entries p i))) (j, side)
+      (contains_filter (λ x. opens x.0 x.1) (bounds_of (row_entries p i)) (j, side) (contains_bound (row_entries p i) j side t.named) o);
 }
-reductions_listed p (EmptyColumn j) e = alone p (at.Reduction (EmptyColumn j)) (column_inside p j (empty_column.said p j e).live) refl
+reductions_listed opens p (TightenedCoefficient i j) o e = record {
+  within = row_inside p i (coefficients.row_live p i j e);
+  there = contains_map (λ k. at.Reduction (TightenedCoefficient i k)) (map (λ t. t.id) (row_entries p i)) j (contains_id (row_entries p i) j (coefficients.entry_named p i j e));
+}
+reductions_listed opens p (FixedByCost j) o e = alone opens p (at.Reduction (FixedByCost j)) (column_inside p j (fixed_by_cost.said p j e).live) refl
+reductions_listed opens p (DominatedColumn i j k) o e = let d = dominated_column.said p i j k e in record {
+  within = row_inside p i d.row_live;
+  there = contains_map (λ x. at.Reduction (DominatedColumn i x.0 x.1)) (pairs_of (row_entries p i)) (j, k) (contains_pair (row_entries p i) j k d.first_in d.second_in);
+}
+reductions_listed opens p (EmptyColumn j) o e = alone opens p (at.Reduction (EmptyColumn j)) (column_inside p j (empty_column.said p j e).live) refl
 
-pub verdicts_listed : (p : Sparse) (v : Verdict) → enabled_on p (at.Verdict v) ≡ true → IsListed p (at.Verdict v)
-verdicts_listed p (CrossedBounds j) e = alone p (at.Verdict (CrossedBounds j)) (column_inside p j (crossed_bounds.said p j e).live) refl
-verdicts_listed p (CrossedSides i) e = alone p (at.Verdict (CrossedSides i)) (row_inside p i (crossed_sides.said p i e).live) refl
-verdicts_listed p (Ray j) e = alone p (at.Verdict (Ray j)) (column_inside p j (ray.said p j e).live) refl
+pub verdicts_listed : (opens : Open) (p : Sparse) (v : Verdict) → enabled_on p (at.Verdict v) ≡ true → IsListed opens p (at.Verdict v)
+verdicts_listed opens p (CrossedBounds j) e = alone opens p (at.Verdict (CrossedBounds j)) (column_inside p j (crossed_bounds.said p j e).live) refl
+verdicts_listed opens p (CrossedSides i) e = alone opens p (at.Verdict (CrossedSides i)) (row_inside p i (crossed_sides.said p i e).live) refl
+verdicts_listed opens p (OutOfReach i) e = alone opens p (at.Verdict (OutOfReach i)) (row_inside p i (said is_out_of_reach p i e).live) refl
+verdicts_listed opens p (Ray j) e = alone opens p (at.Verdict (Ray j)) (column_inside p j (ray.said p j e).live) refl
 
 -- ---- each rule has its place in the order
 pub reductions_ordered : (r : Reduction) → Contains reduction_order (rule_of r)
@@ -91,40 +132,51 @@ reductions_ordered (EmptyRow i) = (0, omega arith, refl)
 reductions_ordered (SingletonRow i) = (1, omega arith, refl)
 reductions_ordered (FixedColumn j) = (2, omega arith, refl)
 reductions_ordered (RoundBounds j) = (3, omega arith, refl)
-reductions_ordered (FixedByCost j) = (4, omega arith, refl)
-reductions_ordered (DominatedColumn i j k) = (5, omega arith, refl)
-reductions_ordered (EmptyColumn j) = (6, omega arith, refl)
+reductions_ordered (RedundantRow i) = (4, omega arith, refl)
+reductions_ordered (RedundantSide i) = (5, omega arith, refl)
+reductions_ordered (ForcingRow i) = (6, omega arith, refl)
+reductions_ordered (TightenedBound i j side) = (7, omega arith, refl)
+reductions_ordered (TightenedCoefficient i j) = (8, omega arith, refl)
+reductions_ordered (FixedByCost j) = (9, omega arith, refl)
+reductions_ordered (DominatedColumn i j k) = (10, omega arith, refl)
+reductions_ordered (EmptyColumn j) = (11, omega arith, refl)
 
 pub verdicts_ordered : (v : Verdict) → Contains verdict_order (rule_at (at.Verdict v))
 verdicts_ordered (CrossedBounds j) = (0, omega arith, refl)
 verdicts_ordered (CrossedSides i) = (1, omega arith, refl)
-verdicts_ordered (Ray j) = (2, omega arith, refl)
+verdicts_ordered (OutOfReach i) = (2, omega arith, refl)
+verdicts_ordered (Ray j) = (3, omega arith, refl)
 
 -- ---- what verdicts mean; that it goes back along reductions; and what it says of a program that is maximized
 pub verdicts_mean : (p : Sparse) (v : Verdict) → IsSparse p → enabled_on p (at.Verdict v) ≡ true → Meant v Min (shown p)
 verdicts_mean p (CrossedBounds j) s e = crossed_bounds.decides p j s e
 verdicts_mean p (CrossedSides i) s e = crossed_sides.decides p i s e
+verdicts_mean p (OutOfReach i) s e = out_of_reach.decides p i s e
 verdicts_mean p (Ray j) s e = ray.decides p j s e
 
 pub meant_back : (v : Verdict) (M R : LinearProgram) (f : Vector → Vector) (k : Number) → Reduces Min M R f k → Meant v Min R → Meant v Min M
 meant_back (CrossedBounds j) M R f k h m = no_point_back Min M R f k h m
 meant_back (CrossedSides i) M R f k h m = no_point_back Min M R f k h m
+meant_back (OutOfReach i) M R f k h m = no_point_back Min M R f k h m
 meant_back (Ray j) M R f k h m = no_point_or_endless_back Min M R f k h m
 
 pub meant_in : (v : Verdict) (d : Sense) (M : LinearProgram) → Meant v Min (minimizing d M) → Meant v d M
 meant_in (CrossedBounds j) d M h = no_point_in d M h
 meant_in (CrossedSides i) d M h = no_point_in d M h
+meant_in (OutOfReach i) d M h = no_point_in d M h
 meant_in (Ray j) d M h = either_in d M h
 
 -- ---- a verdict that says that no point is feasible says so, and each says that none is, or that no cost is the least
 pub meant_no_point : (v : Verdict) (d : Sense) (M : LinearProgram) → says_no_point v ≡ true → Meant v d M → NoPoint M
 meant_no_point (CrossedBounds j) d M e h = h
 meant_no_point (CrossedSides i) d M e h = h
+meant_no_point (OutOfReach i) d M e h = h
 meant_no_point (Ray j) d M e h = absurd (true≢false (sym e))
 
 pub meant_either : (v : Verdict) (d : Sense) (M : LinearProgram) → Meant v d M → NoPointOrEndless d M
 meant_either (CrossedBounds j) d M h = λ x f. absurd (h x f)
 meant_either (CrossedSides i) d M h = λ x f. absurd (h x f)
+meant_either (OutOfReach i) d M h = λ x f. absurd (h x f)
 meant_either (Ray j) d M h = h
 
 -- ---- where a rule's refusals rest on what is read: an enabled instance that reads the same has edits whose numbers have room, and can be
@@ -144,11 +196,49 @@ bounds_alike numbers p q j e h =
       λ written. subst (EditsAreWritten numbers) same written,
     )
 
+offset_fits : (side : Side) (j : ℕ) (old : Bounds) (b : Option Number) (offset : Number) → OffsetFits offset (bound_set side j old b ∷ [])
+offset_fits Lower j old b offset = tt
+offset_fits Upper j old b offset = tt
+
+tightened_alike : (numbers : Numbers) (p q : Sparse) (i j : ℕ) (side : Side) → enabled_on p (at.Reduction (TightenedBound i j side)) ≡ true → reading_of q (at.Reduction (TightenedBound i j side)) ≡ reading_of p (at.Reduction (TightenedBound i j side))
+    → IsAlike numbers p q (TightenedBound i j side)
+unfolding edits Computes
+tightened_alike numbers p q i j side e h =
+    let same : edits (TightenedBound i j side) q ≡ edits (TightenedBound i j side) p = tightened_bound.edits_same p q i j side e (found_told p q (at.Reduction (TightenedBound i j side)) h) in (
+      λ fits. record { computes = tt; edits = record { each = subst (All EditFits) same fits.edits.each; offset = offset_fits side j (bounds_at p j) (new_bound p i j side) p.offset } },
+      λ written. subst (EditsAreWritten numbers) same written,
+    )
+
+no_offset : (i j : ℕ) (o : Option Tightening) (offset : Number) → OffsetFits offset (coefficient_words.edits_by i j o)
+no_offset i j None offset = tt
+no_offset i j (Some t) offset = by t.side (coefficient_words.turned t.side (coefficient_words.new_limit t))
+  where
+    by : (side : Side) (b : Number) → OffsetFits offset (coefficient_words.side_set side i b ∷ [])
+    by Lower b = tt
+    by Upper b = tt
+
+coefficients_alike : (numbers : Numbers) (p q : Sparse) (i j : ℕ) → enabled_on p (at.Reduction (TightenedCoefficient i j)) ≡ true → reading_of q (at.Reduction (TightenedCoefficient i j)) ≡ reading_of p (at.Reduction (TightenedCoefficient i j))
+    → IsAlike numbers p q (TightenedCoefficient i j)
+unfolding edits Computes
+coefficients_alike numbers p q i j e h =
+    let same = coefficients.tightening_same p q i j e (found_told p q (at.Reduction (TightenedCoefficient i j)) h) in (
+      λ fits. record {
+        computes = subst coefficient_words.ComputedBy same fits.computes;
+        edits = record { each = subst (λ o. All EditFits (coefficient_words.edits_by i j o)) same fits.edits.each; offset = no_offset i j (coefficient_words.tightening_of p i j) p.offset };
+      },
+      λ written. subst (λ o. EditsAreWritten numbers (coefficient_words.edits_by i j o)) same written,
+    )
+
 pub refusals_rest : (numbers : Numbers) (p q : Sparse) (r : Reduction) → rests_on_reading (rule_of r) ≡ true → enabled_on p (at.Reduction r) ≡ true → reading_of q (at.Reduction r) ≡ reading_of p (at.Reduction r) → IsAlike numbers p q r
 refusals_rest numbers p q (EmptyRow i) t e h = absurd (true≢false (sym t))
 refusals_rest numbers p q (SingletonRow i) t e h = absurd (true≢false (sym t))
 refusals_rest numbers p q (FixedColumn j) t e h = absurd (true≢false (sym t))
 refusals_rest numbers p q (RoundBounds j) t e h = bounds_alike numbers p q j e h
+refusals_rest numbers p q (RedundantRow i) t e h = absurd (true≢false (sym t))
+refusals_rest numbers p q (RedundantSide i) t e h = absurd (true≢false (sym t))
+refusals_rest numbers p q (ForcingRow i) t e h = absurd (true≢false (sym t))
+refusals_rest numbers p q (TightenedBound i j side) t e h = tightened_alike numbers p q i j side e h
+refusals_rest numbers p q (TightenedCoefficient i j) t e h = coefficients_alike numbers p q i j e h
 refusals_rest numbers p q (FixedByCost j) t e h = absurd (true≢false (sym t))
 refusals_rest numbers p q (DominatedColumn i j k) t e h = absurd (true≢false (sym t))
 refusals_rest numbers p q (EmptyColumn j) t e h = absurd (true≢false (sym t))
@@ -156,6 +246,7 @@ refusals_rest numbers p q (EmptyColumn j) t e h = absurd (true≢false (sym t))
 pub verdicts_do_not_rest : (v : Verdict) → rests_on_reading (rule_at (at.Verdict v)) ≡ true → ⊥
 verdicts_do_not_rest (CrossedBounds j) t = true≢false (sym t)
 verdicts_do_not_rest (CrossedSides i) t = true≢false (sym t)
+verdicts_do_not_rest (OutOfReach i) t = true≢false (sym t)
 verdicts_do_not_rest (Ray j) t = true≢false (sym t)
 
 -- ---- where only the form of ends is looked at, what is read and the condition rest on what is seen
@@ -166,11 +257,17 @@ pub record RestsOnForms (e : Instance) : Type 0 where
 pub forms_suffice : (e : Instance) → goes_by_form (reach_of (rule_at e)) ≡ true → RestsOnForms e
 forms_suffice (at.Verdict (CrossedBounds j)) t = absurd (true≢false (sym t))
 forms_suffice (at.Verdict (CrossedSides i)) t = absurd (true≢false (sym t))
+forms_suffice (at.Verdict (OutOfReach i)) t = absurd (true≢false (sym t))
 forms_suffice (at.Verdict (Ray j)) t = record { more = sides_named_rest; holds = ray_rests }
 forms_suffice (at.Reduction (EmptyRow i)) t = absurd (true≢false (sym t))
 forms_suffice (at.Reduction (SingletonRow i)) t = absurd (true≢false (sym t))
 forms_suffice (at.Reduction (FixedColumn j)) t = absurd (true≢false (sym t))
 forms_suffice (at.Reduction (RoundBounds j)) t = absurd (true≢false (sym t))
+forms_suffice (at.Reduction (RedundantRow i)) t = absurd (true≢false (sym t))
+forms_suffice (at.Reduction (RedundantSide i)) t = absurd (true≢false (sym t))
+forms_suffice (at.Reduction (ForcingRow i)) t = absurd (true≢false (sym t))
+forms_suffice (at.Reduction (TightenedBound i j side)) t = absurd (true≢false (sym t))
+forms_suffice (at.Reduction (TightenedCoefficient i j)) t = absurd (true≢false (sym t))
 forms_suffice (at.Reduction (FixedByCost j)) t = record { more = sides_named_rest; holds = fixed_by_cost_rests }
 forms_suffice (at.Reduction (DominatedColumn i j k)) t = record { more = dominated_more_rests; holds = dominated_rests j k }
 forms_suffice (at.Reduction (EmptyColumn j)) t = absurd (true≢false (sym t))
@@ -178,4 +275,37 @@ forms_suffice (at.Reduction (EmptyColumn j)) t = absurd (true≢false (sym t))
 -- of those whose refusals rest on what is read more is looked at than the form
 pub sleepers_read_ends : (r : Rule) → rests_on_reading r ≡ true → goes_by_form (reach_of r) ≡ false
 sleepers_read_ends rule.RoundBounds t = refl
+sleepers_read_ends rule.TightenedBound t = refl
+sleepers_read_ends rule.TightenedCoefficient t = refl
 sleepers_read_ends r t = absurd (true≢false (sym t))
+
+-- ---- the counts after a reduction are those of the records
+pub records_tallied : (p : Sparse) (r : Reduction) (c : Counts) (us : List Undo) → enabled_on p (at.Reduction r) ≡ true → AreCountsOf (length p.matrix.columns) c → IsTally c us → IsTally (tallied r c) (us ++ record_of r p ∷ [])
+unfolding record_of
+records_tallied p (EmptyRow i) c us e a h = tally_same c us (record_of (EmptyRow i) p) (λ k s. refl) h
+records_tallied p (SingletonRow i) c us e a h = tally_same c us (record_of (SingletonRow i) p) (λ k s. refl) h
+records_tallied p (FixedColumn j) c us e a h = tally_same c us (record_of (FixedColumn j) p) (λ k s. refl) h
+records_tallied p (RoundBounds j) c us e a h = tally_same c us (record_of (RoundBounds j) p) (λ k s. refl) h
+records_tallied p (RedundantRow i) c us e a h = tally_same c us (record_of (RedundantRow i) p) (λ k s. refl) h
+records_tallied p (RedundantSide i) c us e a h = tally_same c us (record_of (RedundantSide i) p) (λ k s. refl) h
+records_tallied p (ForcingRow i) c us e a h = tally_same c us (record_of (ForcingRow i) p) (λ k s. refl) h
+records_tallied p (TightenedBound i j side) c us e a h =
+    tally_more c us (length p.matrix.columns) i j side (old_bound side (bounds_at p j).lower (bounds_at p j).upper) (row_entries p i) a (column_inside p j (tightened_bound.column_live p i j side e)) h
+records_tallied p (TightenedCoefficient i j) c us e a h = tally_same c us (record_of (TightenedCoefficient i j) p) (λ k s. refl) h
+records_tallied p (FixedByCost j) c us e a h = tally_same c us (record_of (FixedByCost j) p) (λ k s. refl) h
+records_tallied p (DominatedColumn i j k) c us e a h = tally_same c us (record_of (DominatedColumn i j k) p) (λ k s. refl) h
+records_tallied p (EmptyColumn j) c us e a h = tally_same c us (record_of (EmptyColumn j) p) (λ k s. refl) h
+
+pub tallied_long : (r : Reduction) (c : Counts) (n : ℕ) → AreCountsOf n c → AreCountsOf n (tallied r c)
+tallied_long (EmptyRow i) c n a = a
+tallied_long (SingletonRow i) c n a = a
+tallied_long (FixedColumn j) c n a = a
+tallied_long (RoundBounds j) c n a = a
+tallied_long (RedundantRow i) c n a = a
+tallied_long (RedundantSide i) c n a = a
+tallied_long (ForcingRow i) c n a = a
+tallied_long (TightenedBound i j side) c n a = counts_long c n j side a
+tallied_long (TightenedCoefficient i j) c n a = a
+tallied_long (FixedByCost j) c n a = a
+tallied_long (DominatedColumn i j k) c n a = a
+tallied_long (EmptyColumn j) c n a = a

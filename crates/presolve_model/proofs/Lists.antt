@@ -1,11 +1,14 @@
 -- What lists contain.
-use Rattle.std.proofs.Common.{◌≡◌, ◌≢◌, ◌⊎◌, inl, inr, ℕ, true, zero, suc, ◌<◌, List, [], ◌∷◌, ◌++◌, length, map, get_or, ap, ap₂, refl, sym, ◌∙◌, subst, arith, true≢false}
-use Rattle.std.specs.List.{All, Contains, flat_map}
+use Rattle.std.proofs.Common.{◌≡◌, ◌≢◌, ◌⊎◌, inl, inr, ℕ, Bool, true, false, cond, zero, suc, ◌<◌, List, [], ◌∷◌, ◌++◌, length, map, get_or, ap, ap₂, refl, sym, ◌∙◌, subst, arith, true≢false}
+use Rattle.std.specs.List.{All, Contains, filter, flat_map}
 use Rattle.std.proofs.lemmas.Bool.{cases_eq}
 use Rattle.std.proofs.lemmas.List.Elements.{All-nil, All-cons, All-head, All-tail, Contains-append_left, Contains-append_right}
 use Rattle.lp_model.specs.declared.terms.Term.{Term}
 use Rattle.lp_model.specs.Sparse.{has}
 use Rattle.problem_laws.proofs.Terms.{has-cons_other}
+use Rattle.undo_records.specs.declared.side.Side.{Side}
+use Rattle.undo_records.specs.declared.side.Side.TheVariants.{Lower, Upper}
+use Rattle.activity_laws.specs.TightenedBound.{bounds_of as named_bounds}
 use Rattle.dual_laws.specs.DominatedColumn.{pairs_of}
 
 flat_at : {X Y : Type 0} (f : X → List Y) (xs : List X) (x : X) (y : Y) (k : ℕ) → k < length xs → get_or xs k x ≡ x → Contains (f x) y → Contains (flat_map f xs) y
@@ -37,6 +40,35 @@ contains_pair ts j k h g = by (term_with ts j h) (term_with ts k g)
     by : ((t : Term) × Contains ts t × (t.id ≡ j)) → ((u : Term) × Contains ts u × (u.id ≡ k)) → Contains (pairs_of ts) (j, k)
     by (t, c, e) (u, d, f) = contains_flat (λ t. map (λ u. (t.id, u.id)) ts) ts t (j, k) c
         (subst (Contains (map (λ u. (t.id, u.id)) ts)) (ap₂ (λ (a b : ℕ). (a, b)) e f) (contains_map (λ u. (t.id, u.id)) ts u d))
+
+-- ---- of what passes
+pub contains_filter : {X : Type 0} (t : X → Bool) (xs : List X) (x : X) → Contains xs x → t x ≡ true → Contains (filter t xs) x
+contains_filter t [] x c h = absurd (let l = c.1 in omega (arith, l))
+contains_filter t (z ∷ xs) x (zero, l, e) h = subst (λ (b : Bool). Contains (cond b (z ∷ filter t xs) (filter t xs)) x) (sym (ap t e ∙ h)) (0, omega arith, e)
+contains_filter t (z ∷ xs) x (suc k, l, e) h = by (t z) (contains_filter t xs x (k, omega (arith, l), e) h)
+  where
+    by : (b : Bool) → Contains (filter t xs) x → Contains (cond b (z ∷ filter t xs) (filter t xs)) x
+    by true (i, m, d) = (suc i, omega (arith, m), d)
+    by false c = c
+
+-- an id that terms have is among those of the terms
+pub contains_id : (ts : List Term) (j : ℕ) → has j ts ≡ true → Contains (map (λ t. t.id) ts) j
+contains_id ts j h = by (term_with ts j h)
+  where
+    by : ((t : Term) × Contains ts t × (t.id ≡ j)) → Contains (map (λ t. t.id) ts) j
+    by (t, c, e) = subst (Contains (map (λ t. t.id) ts)) e (contains_map (λ t. t.id) ts t c)
+
+-- a bound of a column that terms name is among those of the terms
+pub contains_bound : (ts : List Term) (j : ℕ) (side : Side) → has j ts ≡ true → Contains (named_bounds ts) (j, side)
+contains_bound ts j side h = by (term_with ts j h)
+  where
+    here : (s : Side) → Contains {X = ℕ × Side} ((j, Lower) ∷ (j, Upper) ∷ []) (j, s)
+    here Lower = (0, omega arith, refl)
+    here Upper = (1, omega arith, refl)
+
+    by : ((t : Term) × Contains ts t × (t.id ≡ j)) → Contains (named_bounds ts) (j, side)
+    by (t, c, e) = contains_flat (λ t. (t.id, Lower) ∷ (t.id, Upper) ∷ []) ts t (j, side) c
+        (subst (λ (k : ℕ). Contains {X = ℕ × Side} ((k, Lower) ∷ (k, Upper) ∷ []) (j, side)) (sym e) (here side))
 
 pub map_same : {X Y : Type 0} (f g : X → Y) (xs : List X) → All (λ x. f x ≡ g x) xs → map f xs ≡ map g xs
 map_same f g [] h = refl

@@ -7,6 +7,7 @@ use Rattle.problem_model.specs.declared.part.Read.{Read}
 use Rattle.problem_model.specs.Parts.{contents_of}
 use Rattle.problem_model.specs.Reading.{Agrees, read_of}
 use Rattle.problem_model.specs.Sparse.{Sparse}
+use Rattle.rule_words.specs.Reading.{found_on}
 use Rattle.presolve_model.specs.declared.instance.Instance.{Instance}
 use Rattle.presolve_model.specs.Enabled.{enabled_on, reading_of, reads}
 use Rattle.presolve_model.specs.Tables.{heads, holds, more}
@@ -39,8 +40,11 @@ module _ (p q : Sparse) (e : Instance) (same : map (read_of q) (reads p e) ≡ m
   pub reading_same : reading_of q e ≡ reading_of p e
   reading_same = ap (map (read_of q)) parts_same ∙ same
 
+  pub found_same : found_on (heads e) (more e) q ≡ found_on (heads e) (more e) p
+  found_same = ap (map (contents_of q)) parts_same ∙ contents_same
+
   pub enabled_same : enabled_on q e ≡ enabled_on p e
-  enabled_same = ap (holds e) (ap (map (contents_of q)) parts_same ∙ contents_same)
+  enabled_same = ap (holds e) found_same
 
 -- ---- the same said by readings
 pub parts_told : (p q : Sparse) (e : Instance) → reading_of q e ≡ reading_of p e → reads q e ≡ reads p e
@@ -48,3 +52,6 @@ parts_told p q e h = sym (parts_read q (reads q e)) ∙ ap (map (λ (r : Read). 
 
 pub reads_told : (p q : Sparse) (e : Instance) → reading_of q e ≡ reading_of p e → map (read_of q) (reads p e) ≡ map (read_of p) (reads p e)
 reads_told p q e h = ap (map (read_of q)) (sym (parts_told p q e h)) ∙ h
+
+pub found_told : (p q : Sparse) (e : Instance) → reading_of q e ≡ reading_of p e → found_on (heads e) (more e) q ≡ found_on (heads e) (more e) p
+found_told p q e h = found_same p q e (reads_told p q e h)

@@ -6,6 +6,7 @@ use Rattle.presolve_model.specs.declared.instance.Instance.TheVariants.{Reductio
 use Rattle.presolve_model.specs.Given.{Proposed}
 use Rattle.problem_model.specs.Reading.{Agrees, DiffersAt}
 use Rattle.presolve_model.specs.Changes.{changed}
+use Rattle.presolve_model.specs.Instances.{tallied}
 use Rattle.presolve_model.specs.Tables.{record_of}
 use Rattle.presolve_model.specs.Changes.{ChangeFits, ChangeIsWritten}
 use Rattle.presolve_model.specs.Ledger.{Ledger}
@@ -54,6 +55,7 @@ with_instance b (Reduction r) = record b {
   problem = changed r b.problem;
   history = b.history ++ r ∷ [];
   records = b.records ++ record_of r b.problem ∷ [];
+  tally = tallied r b.tally;
 }
 with_instance b (Verdict v) = record b { verdict = Some v }
 

@@ -5,6 +5,7 @@ use Rattle.lp_model.specs.Names.{names_of_rows, names_of_columns, WellNamed}
 use Rattle.lp_model.specs.ProgramData.{ProgramData}
 use Rattle.lp_model.specs.Writable.{EntriesAscend, Writable}
 use Rattle.undo_records.specs.declared.label.Label.{Label}
+use Rattle.undo_records.specs.declared.undo.Undo.{Undo}
 use Rattle.undo_records.specs.Named.{AreNamed}
 use Rattle.undo_records.specs.Postsolve.{Postsolve}
 use Rattle.problem_model.specs.Programs.{IsProblemOf}
@@ -22,13 +23,15 @@ use Rattle.presolve_model.specs.Replay.{replay, Replays}
 use Rattle.presolve_model.specs.Ledger.{Ledger}
 use Rattle.presolve_model.specs.Ordered.{IsMadeInOrder, RunsTo}
 use Rattle.presolve_model.specs.Stuck.{IsUndecided, skipped_on, Stuck}
+use Rattle.presolve_model.specs.Tallies.{open_by}
 use Rattle.presolve_model.specs.Telling.{names_in}
 
--- So many reductions were applied, and p is what is left. At a fixpoint there is room for more, and none can be applied: those that are
--- enabled are counted, and each has a number that is past or can't be written. At the limit there is no room, and no verdict is enabled.
-abbrev pub TellsEnd : End → Options → ℕ → Sparse → Type 0
-TellsEnd (Fixpoint skipped) options applied p = (applied < options.limit) × Stuck options.numbers p × (skipped ≡ skipped_on p)
-TellsEnd LimitReached options applied p = (applied ≡ options.limit) × IsUndecided p
+-- The reductions of these records were applied, and p is what is left. At a fixpoint there is room for more, and none that the records
+-- leave open can be applied: those that are enabled are counted, and each has a number that is past or can't be written. At the limit there
+-- is no room, and no verdict is enabled.
+abbrev pub TellsEnd : End → Options → List Undo → Sparse → Type 0
+TellsEnd (Fixpoint skipped) options us p = (length us < options.limit) × Stuck options.numbers (open_by us) p × (skipped ≡ skipped_on (open_by us) p)
+TellsEnd LimitReached options us p = (length us ≡ options.limit) × IsUndecided p
 
 -- the names of those that are live, in the same order
 abbrev pub live_names : List Label → List (List ℕ)
@@ -55,7 +58,7 @@ pub record HaveNames (program reduced : ProgramData) (told : Postsolve) : Type 0
 pub record Concluded (options : Options) (program reduced : ProgramData) (told : Postsolve) (ended : End) : Type 0 where
   pub walked : Walked options.numbers program reduced told
   pub reduces : ReducesTo program reduced told
-  pub end : TellsEnd ended options (length told.undos) (replay walked.start walked.history)
+  pub end : TellsEnd ended options told.undos (replay walked.start walked.history)
   pub names : CarriesNames program reduced told
   pub named : HaveNames program reduced told
   pub ascends : EntriesAscend reduced

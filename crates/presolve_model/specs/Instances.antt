@@ -1,41 +1,56 @@
--- All instances of a rule with a first id, and which rule and which first id an instance has.
+-- The instances of a rule with a first id that are open, and which rule and which first id an instance has.
 use Rattle.std.specs.Prelude.{ℕ, Bool, true, false, List, [], ◌∷◌, length, map, if◌then◌else◌}
+use Rattle.std.specs.List.{filter}
 use Rattle.problem_model.specs.Problems.{row_entries}
 use Rattle.problem_model.specs.Sparse.{Sparse}
+use Rattle.activity_laws.specs.TightenedBound.{bounds_of}
 use Rattle.dual_laws.specs.DominatedColumn.{pairs_of}
 use Rattle.presolve_model.specs.declared.instance.Reduction.{Reduction}
-use Rattle.presolve_model.specs.declared.instance.Reduction.TheVariants.{EmptyRow, SingletonRow, FixedColumn, RoundBounds, FixedByCost, DominatedColumn, EmptyColumn}
+use Rattle.presolve_model.specs.declared.instance.Reduction.TheVariants.{EmptyRow, SingletonRow, FixedColumn, RoundBounds, RedundantRow, RedundantSide, ForcingRow, TightenedBound, TightenedCoefficient, FixedByCost, DominatedColumn, EmptyColumn}
 use Rattle.presolve_model.specs.declared.instance.Verdict.{Verdict}
-use Rattle.presolve_model.specs.declared.instance.Verdict.TheVariants.{CrossedBounds, CrossedSides, Ray}
+use Rattle.presolve_model.specs.declared.instance.Verdict.TheVariants.{CrossedBounds, CrossedSides, OutOfReach, Ray}
 use Rattle.presolve_model.specs.declared.instance.Reach.{Reach}
 use Rattle.presolve_model.specs.declared.instance.Reach.TheVariants.{OwnRow, OwnColumn, RowsOfBounds, ColumnsOfSides, RowsOfBoth}
 use Rattle.presolve_model.specs.declared.instance.Rule.{Rule}
 use Rattle.presolve_model.specs.declared.instance.Rule.TheVariants as rule
 use Rattle.presolve_model.specs.declared.instance.Instance.{Instance}
 use Rattle.presolve_model.specs.declared.instance.Instance.TheVariants as at
+use Rattle.presolve_model.specs.Tallies.{Counts, counted, Open}
 
--- the instances of a rule with this first id, in order
-abbrev pub instances_from : Sparse → Rule → ℕ → List Instance
-instances_from p rule.CrossedBounds j = at.Verdict (CrossedBounds j) ∷ []
-instances_from p rule.CrossedSides i = at.Verdict (CrossedSides i) ∷ []
-instances_from p rule.Ray j = at.Verdict (Ray j) ∷ []
-instances_from p rule.EmptyRow i = at.Reduction (EmptyRow i) ∷ []
-instances_from p rule.SingletonRow i = at.Reduction (SingletonRow i) ∷ []
-instances_from p rule.FixedColumn j = at.Reduction (FixedColumn j) ∷ []
-instances_from p rule.RoundBounds j = at.Reduction (RoundBounds j) ∷ []
-instances_from p rule.FixedByCost j = at.Reduction (FixedByCost j) ∷ []
-instances_from p rule.DominatedColumn i = map (λ x. at.Reduction (DominatedColumn i x.0 x.1)) (pairs_of (row_entries p i))
-instances_from p rule.EmptyColumn j = at.Reduction (EmptyColumn j) ∷ []
+-- the instances of a rule with this first id that are open, in order
+abbrev pub instances_from : Open → Sparse → Rule → ℕ → List Instance
+instances_from opens p rule.CrossedBounds j = at.Verdict (CrossedBounds j) ∷ []
+instances_from opens p rule.CrossedSides i = at.Verdict (CrossedSides i) ∷ []
+instances_from opens p rule.OutOfReach i = at.Verdict (OutOfReach i) ∷ []
+instances_from opens p rule.Ray j = at.Verdict (Ray j) ∷ []
+instances_from opens p rule.EmptyRow i = at.Reduction (EmptyRow i) ∷ []
+instances_from opens p rule.SingletonRow i = at.Reduction (SingletonRow i) ∷ []
+instances_from opens p rule.FixedColumn j = at.Reduction (FixedColumn j) ∷ []
+instances_from opens p rule.RoundBounds j = at.Reduction (RoundBounds j) ∷ []
+instances_from opens p rule.RedundantRow i = at.Reduction (RedundantRow i) ∷ []
+instances_from opens p rule.RedundantSide i = at.Reduction (RedundantSide i) ∷ []
+instances_from opens p rule.ForcingRow i = at.Reduction (ForcingRow i) ∷ []
+instances_from opens p rule.TightenedBound i = map (λ x. at.Reduction (TightenedBound i x.0 x.1)) (filter (λ x. opens x.0 x.1) (bounds_of (row_entries p i)))
+instances_from opens p rule.TightenedCoefficient i = map (λ j. at.Reduction (TightenedCoefficient i j)) (map (λ t. t.id) (row_entries p i))
+instances_from opens p rule.FixedByCost j = at.Reduction (FixedByCost j) ∷ []
+instances_from opens p rule.DominatedColumn i = map (λ x. at.Reduction (DominatedColumn i x.0 x.1)) (pairs_of (row_entries p i))
+instances_from opens p rule.EmptyColumn j = at.Reduction (EmptyColumn j) ∷ []
 
 -- where the first id of an enabled instance is, seen from a part that it reads
 abbrev pub reach_of : Rule → Reach
 reach_of rule.CrossedBounds = OwnColumn
 reach_of rule.CrossedSides = OwnRow
+reach_of rule.OutOfReach = RowsOfBounds
 reach_of rule.Ray = ColumnsOfSides
 reach_of rule.EmptyRow = OwnRow
 reach_of rule.SingletonRow = OwnRow
 reach_of rule.FixedColumn = OwnColumn
 reach_of rule.RoundBounds = OwnColumn
+reach_of rule.RedundantRow = RowsOfBounds
+reach_of rule.RedundantSide = RowsOfBounds
+reach_of rule.ForcingRow = RowsOfBounds
+reach_of rule.TightenedBound = RowsOfBounds
+reach_of rule.TightenedCoefficient = RowsOfBounds
 reach_of rule.FixedByCost = ColumnsOfSides
 reach_of rule.DominatedColumn = RowsOfBoth
 reach_of rule.EmptyColumn = OwnColumn
@@ -64,11 +79,17 @@ goes_by_form RowsOfBoth = true
 abbrev pub rests_on_reading : Rule → Bool
 rests_on_reading rule.CrossedBounds = false
 rests_on_reading rule.CrossedSides = false
+rests_on_reading rule.OutOfReach = false
 rests_on_reading rule.Ray = false
 rests_on_reading rule.EmptyRow = false
 rests_on_reading rule.SingletonRow = false
 rests_on_reading rule.FixedColumn = false
 rests_on_reading rule.RoundBounds = true
+rests_on_reading rule.RedundantRow = false
+rests_on_reading rule.RedundantSide = false
+rests_on_reading rule.ForcingRow = false
+rests_on_reading rule.TightenedBound = true
+rests_on_reading rule.TightenedCoefficient = true
 rests_on_reading rule.FixedByCost = false
 rests_on_reading rule.DominatedColumn = false
 rests_on_reading rule.EmptyColumn = false
@@ -82,6 +103,11 @@ rule_of (EmptyRow i) = rule.EmptyRow
 rule_of (SingletonRow i) = rule.SingletonRow
 rule_of (FixedColumn j) = rule.FixedColumn
 rule_of (RoundBounds j) = rule.RoundBounds
+rule_of (RedundantRow i) = rule.RedundantRow
+rule_of (RedundantSide i) = rule.RedundantSide
+rule_of (ForcingRow i) = rule.ForcingRow
+rule_of (TightenedBound i j side) = rule.TightenedBound
+rule_of (TightenedCoefficient i j) = rule.TightenedCoefficient
 rule_of (FixedByCost j) = rule.FixedByCost
 rule_of (DominatedColumn i j k) = rule.DominatedColumn
 rule_of (EmptyColumn j) = rule.EmptyColumn
@@ -91,6 +117,11 @@ first_id (EmptyRow i) = i
 first_id (SingletonRow i) = i
 first_id (FixedColumn j) = j
 first_id (RoundBounds j) = j
+first_id (RedundantRow i) = i
+first_id (RedundantSide i) = i
+first_id (ForcingRow i) = i
+first_id (TightenedBound i j side) = i
+first_id (TightenedCoefficient i j) = i
 first_id (FixedByCost j) = j
 first_id (DominatedColumn i j k) = i
 first_id (EmptyColumn j) = j
@@ -98,11 +129,13 @@ first_id (EmptyColumn j) = j
 abbrev pub verdict_rule : Verdict → Rule
 verdict_rule (CrossedBounds j) = rule.CrossedBounds
 verdict_rule (CrossedSides i) = rule.CrossedSides
+verdict_rule (OutOfReach i) = rule.OutOfReach
 verdict_rule (Ray j) = rule.Ray
 
 abbrev pub verdict_id : Verdict → ℕ
 verdict_id (CrossedBounds j) = j
 verdict_id (CrossedSides i) = i
+verdict_id (OutOfReach i) = i
 verdict_id (Ray j) = j
 
 abbrev pub rule_at : Instance → Rule
@@ -112,3 +145,14 @@ rule_at (at.Verdict v) = verdict_rule v
 abbrev pub id_at : Instance → ℕ
 id_at (at.Reduction r) = first_id r
 id_at (at.Verdict v) = verdict_id v
+
+-- ---- counts
+-- one that tightens a bound is open where that bound may be tightened; every other one is
+abbrev pub is_open : Open → Instance → Bool
+is_open opens (at.Reduction (TightenedBound i j side)) = opens j side
+is_open opens other = true
+
+-- the counts after a reduction
+abbrev pub tallied : Reduction → Counts → Counts
+tallied (TightenedBound i j side) c = counted c j side
+tallied other c = c

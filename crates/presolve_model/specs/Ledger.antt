@@ -10,14 +10,17 @@ use Rattle.presolve_model.specs.declared.instance.Verdict.{Verdict}
 use Rattle.presolve_model.specs.declared.instance.Instance.TheVariants as at
 use Rattle.presolve_model.specs.Enabled.{enabled_on}
 use Rattle.presolve_model.specs.Replay.{replay, records, Replays}
+use Rattle.presolve_model.specs.Tallies.{AreCountsOf, Counts, IsTally}
 
--- the problem that it was opened with, the present one, the reductions that were applied, the verdict that closed it, the records
+-- the problem that it was opened with, the present one, the reductions that were applied, the verdict that closed it, the records, and how
+-- often each bound was tightened
 pub record Ledger : Type 0 where
   pub start : Sparse
   pub problem : Sparse
   pub history : List Reduction
   pub verdict : Option Verdict
   pub records : List Undo
+  pub tally : Counts
   pub numbers : Numbers
   pub limit : ℕ
 
@@ -29,12 +32,15 @@ closes (Some v) = 1
 abbrev pub instance_count : Ledger → ℕ
 instance_count b = length b.history + closes b.verdict
 
--- what the type keeps: the problem and the records are those of the history, which replays on the start; a verdict is enabled on the problem
+-- what the type keeps: the problem and the records are those of the history, which replays on the start, and the tally is that of the
+-- records; a verdict is enabled on the problem
 pub record Stands (b : Ledger) : Type 0 where
   pub sound : IsSparse b.start
   pub writable : IsWritable b.numbers b.start
   pub replays : Replays b.numbers b.start b.history
   pub problem : b.problem ≡ replay b.start b.history
   pub records : b.records ≡ records b.start b.history
+  pub counts : AreCountsOf (length b.problem.matrix.columns) b.tally
+  pub tally : IsTally b.tally b.records
   pub verdict : IfSome b.verdict (λ v. enabled_on b.problem (at.Verdict v) ≡ true)
   pub within : length b.history ≤ b.limit

@@ -1,3 +1,4 @@
+pub mod Tallies
 pub mod Tables
 pub mod Order
 pub mod Instances
@@ -6,7 +7,6 @@ pub mod Enabled
 pub mod Changes
 pub mod Given
 pub mod Scans
-pub mod Tallies
 pub mod After
 pub mod Replay
 pub mod Ledger

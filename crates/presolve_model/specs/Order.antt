@@ -4,7 +4,10 @@ use Rattle.presolve_model.specs.declared.instance.Rule.{Rule}
 use Rattle.presolve_model.specs.declared.instance.Rule.TheVariants as rule
 
 abbrev pub verdict_order : List Rule
-verdict_order = rule.CrossedBounds ∷ rule.CrossedSides ∷ rule.Ray ∷ []
+verdict_order = rule.CrossedBounds ∷ rule.CrossedSides ∷ rule.OutOfReach ∷ rule.Ray ∷ []
 
 abbrev pub reduction_order : List Rule
-reduction_order = rule.EmptyRow ∷ rule.SingletonRow ∷ rule.FixedColumn ∷ rule.RoundBounds ∷ rule.FixedByCost ∷ rule.DominatedColumn ∷ rule.EmptyColumn ∷ []
+reduction_order =
+    rule.EmptyRow ∷ rule.SingletonRow ∷ rule.FixedColumn ∷ rule.RoundBounds
+    ∷ rule.RedundantRow ∷ rule.RedundantSide ∷ rule.ForcingRow ∷ rule.TightenedBound
+    ∷ rule.TightenedCoefficient ∷ rule.FixedByCost ∷ rule.DominatedColumn ∷ rule.EmptyColumn ∷ []

@@ -9,6 +9,7 @@ use Rattle.presolve_model.specs.declared.conclusion.End.{End}
 use Rattle.presolve_model.specs.declared.conclusion.End.TheVariants.{Fixpoint, LimitReached}
 use Rattle.presolve_model.specs.declared.conclusion.Options.{Options}
 use Rattle.presolve_model.specs.declared.instance.Instance.{Instance}
+use Rattle.presolve_model.specs.declared.instance.Rule.{Rule}
 use Rattle.presolve_model.specs.declared.outcome.Outcome.{Outcome}
 use Rattle.presolve_model.specs.declared.outcome.Outcome.TheVariants.{NoMemory}
 use Rattle.presolve_model.specs.Commits.{Allows, left_by, with_instance}
@@ -18,11 +19,16 @@ use Rattle.presolve_model.specs.Ledger.{Ledger, instance_count}
 use Rattle.presolve_model.specs.Order.{reduction_order, verdict_order}
 use Rattle.presolve_model.specs.Scans.{all_ids, all_of, listed}
 use Rattle.presolve_model.specs.Stuck.{skipped_on}
+use Rattle.presolve_model.specs.Tallies.{no_counts, Open, open_on}
 use Rattle.presolve_model.specs.Telling.{IsToldOf}
 
--- what a round lists: the verdicts that are enabled as it begins, and then the reductions, each with what it reads
+-- what rules list in a book, of all first ids
+abbrev pub listed_in : Ledger → List Rule → List Proposed
+listed_in b rules = listed (open_on b.tally) b.problem (instance_count b) (all_ids b.problem) rules
+
+-- what a round lists: the verdicts that are enabled as it begins, and then the open reductions, each with what it reads
 abbrev pub round_list : Ledger → List Proposed
-round_list b = listed b.problem (instance_count b) (all_ids b.problem) verdict_order ++ listed b.problem (instance_count b) (all_ids b.problem) reduction_order
+round_list b = listed_in b verdict_order ++ listed_in b reduction_order
 
 -- proposals are committed in their order, and memory does not run out
 abbrev pub Committed : Ledger → List Proposed → Ledger → Type 0
@@ -43,12 +49,12 @@ pub record GoesOn (b c : Ledger) : Type 0 where
 -- it ends with a round that applied a verdict, of which no end is told, or nothing
 abbrev pub EndsIn : Ledger → Option End → Ledger → Type 0
 EndsIn b None c = c.verdict ≢ None
-EndsIn b (Some (Fixpoint skipped)) c = (c.verdict ≡ None) × (length c.history ≡ length b.history) × (skipped ≡ skipped_on c.problem)
+EndsIn b (Some (Fixpoint skipped)) c = (c.verdict ≡ None) × (length c.history ≡ length b.history) × (skipped ≡ skipped_on (open_on c.tally) c.problem)
 EndsIn b (Some LimitReached) c = ⊥
 
 -- the verdicts that are enabled, in their order
-abbrev pub enabled_verdicts : Sparse → List Instance
-enabled_verdicts p = filter (enabled_on p) (all_of p verdict_order)
+abbrev pub enabled_verdicts : Open → Sparse → List Instance
+enabled_verdicts opens p = filter (enabled_on p) (all_of opens p verdict_order)
 
 -- in a full book the first of these is applied; where there is none, the limit is reached
 abbrev pub Closes : Ledger → List Instance → Option End → Ledger → Type 0
@@ -56,7 +62,7 @@ Closes b [] ended c = (ended ≡ Some LimitReached) × (c ≡ b)
 Closes b (v ∷ vs) ended c = (ended ≡ None) × (c ≡ with_instance b v)
 
 abbrev pub Stops : Ledger → Option End → Ledger → Type 0
-Stops b ended c = (IsRound b c × EndsIn b ended c) ⊎ ((b.limit ≤ length b.history) × Closes b (enabled_verdicts b.problem) ended c)
+Stops b ended c = (IsRound b c × EndsIn b ended c) ⊎ ((b.limit ≤ length b.history) × Closes b (enabled_verdicts (open_on b.tally) b.problem) ended c)
 
 -- it stops after so many rounds that it goes on from
 abbrev pub StopsAfter : ℕ → Ledger → Option End → Ledger → Type 0
@@ -70,7 +76,7 @@ Ordered b ended c = (n : ℕ) × StopsAfter n b ended c
 -- ---- of a program
 -- a book of a problem to which nothing was done
 abbrev pub new_book : Options → Sparse → Ledger
-new_book options p = record { start = p; problem = p; history = []; verdict = None; records = []; numbers = options.numbers; limit = options.limit }
+new_book options p = record { start = p; problem = p; history = []; verdict = None; records = []; tally = no_counts (length p.matrix.columns); numbers = options.numbers; limit = options.limit }
 
 -- the run of the program's problem ends so, with this book
 pub record RunsTo (options : Options) (program : ProgramData) (ended : Option End) (b : Ledger) : Type 0 where

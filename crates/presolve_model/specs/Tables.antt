@@ -5,7 +5,7 @@ use Rattle.problem_model.specs.declared.edit.Edit.{Edit}
 use Rattle.problem_model.specs.declared.part.Contents.{Contents}
 use Rattle.problem_model.specs.declared.part.Part.{Part}
 use Rattle.problem_model.specs.Sparse.{Sparse}
-use Rattle.rule_words.specs.Reading.{no_more, sides_named}
+use Rattle.rule_words.specs.Reading.{bounds_named, no_more, sides_named}
 use Rattle.singleton_laws.specs.EmptyRow as empty_row
 use Rattle.singleton_laws.specs.SingletonRow as singleton_row
 use Rattle.singleton_laws.specs.FixedColumn as fixed_column
@@ -13,13 +13,20 @@ use Rattle.singleton_laws.specs.RoundBounds as round_bounds
 use Rattle.singleton_laws.specs.EmptyColumn as empty_column
 use Rattle.singleton_laws.specs.CrossedBounds as crossed_bounds
 use Rattle.singleton_laws.specs.CrossedSides as crossed_sides
+use Rattle.activity_laws.specs.Rows as rows
+use Rattle.activity_laws.specs.RedundantRow as redundant_row
+use Rattle.activity_laws.specs.RedundantSide as redundant_side
+use Rattle.activity_laws.specs.ForcingRow as forcing_row
+use Rattle.activity_laws.specs.TightenedBound as tightened_bound
+use Rattle.activity_laws.specs.OutOfReach as out_of_reach
+use Rattle.coef_laws.specs.TightenedCoefficient as tightened_coefficient
 use Rattle.dual_laws.specs.FixedByCost as fixed_by_cost
 use Rattle.dual_laws.specs.DominatedColumn as dominated_column
 use Rattle.dual_laws.specs.Ray as ray
 use Rattle.presolve_model.specs.declared.instance.Reduction.{Reduction}
-use Rattle.presolve_model.specs.declared.instance.Reduction.TheVariants.{EmptyRow, SingletonRow, FixedColumn, RoundBounds, FixedByCost, DominatedColumn, EmptyColumn}
+use Rattle.presolve_model.specs.declared.instance.Reduction.TheVariants.{EmptyRow, SingletonRow, FixedColumn, RoundBounds, RedundantRow, RedundantSide, ForcingRow, TightenedBound, TightenedCoefficient, FixedByCost, DominatedColumn, EmptyColumn}
 use Rattle.presolve_model.specs.declared.instance.Verdict.{Verdict}
-use Rattle.presolve_model.specs.declared.instance.Verdict.TheVariants.{CrossedBounds, CrossedSides, Ray}
+use Rattle.presolve_model.specs.declared.instance.Verdict.TheVariants.{CrossedBounds, CrossedSides, OutOfReach, Ray}
 use Rattle.presolve_model.specs.declared.instance.Instance.{Instance}
 use Rattle.presolve_model.specs.declared.instance.Instance.TheVariants as at
 
@@ -29,6 +36,11 @@ heads_of (EmptyRow i) = empty_row.heads i
 heads_of (SingletonRow i) = singleton_row.heads i
 heads_of (FixedColumn j) = fixed_column.heads j
 heads_of (RoundBounds j) = round_bounds.heads j
+heads_of (RedundantRow i) = rows.heads i
+heads_of (RedundantSide i) = rows.heads i
+heads_of (ForcingRow i) = rows.heads i
+heads_of (TightenedBound i j side) = rows.heads i
+heads_of (TightenedCoefficient i j) = rows.heads i
 heads_of (FixedByCost j) = fixed_by_cost.heads j
 heads_of (DominatedColumn i j k) = dominated_column.heads i j k
 heads_of (EmptyColumn j) = empty_column.heads j
@@ -39,6 +51,11 @@ more_of (EmptyRow i) cs = no_more cs
 more_of (SingletonRow i) cs = no_more cs
 more_of (FixedColumn j) cs = no_more cs
 more_of (RoundBounds j) cs = no_more cs
+more_of (RedundantRow i) cs = bounds_named cs
+more_of (RedundantSide i) cs = bounds_named cs
+more_of (ForcingRow i) cs = bounds_named cs
+more_of (TightenedBound i j side) cs = bounds_named cs
+more_of (TightenedCoefficient i j) cs = bounds_named cs
 more_of (FixedByCost j) cs = sides_named cs
 more_of (DominatedColumn i j k) cs = dominated_column.more cs
 more_of (EmptyColumn j) cs = no_more cs
@@ -49,6 +66,11 @@ holds_of (EmptyRow i) cs = empty_row.holds cs
 holds_of (SingletonRow i) cs = singleton_row.holds cs
 holds_of (FixedColumn j) cs = fixed_column.holds cs
 holds_of (RoundBounds j) cs = round_bounds.holds cs
+holds_of (RedundantRow i) cs = redundant_row.holds cs
+holds_of (RedundantSide i) cs = redundant_side.holds cs
+holds_of (ForcingRow i) cs = forcing_row.holds cs
+holds_of (TightenedBound i j side) cs = tightened_bound.holds j side cs
+holds_of (TightenedCoefficient i j) cs = tightened_coefficient.holds j cs
 holds_of (FixedByCost j) cs = fixed_by_cost.holds cs
 holds_of (DominatedColumn i j k) cs = dominated_column.holds j k cs
 holds_of (EmptyColumn j) cs = empty_column.holds cs
@@ -59,6 +81,11 @@ edits (EmptyRow i) p = empty_row.edits p i
 edits (SingletonRow i) p = singleton_row.edits p i
 edits (FixedColumn j) p = fixed_column.edits p j
 edits (RoundBounds j) p = round_bounds.edits p j
+edits (RedundantRow i) p = redundant_row.edits p i
+edits (RedundantSide i) p = redundant_side.edits p i
+edits (ForcingRow i) p = forcing_row.edits p i
+edits (TightenedBound i j side) p = tightened_bound.edits p i j side
+edits (TightenedCoefficient i j) p = tightened_coefficient.edits p i j
 edits (FixedByCost j) p = fixed_by_cost.edits p j
 edits (DominatedColumn i j k) p = dominated_column.edits p k
 edits (EmptyColumn j) p = empty_column.edits p j
@@ -69,6 +96,11 @@ record_of (EmptyRow i) p = empty_row.record_of p i
 record_of (SingletonRow i) p = singleton_row.record_of p i
 record_of (FixedColumn j) p = fixed_column.record_of p j
 record_of (RoundBounds j) p = round_bounds.record_of p j
+record_of (RedundantRow i) p = redundant_row.record_of p i
+record_of (RedundantSide i) p = redundant_side.record_of p i
+record_of (ForcingRow i) p = forcing_row.record_of p i
+record_of (TightenedBound i j side) p = tightened_bound.record_of p i j side
+record_of (TightenedCoefficient i j) p = tightened_coefficient.record_of p i j
 record_of (FixedByCost j) p = fixed_by_cost.record_of p j
 record_of (DominatedColumn i j k) p = dominated_column.record_of i j k
 record_of (EmptyColumn j) p = empty_column.record_of p j
@@ -79,6 +111,11 @@ Computes (EmptyRow i) p = empty_row.Computes p i
 Computes (SingletonRow i) p = singleton_row.Computes p i
 Computes (FixedColumn j) p = fixed_column.Computes p j
 Computes (RoundBounds j) p = round_bounds.Computes p j
+Computes (RedundantRow i) p = redundant_row.Computes p i
+Computes (RedundantSide i) p = redundant_side.Computes p i
+Computes (ForcingRow i) p = forcing_row.Computes p i
+Computes (TightenedBound i j side) p = tightened_bound.Computes p i j side
+Computes (TightenedCoefficient i j) p = tightened_coefficient.Computes p i j
 Computes (FixedByCost j) p = fixed_by_cost.Computes p j
 Computes (DominatedColumn i j k) p = dominated_column.Computes p k
 Computes (EmptyColumn j) p = empty_column.Computes p j
@@ -88,18 +125,21 @@ Computes (EmptyColumn j) p = empty_column.Computes p j
 abbrev pub looked_at_by : Verdict → List Part
 looked_at_by (CrossedBounds j) = crossed_bounds.heads j
 looked_at_by (CrossedSides i) = crossed_sides.heads i
+looked_at_by (OutOfReach i) = rows.heads i
 looked_at_by (Ray j) = ray.heads j
 
 -- what it reads by what the heads hold
 abbrev pub more_by : Verdict → List Contents → List Part
 more_by (CrossedBounds j) cs = no_more cs
 more_by (CrossedSides i) cs = no_more cs
+more_by (OutOfReach i) cs = bounds_named cs
 more_by (Ray j) cs = sides_named cs
 
 -- its condition on what it read
 abbrev pub holds_by : Verdict → List Contents → Bool
 holds_by (CrossedBounds j) cs = crossed_bounds.holds cs
 holds_by (CrossedSides i) cs = crossed_sides.holds cs
+holds_by (OutOfReach i) cs = out_of_reach.holds cs
 holds_by (Ray j) cs = ray.holds cs
 
 -- ---- instances

@@ -6,11 +6,13 @@ use Rattle.presolve_model.specs.Commits.{Allows, left_by}
 use Rattle.presolve_model.specs.Enabled.{Enabled}
 use Rattle.presolve_model.specs.Given.{Proposed}
 use Rattle.presolve_model.specs.Ledger.{Ledger, instance_count}
+use Rattle.presolve_model.specs.Tallies.{Counts}
 use Rattle.problem_model.specs.Sparse.{Sparse}
 
--- a frozen version: the problem, and how many instances had been applied, a verdict among them
+-- a frozen version: the problem, how often each bound had been tightened, and how many instances had been applied, a verdict among them
 pub record Version : Type 0 where
   pub problem : Sparse
+  pub tally : Counts
   pub applied : ℕ
 
 -- the book, and for each worker its frozen version and the proposals that it has not committed yet, the first one first
@@ -28,7 +30,7 @@ pub data Happening : Type 0 where
   Commit : (w : ℕ) → Happening
 
 abbrev pub version_of : Ledger → Version
-version_of b = record { problem = b.problem; applied = instance_count b }
+version_of b = record { problem = b.problem; tally = b.tally; applied = instance_count b }
 
 abbrev pub opened : Ledger → State
 opened b = record { book = b; frozen = λ w. None; pending = λ w. [] }

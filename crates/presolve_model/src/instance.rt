@@ -1,5 +1,7 @@
 //! Rules, and their instances at rows and columns.
 
+use undo_records::Side;
+
 /// A rule, in the order in which instances are listed.
 #[derive(Clone, Copy, Debug, PartialEq, Eq)]
 pub enum Rule {
@@ -7,6 +9,8 @@ pub enum Rule {
     CrossedBounds,
     /// V1 of rows: crossed sides.
     CrossedSides,
+    /// V2: a row of which a side is out of reach of its columns' bounds.
+    OutOfReach,
     /// V3: a column that can move without end, which pays.
     Ray,
     /// K1: a row without entries is deleted.
@@ -17,6 +21,16 @@ pub enum Rule {
     FixedColumn,
     /// K4: the bounds of a whole column are rounded inwards.
     RoundBounds,
+    /// K5: a row whose sides its columns' bounds keep is deleted.
+    RedundantRow,
+    /// K6: of two sides of a row the one that its columns' bounds keep becomes infinite.
+    RedundantSide,
+    /// K7: a row that only just reaches a side is deleted, and its columns are fixed at the ends that reach it.
+    ForcingRow,
+    /// K8: a bound of a column becomes the one that a row implies with the bounds of its other columns.
+    TightenedBound,
+    /// K9: the coefficient of a whole column in a row with one side comes closer to 0, and the side moves with it.
+    TightenedCoefficient,
     /// K10: a column that no row locks where it costs least is fixed there.
     FixedByCost,
     /// K11: a column that another one can stand in for stays at its lower bound.
@@ -52,6 +66,16 @@ pub enum Reduction {
     FixedColumn { column: u32 },
     /// K4.
     RoundBounds { column: u32 },
+    /// K5.
+    RedundantRow { row: u32 },
+    /// K6.
+    RedundantSide { row: u32 },
+    /// K7.
+    ForcingRow { row: u32 },
+    /// K8: the bound on a side of `column`, by `row`.
+    TightenedBound { row: u32, column: u32, side: Side },
+    /// K9: the coefficient of `column` in `row`.
+    TightenedCoefficient { row: u32, column: u32 },
     /// K10.
     FixedByCost { column: u32 },
     /// K11: in a row that has both, `better` stands in for `column`.
@@ -67,6 +91,8 @@ pub enum Verdict {
     CrossedBounds { column: u32 },
     /// V1 at a row: no value is between its sides.
     CrossedSides { row: u32 },
+    /// V2 at a row: no point within the bounds of its columns gives it a value between its sides.
+    OutOfReach { row: u32 },
     /// V3 at a column: each feasible point, if there is one, gives others of any cost.
     Ray { column: u32 },
 }

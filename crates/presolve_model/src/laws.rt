@@ -1,6 +1,6 @@
 //! Laws of the tables over the rules. No rule is named here.
 
-ghost use Rattle.std.specs.Prelude.{◌≡◌, ℕ, ◌+◌, ◌-◌, ◌^◌, ◌<◌, ◌≤◌, false, true, All, List, length, map};
+ghost use Rattle.std.specs.Prelude.{◌≡◌, ℕ, ◌+◌, ◌-◌, ◌^◌, ◌<◌, ◌≤◌, false, true, All, List, [], ◌∷◌, ◌++◌, length, map};
 ghost use Rattle.std.specs.List.{Contains};
 ghost use Rattle.rational.specs.Number.{Number, ◌+ℚ◌};
 ghost use Rattle.fractions.specs.declared.Numbers.{Numbers};
@@ -10,6 +10,7 @@ ghost use Rattle.lp_model.specs.LinearProgram.{LinearProgram};
 ghost use Rattle.lp_model.specs.Reductions.{Reduces};
 ghost use Rattle.lp_model.specs.Vectors.{Vector};
 ghost use Rattle.lp_model.specs.Turning.{minimizing};
+ghost use Rattle.undo_records.specs.declared.undo.Undo.{Undo};
 ghost use Rattle.undo_records.specs.Lift.{undone};
 ghost use Rattle.undo_records.specs.Sound.{IsSound};
 ghost use Rattle.undo_records.specs.Walk.{NamesLive, after};
@@ -30,7 +31,7 @@ ghost use Rattle.presolve_model.specs.declared.instance.Reduction.{Reduction};
 ghost use Rattle.presolve_model.specs.declared.instance.Verdict.{Verdict};
 ghost use Rattle.presolve_model.specs.Changes.{added, changed, ChangeFits, ChangeIsWritten};
 ghost use Rattle.presolve_model.specs.Enabled.{Enabled, enabled_on, reading_of, reads};
-ghost use Rattle.presolve_model.specs.Instances.{goes_by_form, reach_of, rests_on_reading, rule_at, rule_of};
+ghost use Rattle.presolve_model.specs.Instances.{goes_by_form, is_open, reach_of, rests_on_reading, rule_at, rule_of, tallied};
 ghost use Rattle.presolve_model.specs.declared.instance.Rule.{Rule};
 ghost use Rattle.dual_laws.specs.Forms.{seen_at};
 ghost use Rattle.presolve_model.specs.Meanings.{Meant};
@@ -39,6 +40,7 @@ ghost use Rattle.presolve_model.specs.Replay.{CanApply, replay, Replays};
 ghost use Rattle.presolve_model.specs.Scans.{all_ids, listed, proposal_of};
 ghost use Rattle.presolve_model.specs.Stuck.{skipped_on};
 ghost use Rattle.presolve_model.specs.Tables.{record_of};
+ghost use Rattle.presolve_model.specs.Tallies.{AreCountsOf, Counts, IsTally, no_counts, Open, open_by, open_on};
 
 /// Each reduction that is enabled reduces the linear program that is shown, undone by its record, and adds to the cost what it says.
 pub fn reductions_reduce()
@@ -95,11 +97,20 @@ pub fn forms_decide()
     ensures awake { (r : Rule) → rests_on_reading r ≡ true → goes_by_form (reach_of r) ≡ false }
 {}
 
-/// A look at all first ids lists each enabled instance with its reading, and as many reductions as are enabled.
+/// A look at all first ids lists each enabled instance that is open with its reading, and as many reductions as are enabled and open.
 pub fn looks_list_all()
-    ensures reductions { (p : Sparse) (v : ℕ) (r : Reduction) → enabled_on p (at.Reduction r) ≡ true → Contains (listed p v (all_ids p) reduction_order) (proposal_of p v (at.Reduction r)) }
-    ensures verdicts { (p : Sparse) (v : ℕ) (w : Verdict) → enabled_on p (at.Verdict w) ≡ true → Contains (listed p v (all_ids p) verdict_order) (proposal_of p v (at.Verdict w)) }
-    ensures skipped { (p : Sparse) (v : ℕ) → length (listed p v (all_ids p) reduction_order) ≡ skipped_on p }
+    ensures reductions { (opens : Open) (p : Sparse) (v : ℕ) (r : Reduction) → is_open opens (at.Reduction r) ≡ true → enabled_on p (at.Reduction r) ≡ true → Contains (listed opens p v (all_ids p) reduction_order) (proposal_of p v (at.Reduction r)) }
+    ensures verdicts { (opens : Open) (p : Sparse) (v : ℕ) (w : Verdict) → enabled_on p (at.Verdict w) ≡ true → Contains (listed opens p v (all_ids p) verdict_order) (proposal_of p v (at.Verdict w)) }
+    ensures skipped { (opens : Open) (p : Sparse) (v : ℕ) → length (listed opens p v (all_ids p) reduction_order) ≡ skipped_on opens p }
+{}
+
+/// The counts of how often bounds were tightened are those of the records, up to ten: with each reduction that is enabled, and at first. So
+/// the same bounds may be tightened by the counts as by the records.
+pub fn tallies_follow_records()
+    ensures first { (n : ℕ) → AreCountsOf n (no_counts n) × IsTally (no_counts n) [] }
+    ensures more { (p : Sparse) (r : Reduction) (c : Counts) (us : List Undo) → enabled_on p (at.Reduction r) ≡ true → AreCountsOf (length p.matrix.columns) c → IsTally c us → IsTally (tallied r c) (us ++ record_of r p ∷ []) }
+    ensures columns { (r : Reduction) (c : Counts) (n : ℕ) → AreCountsOf n c → AreCountsOf n (tallied r c) }
+    ensures same { (c : Counts) (us : List Undo) → IsTally c us → open_on c ≡ open_by us }
 {}
 
 /// Along a history numbers alone decide: where the number of each part that an instance reads is what it was, and not at the end of its

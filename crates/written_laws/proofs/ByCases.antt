@@ -1,5 +1,6 @@
 -- What the rules say at other ids, by cases: one line a rule, and what a rule reads and computes in a lemma of its own.
 use Rattle.std.proofs.Common.{◌≡◌, ◌↔◌, ℕ, true, ◌&&◌, List, [], ◌∷◌, ◌++◌, get_or, map, Option, unwrap_or, refl, sym, ap, ap₂, ◌∙◌, subst, arith}
+use Rattle.std.specs.Prelude.{if◌then◌else◌}
 use Rattle.std.specs.List.{All}
 use Rattle.std.proofs.lemmas.List.{map-append}
 use Rattle.std.proofs.lemmas.List.Elements.{All-head, All-map, All-nil, All-tail}
@@ -14,6 +15,7 @@ use Rattle.lp_columns.specs.EmptyColumn.{resting_place}
 use Rattle.lp_columns.specs.RoundBounds.{rounded_up, rounded_down}
 use Rattle.problem_model.specs.declared.edit.Edit.{Edit}
 use Rattle.problem_model.specs.declared.edit.Edit.TheVariants.{DeleteRow, SetBounds, SetSides}
+use Rattle.problem_model.specs.declared.line.Line.{Line}
 use Rattle.problem_model.specs.declared.part.Contents.{Contents}
 use Rattle.problem_model.specs.declared.part.Contents.TheVariants as holding
 use Rattle.problem_model.specs.declared.part.Part.{Part}
@@ -52,15 +54,17 @@ use Rattle.presolve_model.specs.declared.instance.Rule.TheVariants as rule
 use Rattle.presolve_model.specs.declared.instance.Verdict.{Verdict}
 use Rattle.presolve_model.specs.declared.instance.Verdict.TheVariants.{CrossedBounds, CrossedSides, Ray}
 use Rattle.presolve_model.specs.Enabled.{enabled_on}
-use Rattle.presolve_model.specs.Instances.{instances_from}
-use Rattle.presolve_model.specs.Tables.{Computes, edits, heads, heads_of, holds_by, holds_of, looked_at_by, more_by, more_of}
+use Rattle.presolve_model.specs.Instances.{instances_from, is_of_rows}
+use Rattle.presolve_model.specs.Tables.{Computes, edits, heads_of, holds_by, holds_of, looked_at_by, more_by, more_of}
+use Rattle.written_ids.specs.NewIds.{Ids, new_ids, term_at, terms_at}
+use Rattle.written_ids.specs.Standing.{AreOneToOne, LinesStand}
+use Rattle.written_ids.proofs.Lists.{all_both, all_one, all_two, both_by, both_then}
+use Rattle.written_ids.proofs.Naming.{entries_read, sides_read_at, sides_read_there}
+use Rattle.written_ids.proofs.NewIds.{contents_at, edit_at, id_of, none_at, one_at, part_at}
+use Rattle.written_ids.proofs.Pairs.{all_pairs, at_pairs}
+use Rattle.written_ids.proofs.Standing.{AreThere, IsThere, one_part, two_parts}
 use Rattle.written_laws.proofs.DominatedColumn.{dominated_alike, lines_there, sides_of_both_at, sides_of_both_there}
-use Rattle.written_laws.proofs.Lists.{all_both, all_one, all_two, both_by, both_then}
 use Rattle.written_laws.proofs.Locks.{fixed_by_cost_alike, place_kept, ray_alike}
-use Rattle.written_laws.proofs.Naming.{entries_read, sides_read_at, sides_read_there}
-use Rattle.written_laws.proofs.NewIds.{Ids, contents_at, edit_at, id_of, lines_of, new_ids, none_at, one_at, part_at, term_at, terms_at}
-use Rattle.written_laws.proofs.Pairs.{all_pairs, at_pairs}
-use Rattle.written_laws.proofs.Standing.{AreOneToOne, AreThere, IsThere, LinesStand, one_part, two_parts}
 
 -- ---- instances at other ids
 abbrev pub reduction_at : Ids → Reduction → Reduction
@@ -80,6 +84,20 @@ verdict_at n (Ray j) = Ray (n.column j)
 abbrev pub instance_at : Ids → Instance → Instance
 instance_at n (at.Reduction r) = at.Reduction (reduction_at n r)
 instance_at n (at.Verdict v) = at.Verdict (verdict_at n v)
+
+-- ---- the parts at which an instance is, with all its ids: its heads, and what of its ids these do not have
+abbrev pub beside : Reduction → List Part
+beside r = []
+
+abbrev pub own_of : Reduction → List Part
+own_of r = heads_of r ++ beside r
+
+abbrev pub own : Instance → List Part
+own (at.Reduction r) = own_of r
+own (at.Verdict v) = looked_at_by v
+
+pub reduction_beside : (n : Ids) (r : Reduction) → beside (reduction_at n r) ≡ map (part_at n) (beside r)
+reduction_beside n r = refl
 
 -- ---- what is read
 pub reduction_heads : (n : Ids) (r : Reduction) → heads_of (reduction_at n r) ≡ map (part_at n) (heads_of r)
@@ -157,7 +175,7 @@ crossed_sides_alike n (holding.Sides l u) = refl
 crossed_sides_alike n a = refl
 
 module _ (n : Ids) (p : Sparse) (o : AreOneToOne n p) where
-  pub reduction_holds : (r : Reduction) → AreThere p (heads_of r)
+  pub reduction_holds : (r : Reduction) → AreThere p (own_of r)
       → holds_of (reduction_at n r) (map (contents_at n) (found_on (heads_of r) (more_of r) p)) ≡ holds_of r (found_on (heads_of r) (more_of r) p)
   reduction_holds (EmptyRow i) h = empty_row_alike n (contents_of p (Row i)) (contents_of p (Sides i))
   reduction_holds (SingletonRow i) h = singleton_row_alike n (contents_of p (Row i)) (contents_of p (Sides i))
@@ -174,7 +192,7 @@ module _ (n : Ids) (p : Sparse) (o : AreOneToOne n p) where
   verdict_holds (Ray j) h = ray_alike n (contents_of p (Col j)) (contents_of p (Bounds j)) (map (contents_of p) (sides_of (entries_read p j)))
 
 -- ---- nothing is enabled at what is not live
-pub reduction_there : (p : Sparse) (r : Reduction) → enabled_on p (at.Reduction r) ≡ true → All (IsThere p) (heads_of r)
+pub reduction_there : (p : Sparse) (r : Reduction) → enabled_on p (at.Reduction r) ≡ true → All (IsThere p) (own_of r)
 reduction_there p (EmptyRow i) e = let on = (empty_row.said p i e).live in all_two (IsThere p) (Row i) (Sides i) on on
 reduction_there p (SingletonRow i) e = let on = (singleton_row.said p i e).live in all_two (IsThere p) (Row i) (Sides i) on on
 reduction_there p (FixedColumn j) e = let on = (fixed_column.said p j e).live in all_two (IsThere p) (Col j) (Bounds j) on on
@@ -192,7 +210,7 @@ verdict_there p (Ray j) e = let on = (ray.said p j e).live in all_two (IsThere p
 abbrev pub ComesBack : Ids → Ids → Part → Type 0
 ComesBack n m a = id_of (part_at n (part_at m a)) ≡ id_of a
 
-pub reduction_back : (n m : Ids) (r : Reduction) → All (ComesBack n m) (heads_of r) → reduction_at n (reduction_at m r) ≡ r
+pub reduction_back : (n m : Ids) (r : Reduction) → All (ComesBack n m) (own_of r) → reduction_at n (reduction_at m r) ≡ r
 reduction_back n m (EmptyRow i) h = ap (λ k. EmptyRow k) (All-head (ComesBack n m) (Row i) (Sides i ∷ []) h)
 reduction_back n m (SingletonRow i) h = ap (λ k. SingletonRow k) (All-head (ComesBack n m) (Row i) (Sides i ∷ []) h)
 reduction_back n m (FixedColumn j) h = ap (λ k. FixedColumn k) (All-head (ComesBack n m) (Col j) (Bounds j ∷ []) h)
@@ -286,9 +304,13 @@ module _ (n : Ids) (p q : Sparse) (s : LinesStand n p q) where
   computes_stand (DominatedColumn i j k) e = (λ h. h, λ h. h)
   computes_stand (EmptyColumn j) e = (λ h. h, λ h. h)
 
+-- the lines that the first ids of a rule name
+abbrev pub lines_of : Sparse → Rule → List Line
+lines_of p kind = if is_of_rows kind then p.matrix.rows else p.matrix.columns
+
 -- ---- the instances at a line: as many at its new id, each there exactly where the line is live
 abbrev pub IsAtLine : Sparse → Rule → ℕ → Instance → Type 0
-IsAtLine p kind k e = ((line_at (lines_of p kind) k).live ≡ true) ↔ AreThere p (heads e)
+IsAtLine p kind k e = ((line_at (lines_of p kind) k).live ≡ true) ↔ AreThere p (own e)
 
 -- K11 has one for each pair of columns of a row, and these columns are live
 abbrev dominated_in : ℕ → ℕ × ℕ → Instance

@@ -15,7 +15,7 @@ use Rattle.problem_model.specs.Programs.{IsProblemOf, bounds_of, line_of, sides_
 use Rattle.problem_model.specs.Sparse.{Sparse}
 use Rattle.program_laws.proofs.Negating.{signed_twice}
 use Rattle.program_laws.proofs.ProblemsShow.{row_live}
-use Rattle.written_laws.proofs.AllLive.{AreLive, live_after, renumbered-all}
+use Rattle.written_ids.proofs.AllLive.{AreLive, live_after, renumbered-all}
 
 rows_back : (rs : List RowDef) (ls : List Line) → length ls ≡ length rs → AreLive ls → written_rows rs ls (map sides_of rs) ≡ rs
 rows_back [] ls e a = refl

@@ -17,9 +17,9 @@ use Rattle.presolve_model.specs.Instances.{id_count, instances_from, is_of_rows}
 use Rattle.presolve_model.specs.Order.{reduction_order}
 use Rattle.presolve_model.specs.Scans.{all_ids, all_of, instances_at}
 use Rattle.presolve_model.specs.Stuck.{skipped_on}
-use Rattle.written_laws.proofs.ByCases.{instance_at, instances_at_line, instances_stand}
-use Rattle.written_laws.proofs.NewIds.{lines_of, new_ids}
-use Rattle.written_laws.proofs.Standing.{IsLeft}
+use Rattle.written_ids.specs.NewIds.{new_ids}
+use Rattle.written_ids.specs.Standing.{IsLeft}
+use Rattle.written_laws.proofs.ByCases.{instance_at, instances_at_line, instances_stand, lines_of}
 use Rattle.written_laws.proofs.Tabled.{enabled_stands, there_where_enabled}
 
 -- how many pass a test

@@ -20,12 +20,14 @@ use Rattle.problem_model.specs.Sparse.{Sparse}
 use Rattle.problem_laws.proofs.Entries.{column_entries-live, row_entries-live}
 use Rattle.rule_words.specs.Reading.{found_on, terms_in}
 use Rattle.dual_laws.specs.DominatedColumn.{all_take_over, heads, holds, more, rows_of_both, share, takes_over}
-use Rattle.written_laws.proofs.Lists.{all_two, map_across}
+use Rattle.written_ids.specs.NewIds.{Ids, term_at, terms_at}
+use Rattle.written_ids.specs.Standing.{AreOneToOne, IsLive, IsOneToOne}
+use Rattle.written_ids.proofs.Lists.{all_two, map_across}
+use Rattle.written_ids.proofs.Naming.{entries_read, entries_read_at, entries_read_live}
+use Rattle.written_ids.proofs.NewIds.{contents_at, part_at}
+use Rattle.written_ids.proofs.OneToOne.{NamesLive, dense_at, equal_at, has_at}
+use Rattle.written_ids.proofs.Standing.{AreThere, IsThere, held}
 use Rattle.written_laws.proofs.Locks.{are_uncrossed_at}
-use Rattle.written_laws.proofs.Naming.{entries_read, entries_read_at, entries_read_live}
-use Rattle.written_laws.proofs.NewIds.{Ids, contents_at, part_at, term_at, terms_at}
-use Rattle.written_laws.proofs.OneToOne.{IsLive, IsOneToOne, NamesLive, dense_at, equal_at, has_at}
-use Rattle.written_laws.proofs.Standing.{AreOneToOne, AreThere, IsThere, held}
 
 -- ---- the rows of both columns
 -- the terms of us whose ids are not among those of ts

@@ -1,16 +1,7 @@
-pub mod AllLive
 pub mod ComingBack
-pub mod SameTerms
-pub mod NewIds
-pub mod OneToOne
-pub mod Standing
-pub mod WrittenStand
-pub mod Lists
-pub mod EditsAtIds
-pub mod Naming
-pub mod Pairs
 pub mod Locks
 pub mod DominatedColumn
+pub mod Activities
 pub mod ByCases
 pub mod Tabled
 pub mod Counting

@@ -17,9 +17,11 @@ use Rattle.rule_words.specs.Reading.{sides_of}
 use Rattle.dual_laws.specs.FixedByCost.{end_kept, goes_down, goes_up, is_fixed_by_cost, place_of}
 use Rattle.dual_laws.specs.Locks.{all_take, are_uncrossed, is_uncrossed, sides_on, takes_down, takes_up}
 use Rattle.dual_laws.specs.Ray.{falls, is_ray, rises}
-use Rattle.written_laws.proofs.Naming.{sides_of_at}
-use Rattle.written_laws.proofs.NewIds.{Ids, contents_at, terms_at}
-use Rattle.written_laws.proofs.Standing.{IsThere, LinesStand, all_stand}
+use Rattle.written_ids.specs.NewIds.{Ids, terms_at}
+use Rattle.written_ids.specs.Standing.{LinesStand}
+use Rattle.written_ids.proofs.Naming.{sides_of_at}
+use Rattle.written_ids.proofs.NewIds.{contents_at}
+use Rattle.written_ids.proofs.Standing.{IsThere, all_stand}
 
 module _ (n : Ids) where
   -- ---- one row

@@ -14,14 +14,15 @@ use Rattle.presolve_model.specs.declared.instance.Reduction.{Reduction}
 use Rattle.presolve_model.specs.Enabled.{enabled_on}
 use Rattle.presolve_model.specs.Replay.{CanApply}
 use Rattle.presolve_model.specs.Stuck.{IsUndecided, Stuck}
-use Rattle.presolve_model.specs.Tables.{heads, heads_of}
 use Rattle.written_laws.specs.Left.{HaveSameLeft}
-use Rattle.written_laws.proofs.ByCases.{instance_at, reduction_at, verdict_at}
+use Rattle.written_ids.specs.NewIds.{new_ids}
+use Rattle.written_ids.specs.Standing.{IsLeft}
+use Rattle.written_ids.proofs.NewIds.{old_ids}
+use Rattle.written_ids.proofs.Standing.{AreThere}
+use Rattle.written_ids.proofs.WrittenStand.{still_of, written_left}
+use Rattle.written_laws.proofs.ByCases.{instance_at, own, own_of, reduction_at, verdict_at}
 use Rattle.written_laws.proofs.Counting.{skipped_same}
-use Rattle.written_laws.proofs.NewIds.{new_ids, old_ids}
-use Rattle.written_laws.proofs.Standing.{AreThere, IsLeft}
-use Rattle.written_laws.proofs.Tabled.{applies_stand, enabled_stands, heads_back, instances_back, reductions_back, there_where_enabled}
-use Rattle.written_laws.proofs.WrittenStand.{still_of, written_left}
+use Rattle.written_laws.proofs.Tabled.{applies_stand, enabled_stands, own_back, instances_back, reductions_back, there_where_enabled}
 
 no_true : (b : Bool) → (b ≡ true → ⊥) → b ≡ false
 no_true true h = absurd (h refl)
@@ -33,8 +34,8 @@ module _ (p q : Sparse) (l : IsLeft p q) where
 
   enabled_back : (e : Instance) → enabled_on q e ≡ true → enabled_on p (instance_at (old_ids p) e) ≡ true
   enabled_back e on =
-      let h : AreThere q (heads e) = there_where_enabled q e on in
-      sym (enabled_stands (new_ids p) p q l.stands (instance_at (old_ids p) e) (heads_back p q l e h)) ∙ ap (enabled_on q) (instances_back p q l e h) ∙ on
+      let h : AreThere q (own e) = there_where_enabled q e on in
+      sym (enabled_stands (new_ids p) p q l.stands (instance_at (old_ids p) e) (own_back p q l e h)) ∙ ap (enabled_on q) (instances_back p q l e h) ∙ on
 
   undecided_same : IsUndecided p ↔ IsUndecided q
   undecided_same = (
@@ -48,8 +49,8 @@ module _ (p q : Sparse) (l : IsLeft p q) where
 
     applies_back : (r : Reduction) → CanApply numbers q r → CanApply numbers p (reduction_at (old_ids p) r)
     applies_back r c =
-        let h : AreThere q (heads_of r) = there_where_enabled q (at.Reduction r) c.enabled in
-        (applies_stand (new_ids p) p q l.stands numbers (reduction_at (old_ids p) r) l.offset (heads_back p q l (at.Reduction r) h)).1
+        let h : AreThere q (own_of r) = there_where_enabled q (at.Reduction r) c.enabled in
+        (applies_stand (new_ids p) p q l.stands numbers (reduction_at (old_ids p) r) l.offset (own_back p q l (at.Reduction r) h)).1
         (subst (CanApply numbers q) (sym (reductions_back p q l r h)) c)
 
     stuck_same : Stuck numbers p ↔ Stuck numbers q

@@ -1,5 +1,5 @@
 -- What the tables say at other ids, with no case: an instance is enabled, and can be applied, at its new ids where it is at its old ones.
-use Rattle.std.proofs.Common.{◌≡◌, ◌↔◌, ℕ, ◌<◌, true, List, ◌++◌, get_or, length, map, sym, ap, ◌∙◌, subst, arith}
+use Rattle.std.proofs.Common.{◌≡◌, ◌↔◌, ℕ, ◌<◌, true, List, ◌++◌, get_or, length, map, sym, ap, ap₂, ◌∙◌, subst, arith}
 use Rattle.std.specs.List.{All}
 use Rattle.std.proofs.lemmas.List.{map-append}
 use Rattle.std.proofs.lemmas.List.Elements.{All-append, All-map}
@@ -20,15 +20,26 @@ use Rattle.presolve_model.specs.declared.instance.Reduction.{Reduction}
 use Rattle.presolve_model.specs.Enabled.{enabled_on, reads}
 use Rattle.presolve_model.specs.Replay.{CanApply}
 use Rattle.presolve_model.specs.Tables.{edits, heads, heads_of, holds, more}
-use Rattle.written_laws.proofs.ByCases.{ComesBack, computes_stand, edits_stand, instance_at, reduction_at, reduction_back, reduction_heads, reduction_holds, reduction_more, reduction_names, reduction_there, verdict_back, verdict_heads, verdict_holds, verdict_more, verdict_names, verdict_there}
-use Rattle.written_laws.proofs.EditsAtIds.{edits_fit, edits_written}
-use Rattle.written_laws.proofs.NewIds.{Ids, contents_at, new_ids, old_ids, part_at}
-use Rattle.written_laws.proofs.Standing.{AreOneToOne, AreThere, IsLeft, IsThere, LinesStand, all_stand}
+use Rattle.written_ids.specs.NewIds.{Ids, new_ids}
+use Rattle.written_ids.specs.Standing.{AreOneToOne, IsLeft, LinesStand}
+use Rattle.written_ids.proofs.EditsAtIds.{edits_fit, edits_written}
+use Rattle.written_ids.proofs.Lists.{all_first}
+use Rattle.written_ids.proofs.NewIds.{contents_at, old_ids, part_at}
+use Rattle.written_ids.proofs.Standing.{AreThere, IsThere, all_stand}
+use Rattle.written_laws.proofs.ByCases.{ComesBack, beside, computes_stand, edits_stand, instance_at, own, own_of, reduction_at, reduction_back, reduction_beside, reduction_heads, reduction_holds, reduction_more, reduction_names, reduction_there, verdict_back, verdict_heads, verdict_holds, verdict_more, verdict_names, verdict_there}
 
 -- ---- of instances
 heads_at : (n : Ids) (e : Instance) → heads (instance_at n e) ≡ map (part_at n) (heads e)
 heads_at n (at.Reduction r) = reduction_heads n r
 heads_at n (at.Verdict v) = verdict_heads n v
+
+own_at : (n : Ids) (e : Instance) → own (instance_at n e) ≡ map (part_at n) (own e)
+own_at n (at.Reduction r) = ap₂ ◌++◌ (reduction_heads n r) (reduction_beside n r) ∙ sym (map-append (part_at n) (heads_of r) (beside r))
+own_at n (at.Verdict v) = verdict_heads n v
+
+heads_there : (p : Sparse) (e : Instance) → AreThere p (own e) → AreThere p (heads e)
+heads_there p (at.Reduction r) h = all_first (IsThere p) (heads_of r) (beside r) h
+heads_there p (at.Verdict v) h = h
 
 more_at : (n : Ids) (p : Sparse) → AreOneToOne n p → (e : Instance) → more (instance_at n e) (map (contents_at n) (map (contents_of p) (heads e))) ≡ map (part_at n) (more e (map (contents_of p) (heads e)))
 more_at n p o (at.Reduction r) = reduction_more n p o r
@@ -38,15 +49,15 @@ names_there : (p : Sparse) (e : Instance) → AreThere p (more e (map (contents_
 names_there p (at.Reduction r) = reduction_names p r
 names_there p (at.Verdict v) = verdict_names p v
 
-holds_at : (n : Ids) (p : Sparse) → AreOneToOne n p → (e : Instance) → AreThere p (heads e) → holds (instance_at n e) (map (contents_at n) (found_on (heads e) (more e) p)) ≡ holds e (found_on (heads e) (more e) p)
+holds_at : (n : Ids) (p : Sparse) → AreOneToOne n p → (e : Instance) → AreThere p (own e) → holds (instance_at n e) (map (contents_at n) (found_on (heads e) (more e) p)) ≡ holds e (found_on (heads e) (more e) p)
 holds_at n p o (at.Reduction r) h = reduction_holds n p o r h
 holds_at n p o (at.Verdict v) h = verdict_holds n p o v h
 
-pub there_where_enabled : (p : Sparse) (e : Instance) → enabled_on p e ≡ true → AreThere p (heads e)
+pub there_where_enabled : (p : Sparse) (e : Instance) → enabled_on p e ≡ true → AreThere p (own e)
 there_where_enabled p (at.Reduction r) on = reduction_there p r on
 there_where_enabled p (at.Verdict v) on = verdict_there p v on
 
-instance_back : (n m : Ids) (e : Instance) → All (ComesBack n m) (heads e) → instance_at n (instance_at m e) ≡ e
+instance_back : (n m : Ids) (e : Instance) → All (ComesBack n m) (own e) → instance_at n (instance_at m e) ≡ e
 instance_back n m (at.Reduction r) h = ap (λ s. at.Reduction s) (reduction_back n m r h)
 instance_back n m (at.Verdict v) h = ap (λ w. at.Verdict w) (verdict_back n m v h)
 
@@ -62,13 +73,14 @@ module _ (n : Ids) (p q : Sparse) (s : LinesStand n p q) where
       ∙ ap (λ (ps : List Part). map (part_at n) hs ++ ps) (more_at n p s.apart e)
       ∙ sym (map-append (part_at n) hs (more e (map (contents_of p) hs)))
 
-  pub enabled_stands : (e : Instance) → AreThere p (heads e) → enabled_on q (instance_at n e) ≡ enabled_on p e
+  pub enabled_stands : (e : Instance) → AreThere p (own e) → enabled_on q (instance_at n e) ≡ enabled_on p e
   enabled_stands e h =
-      ap (λ (ps : List Part). holds (instance_at n e) (map (contents_of q) ps)) (parts_stand e h)
-      ∙ ap (holds (instance_at n e)) (all_stand n p q s (reads p e) (All-append (IsThere p) (heads e) (more e (map (contents_of p) (heads e))) h (names_there p e)))
+      let on : AreThere p (heads e) = heads_there p e h in
+      ap (λ (ps : List Part). holds (instance_at n e) (map (contents_of q) ps)) (parts_stand e on)
+      ∙ ap (holds (instance_at n e)) (all_stand n p q s (reads p e) (All-append (IsThere p) (heads e) (more e (map (contents_of p) (heads e))) on (names_there p e)))
       ∙ holds_at n p s.apart e h
 
-  pub applies_stand : (numbers : Numbers) (r : Reduction) → q.offset ≡ p.offset → AreThere p (heads_of r) → CanApply numbers p r ↔ CanApply numbers q (reduction_at n r)
+  pub applies_stand : (numbers : Numbers) (r : Reduction) → q.offset ≡ p.offset → AreThere p (own_of r) → CanApply numbers p r ↔ CanApply numbers q (reduction_at n r)
   applies_stand numbers r o h = (there, back)
     where
       same : enabled_on q (at.Reduction (reduction_at n r)) ≡ enabled_on p (at.Reduction r)
@@ -108,11 +120,11 @@ module _ (p q : Sparse) (l : IsLeft p q) where
   comes_back (Col j) h = id_rank p.matrix.columns j (column_within j h)
   comes_back (Bounds j) h = id_rank p.matrix.columns j (column_within j h)
 
-  pub heads_back : (e : Instance) → AreThere q (heads e) → AreThere p (heads (instance_at (old_ids p) e))
-  heads_back e h = subst (AreThere p) (sym (heads_at (old_ids p) e)) (All-map (IsThere p) (part_at (old_ids p)) (heads e) (λ k d m. old_there (get_or (heads e) k d) (h k d m)))
+  pub own_back : (e : Instance) → AreThere q (own e) → AreThere p (own (instance_at (old_ids p) e))
+  own_back e h = subst (AreThere p) (sym (own_at (old_ids p) e)) (All-map (IsThere p) (part_at (old_ids p)) (own e) (λ k d m. old_there (get_or (own e) k d) (h k d m)))
 
-  pub instances_back : (e : Instance) → AreThere q (heads e) → instance_at (new_ids p) (instance_at (old_ids p) e) ≡ e
-  instances_back e h = instance_back (new_ids p) (old_ids p) e (λ k d m. comes_back (get_or (heads e) k d) (h k d m))
+  pub instances_back : (e : Instance) → AreThere q (own e) → instance_at (new_ids p) (instance_at (old_ids p) e) ≡ e
+  instances_back e h = instance_back (new_ids p) (old_ids p) e (λ k d m. comes_back (get_or (own e) k d) (h k d m))
 
-  pub reductions_back : (r : Reduction) → AreThere q (heads_of r) → reduction_at (new_ids p) (reduction_at (old_ids p) r) ≡ r
-  reductions_back r h = reduction_back (new_ids p) (old_ids p) r (λ k d m. comes_back (get_or (heads_of r) k d) (h k d m))
+  pub reductions_back : (r : Reduction) → AreThere q (own_of r) → reduction_at (new_ids p) (reduction_at (old_ids p) r) ≡ r
+  reductions_back r h = reduction_back (new_ids p) (old_ids p) r (λ k d m. comes_back (get_or (own_of r) k d) (h k d m))

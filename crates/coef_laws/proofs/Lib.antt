@@ -1,0 +1,2 @@
+pub mod TightenedCoefficient
+pub mod Changing

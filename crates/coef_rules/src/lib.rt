@@ -1,0 +1,10 @@
+//! The rule that tightens a coefficient of a whole column (K9): whether it is enabled at a row and a column, its change, as edits and a
+//! record, and all columns of a row at which it is enabled.
+#![tactic(auto)]
+
+mod listing;
+mod new_numbers;
+pub mod tightened_coefficient;
+mod values;
+
+pub use listing::add_tightened;

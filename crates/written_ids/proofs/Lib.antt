@@ -1,0 +1,12 @@
+pub mod AllLive
+pub mod SameTerms
+pub mod NewIds
+pub mod OneToOne
+pub mod Lists
+pub mod Standing
+pub mod WrittenStand
+pub mod EditsAtIds
+pub mod Naming
+pub mod Pairs
+pub mod Ends
+pub mod Spans
