@@ -32,6 +32,9 @@ module _ {X : Type 0} (P : X → Type 0) where
   pub three_in : (x z w y : X) → P x → P z → P w → Contains (x ∷ z ∷ w ∷ []) y → P y
   three_in x z w y h k l c = one_more_in x (z ∷ w ∷ []) y h (two_in z w y k l) c
 
+  pub four_in : (x z w u y : X) → P x → P z → P w → P u → Contains (x ∷ z ∷ w ∷ u ∷ []) y → P y
+  four_in x z w u y h k l m c = one_more_in x (z ∷ w ∷ u ∷ []) y h (three_in z w u y k l m) c
+
   pub five_in : (x z w u v y : X) → P x → P z → P w → P u → P v → Contains (x ∷ z ∷ w ∷ u ∷ v ∷ []) y → P y
   five_in x z w u v y h k l m n c = one_more_in x (z ∷ w ∷ u ∷ v ∷ []) y h (one_more_in z (w ∷ u ∷ v ∷ []) y k (three_in w u v y l m n)) c
 
@@ -60,6 +63,18 @@ kept_is t (x ∷ xs) y c = by (t x) (kept_is t xs y) c
     by false rest d = later (rest d)
 
 -- and what passes it stays
+pub kept_passes : {X : Type 0} (t : X → Bool) (xs : List X) (y : X) → Contains (filter t xs) y → t y ≡ true
+kept_passes t [] y c = absurd (none_in y c)
+kept_passes t (x ∷ xs) y c = by (t x) refl c (kept_passes t xs y)
+  where
+    by : (b : Bool) → t x ≡ b → Contains (if b then x ∷ filter t xs else filter t xs) y → (Contains (filter t xs) y → t y ≡ true) → t y ≡ true
+    by true e d rest = first (first_or_behind x (filter t xs) y d)
+      where
+        first : (x ≡ y) ⊎ Contains (filter t xs) y → t y ≡ true
+        first (inl same) = subst (λ z. t z ≡ true) same e
+        first (inr behind) = rest behind
+    by false e d rest = rest d
+
 pub passes_still : {X : Type 0} (t : X → Bool) (xs ys : List X) (y : X) → t y ≡ true → Contains (xs ++ ys) y → Contains (filter t xs ++ ys) y
 passes_still t [] ys y h c = c
 passes_still t (x ∷ xs) ys y h c = by (t x) refl (first_or_behind x (xs ++ ys) y c) (passes_still t xs ys y h)

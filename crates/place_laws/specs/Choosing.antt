@@ -13,7 +13,8 @@ use Rattle.presolve_model.specs.declared.instance.Reach.TheVariants.{OwnRow, Own
 use Rattle.presolve_model.specs.declared.instance.Rule.{Rule}
 use Rattle.presolve_model.specs.Enabled.{enabled_on}
 use Rattle.presolve_model.specs.Given.{Proposed}
-use Rattle.presolve_model.specs.Instances.{id_at, rule_at, reach_of}
+use Rattle.presolve_model.specs.Instances.{id_at, is_open, rule_at, reach_of}
+use Rattle.presolve_model.specs.Tallies.{Open}
 use Rattle.presolve_model.specs.Order.{reduction_order, verdict_order}
 use Rattle.presolve_model.specs.Scans.{instances_at, proposal_of}
 use Rattle.place_laws.specs.Marks.{IsAsleep, Marks, parts_for}
@@ -117,21 +118,21 @@ pub record AreSorted (n : Around) : Type 0 where
   pub columns_of_sides : AscendsFrom 0 n.columns_of_sides
   pub rows_of_both : AscendsFrom 0 n.rows_of_both
 
--- each enabled instance has its first id there
-abbrev pub HasEach : Sparse → Around → Type 0
-HasEach p n = (e : Instance) → enabled_on p e ≡ true → Contains (ids_of n (rule_at e)) (id_at e)
+-- each enabled instance that is open has its first id there
+abbrev pub HasEach : Open → Sparse → Around → Type 0
+HasEach opens p n = (e : Instance) → enabled_on p e ≡ true → is_open opens e ≡ true → Contains (ids_of n (rule_at e)) (id_at e)
 
--- each enabled instance has its first id there, or sleeps
-abbrev pub IsComplete : Numbers → Sparse → Around → List Part → Type 0
-IsComplete numbers p n asleep = (e : Instance) → enabled_on p e ≡ true → Contains (ids_of n (rule_at e)) (id_at e) ⊎ IsAsleep numbers p asleep e
+-- each enabled instance that is open has its first id there, or sleeps
+abbrev pub IsComplete : Numbers → Open → Sparse → Around → List Part → Type 0
+IsComplete numbers opens p n asleep = (e : Instance) → enabled_on p e ≡ true → is_open opens e ≡ true → Contains (ids_of n (rule_at e)) (id_at e) ⊎ IsAsleep numbers p asleep e
 
--- the instances of rules there, in their order
-abbrev pub instances_of : Sparse → Around → List Rule → List Instance
-instances_of p n rules = flat_map (λ rule. instances_at p rule (ids_of n rule)) rules
+-- the instances of rules there that are open, in their order
+abbrev pub instances_of : Open → Sparse → Around → List Rule → List Instance
+instances_of opens p n rules = flat_map (λ rule. instances_at opens p rule (ids_of n rule)) rules
 
 -- of all rules, verdicts first
-abbrev pub visited : Sparse → Around → List Instance
-visited p n = instances_of p n verdict_order ++ instances_of p n reduction_order
+abbrev pub visited : Open → Sparse → Around → List Instance
+visited opens p n = instances_of opens p n verdict_order ++ instances_of opens p n reduction_order
 
 -- those of some instances that are enabled on p, each with its reading
 abbrev pub proposals : Sparse → ℕ → List Instance → List Proposed

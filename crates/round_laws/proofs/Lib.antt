@@ -4,3 +4,4 @@ pub mod Turns
 pub mod Thinning
 pub mod Rounds
 pub mod Numbers
+pub mod Openness

@@ -21,11 +21,12 @@ use Rattle.presolve_model.specs.Changes.{changed}
 use Rattle.presolve_model.specs.Commits.{Allows, CanWrite, Fits, IsOpen, left_by, with_instance}
 use Rattle.presolve_model.specs.Enabled.{enabled_on, reading_of, reads}
 use Rattle.presolve_model.specs.Given.{Proposed}
-use Rattle.presolve_model.specs.Instances.{id_at, instances_from}
+use Rattle.presolve_model.specs.Instances.{id_at, instances_from, is_open}
 use Rattle.presolve_model.specs.Ledger.{Ledger}
 use Rattle.presolve_model.specs.Ordered.{Committed}
 use Rattle.presolve_model.specs.Scans.{proposal_of}
 use Rattle.presolve_model.proofs.Tabled.{counted_changed}
+use Rattle.presolve_model.specs.Tallies.{Open, open_on}
 use Rattle.place_laws.specs.Choosing.{proposals}
 use Rattle.place_laws.specs.Marks.{IsRefused, Marks, RestsOnReading}
 use Rattle.place_laws.specs.Standing.{IsFresh, IsLaterAt}
@@ -77,25 +78,25 @@ still_moved f p q a h few low l (inl g) = let m : changes_of q a ≡ changes_of 
 still_moved f p q a h few low l (inr g) = omega (arith, l, g, few, low)
 
 -- ---- from a book to the one that a commit leaves
-record GoesTo (f : Sparse) (b c : Ledger) : Type 0 where
-  follows : Follows f c
+record GoesTo (opens : Open) (f : Sparse) (b c : Ledger) : Type 0 where
+  follows : Follows opens f c
   moved : (ps : List Part) → HasMoved f b.problem ps → HasMoved f c.problem ps
   numbers : c.numbers ≡ b.numbers
 
-module _ (f : Sparse) (b : Ledger) (h : Follows f b) where
-  goes_on : (e : Instance) → enabled_on b.problem e ≡ true → IsOpen b (proposal_of f 0 e) → GoesTo f b (with_instance b e)
-  goes_on (at.Verdict v) on k = record { follows = record { later = h.later; counted = h.counted; short = h.short; sparse = h.sparse; size = h.size }; moved = λ ps x. x; numbers = refl }
-  goes_on (at.Reduction r) on k = record { follows = follows_applied f b r h on k.room; moved = λ ps (a, c, l). (a, c, by a l); numbers = refl }
+module _ (opens : Open) (f : Sparse) (b : Ledger) (h : Follows opens f b) where
+  goes_on : (e : Instance) → enabled_on b.problem e ≡ true → IsOpen b (proposal_of f 0 e) → GoesTo opens f b (with_instance b e)
+  goes_on (at.Verdict v) on k = record { follows = record { later = h.later; counted = h.counted; short = h.short; sparse = h.sparse; size = h.size; moves = h.moves }; moved = λ ps x. x; numbers = refl }
+  goes_on (at.Reduction r) on k = record { follows = follows_applied opens f b r h on k.room; moved = λ ps (a, c, l). (a, c, by a l); numbers = refl }
     where
       by : (a : Part) → changes_of f a < changes_of b.problem a → changes_of f a < changes_of (changed r b.problem) a
       by a l = still_moved f b.problem (changed r b.problem) a (length b.history) (h.counted a) (let room : length b.history < b.limit = k.room in omega (arith, room, h.short)) l (moved b.problem (changed r b.problem) a (counted_changed b.problem r h.sparse on a))
 
-  goes_to : (v : ℕ) (e : Instance) (o : Outcome) → enabled_on f e ≡ true → o ≢ NoMemory → Allows b (proposal_of f v e) o → GoesTo f b (left_by b (proposal_of f v e) o)
+  goes_to : (v : ℕ) (e : Instance) (o : Outcome) → enabled_on f e ≡ true → o ≢ NoMemory → Allows b (proposal_of f v e) o → GoesTo opens f b (left_by b (proposal_of f v e) o)
   goes_to v e o on n a = by (left_how b (proposal_of f v e) o a)
     where
-      by : (left_by b (proposal_of f v e) o ≡ b) ⊎ (IsOpen b (proposal_of f v e) × Fits e b.problem × CanWrite b e) → GoesTo f b (left_by b (proposal_of f v e) o)
-      by (inl same) = subst (GoesTo f b) (sym same) (record { follows = h; moved = λ ps x. x; numbers = refl })
-      by (inr k) = subst (GoesTo f b) (sym (left_open b (proposal_of f v e) o n a k.0 k.1 k.2))
+      by : (left_by b (proposal_of f v e) o ≡ b) ⊎ (IsOpen b (proposal_of f v e) × Fits e b.problem × CanWrite b e) → GoesTo opens f b (left_by b (proposal_of f v e) o)
+      by (inl same) = subst (GoesTo opens f b) (sym same) (record { follows = h; moved = λ ps x. x; numbers = refl })
+      by (inr k) = subst (GoesTo opens f b) (sym (left_open b (proposal_of f v e) o n a k.0 k.1 k.2))
           (goes_on e (fresh_enables f b.problem e k.0.agrees ∙ on) (record { undecided = k.0.undecided; room = k.0.room; agrees = k.0.agrees }))
 
 -- ---- lists of proposals
@@ -132,26 +133,29 @@ module _ (f : Sparse) (v : ℕ) (b : Ledger) where
       by (inr rests) (inl fresh) = refused_for e fresh (rests b.problem (fresh_reads f b.problem e fresh))
       by either (inr d) = refused_how b (proposal_of f v e) d
 
-module _ (f : Sparse) (v : ℕ) (c : Ledger) (keep : Instance → Bool) where
-  abbrev LeftOut : Ledger → Type 0
-  LeftOut b = (e : Instance) → enabled_on f e ≡ true → keep e ≡ false → IsIdle f b e
+module _ (opens : Open) (f : Sparse) (v : ℕ) (c : Ledger) (keep : Instance → Bool) where
+  abbrev LeftOut : List Instance → Ledger → Type 0
+  LeftOut es b = (e : Instance) → Contains es e → enabled_on f e ≡ true → keep e ≡ false → IsIdle f b e
 
   abbrev More : List Instance → Type 0
-  More es = (b : Ledger) → Follows f b → LeftOut b → Committed b (proposals f v (filter keep es)) c → Committed b (proposals f v es) c
+  More es = (b : Ledger) → Follows opens f b → LeftOut es b → Committed b (proposals f v (filter keep es)) c → Committed b (proposals f v es) c
 
-  left_out_on : (b d : Ledger) → GoesTo f b d → LeftOut b → LeftOut d
-  left_out_on b d g out e on off = by (out e on off)
+  left_out_on : (es : List Instance) (b d : Ledger) → GoesTo opens f b d → LeftOut es b → LeftOut es d
+  left_out_on es b d g out e there on off = by (out e there on off)
     where
       by : IsIdle f b e → IsIdle f d e
       by (inl m) = inl (g.moved (reads f e) m)
       by (inr rests) = inr (subst (λ (k : Numbers). RestsOnReading k f e) (sym g.numbers) rests)
+
+  behind_out : (e : Instance) (es : List Instance) (b : Ledger) → LeftOut (e ∷ es) b → LeftOut es b
+  behind_out e es b out x (k, l, h) on off = out x (suc k, omega (arith, l), h) on off
 
   pub committed_more : (es : List Instance) → More es
   committed_more [] b h out k = k
   committed_more (e ∷ es) b h out k = by (committed_more es) (keep e) refl (enabled_on f e) refl k
     where
       met : More es → enabled_on f e ≡ true → Committed b (proposal_of f v e ∷ proposals f v (filter keep es)) c → Committed b (proposal_of f v e ∷ proposals f v es) c
-      met more on (o, n, a, rest) = let g = goes_to f b h v e o on n a in (o, n, a, more (left_by b (proposal_of f v e) o) g.follows (left_out_on b (left_by b (proposal_of f v e) o) g out) rest)
+      met more on (o, n, a, rest) = let g = goes_to opens f b h v e o on n a in (o, n, a, more (left_by b (proposal_of f v e) o) g.follows (left_out_on es b (left_by b (proposal_of f v e) o) g (behind_out e es b out)) rest)
 
       over : Committed b (proposals f v es) c → IsIdle f b e → Committed b (proposal_of f v e ∷ proposals f v es) c
       over rest m = let r = idle_stays f v b e h.later m in (r.0, r.1, r.2, subst (λ (x : Ledger). Committed x (proposals f v es) c) (sym r.3) rest)
@@ -164,16 +168,16 @@ module _ (f : Sparse) (v : ℕ) (c : Ledger) (keep : Instance → Bool) where
 
       by : More es → (s : Bool) → keep e ≡ s → (t : Bool) → enabled_on f e ≡ t → Committed b (proposals f v (if s then e ∷ filter keep es else filter keep es)) c → Committed b (proposals f v (e ∷ es)) c
       by more true x true y d = with_it y (met more y (subst (λ (ps : List Proposed). Committed b ps c) (proposals_with f v e (filter keep es) y) d))
-      by more true x false y d = without_it y (more b h out (subst (λ (ps : List Proposed). Committed b ps c) (proposals_without f v e (filter keep es) y) d))
-      by more false x true y d = with_it y (over (more b h out d) (out e y x))
-      by more false x false y d = without_it y (more b h out d)
+      by more true x false y d = without_it y (more b h (behind_out e es b out) (subst (λ (ps : List Proposed). Committed b ps c) (proposals_without f v e (filter keep es) y) d))
+      by more false x true y d = with_it y (over (more b h (behind_out e es b out) d) (out e (0, omega arith, refl) y x))
+      by more false x false y d = without_it y (more b h (behind_out e es b out) d)
 
 -- ---- a pass over those that are enabled is one over all
-passed_all : (f : Sparse) (es : List Instance) (n m : Marks) (b c : Ledger) → Follows f b → Passed f (filter (enabled_on b.problem) es) n b m c → Passed f es n b m c
-passed_all f es n m b c h k = record {
+passed_all : (opens : Open) (f : Sparse) (es : List Instance) (n m : Marks) (b c : Ledger) → Follows opens f b → Passed opens f (filter (enabled_on b.problem) es) n b m c → Passed opens f es n b m c
+passed_all opens f es n m b c h k = record {
   book = k.book;
   before = k.before;
-  committed = λ v. committed_more f v c (enabled_on b.problem) es b h (λ e on off. inl (not_enabled_moved f b.problem e h.later on off)) (k.committed v);
+  committed = λ v. committed_more opens f v c (enabled_on b.problem) es b h (λ e there on off. inl (not_enabled_moved f b.problem e h.later on off)) (k.committed v);
   follows = k.follows;
   tracks = λ rest t. k.tracks rest (fewer rest t);
   moved = k.moved;
@@ -181,14 +185,14 @@ passed_all f es n m b c h k = record {
 }
   where
     fewer : (rest : List Instance) → Tracks n (es ++ rest) b → Tracks n (filter (enabled_on b.problem) es ++ rest) b
-    fewer rest t none room x on = by (t none room x on)
+    fewer rest t none room x on free = by (t none room x on free)
       where
         by : IsTracked n (es ++ rest) b x → IsTracked n (filter (enabled_on b.problem) es ++ rest) b x
         by (inl a) = inl a
         by (inr among) = inr (passes_still (enabled_on b.problem) es rest x on among)
 
 -- ---- of two lists of which none is enabled and fresh, either is passed over
-module _ (f : Sparse) (b : Ledger) (h : Follows f b) (v : ℕ) where
+module _ (opens : Open) (f : Sparse) (b : Ledger) (h : Follows opens f b) (v : ℕ) where
   none_commits : (es : List Instance) → NoneStands f b.problem es → Committed b (proposals f v es) b
   none_commits [] none = refl
   none_commits (e ∷ es) none = subst (λ (ps : List Proposed). Committed b ps b) (sym (proposals_append f v (e ∷ []) es))
@@ -197,11 +201,11 @@ module _ (f : Sparse) (b : Ledger) (h : Follows f b) (v : ℕ) where
   none_left : (c : Ledger) (es : List Instance) → NoneStands f b.problem es → Committed b (proposals f v es) c → c ≡ b
   none_left c es none k = committed_same b c b (proposals f v es) k (none_commits es none)
 
-passed_either : (f : Sparse) (es fs : List Instance) (n m : Marks) (b c : Ledger) → Follows f b → NoneStands f b.problem es → NoneStands f b.problem fs → ((x : Instance) → enabled_on b.problem x ≡ true → Contains es x → Contains fs x) → Passed f fs n b m c → Passed f es n b m c
-passed_either f es fs n m b c h none nor still k = record {
+passed_either : (opens : Open) (f : Sparse) (es fs : List Instance) (n m : Marks) (b c : Ledger) → Follows opens f b → NoneStands f b.problem es → NoneStands f b.problem fs → ((x : Instance) → enabled_on b.problem x ≡ true → is_open (open_on b.tally) x ≡ true → Contains es x → Contains fs x) → Passed opens f fs n b m c → Passed opens f es n b m c
+passed_either opens f es fs n m b c h none nor still k = record {
   book = k.book;
   before = k.before;
-  committed = λ v. subst (Committed b (proposals f v es)) (sym (none_left f b h v c fs nor (k.committed v))) (none_commits f b h v es none);
+  committed = λ v. subst (Committed b (proposals f v es)) (sym (none_left opens f b h v c fs nor (k.committed v))) (none_commits opens f b h v es none);
   follows = k.follows;
   tracks = λ rest t. k.tracks rest (other rest t);
   moved = k.moved;
@@ -209,10 +213,10 @@ passed_either f es fs n m b c h none nor still k = record {
 }
   where
     other : (rest : List Instance) → Tracks n (es ++ rest) b → Tracks n (fs ++ rest) b
-    other rest t free room x on = by (t free room x on)
+    other rest t none' room x on free = by (t none' room x on free)
       where
         behind : Contains es x ⊎ Contains rest x → IsTracked n (fs ++ rest) b x
-        behind (inl c) = inr (Contains-append_left fs rest x (still x on c))
+        behind (inl c) = inr (Contains-append_left fs rest x (still x on free c))
         behind (inr c) = inr (Contains-append_right fs rest x c)
 
         by : IsTracked n (es ++ rest) b x → IsTracked n (fs ++ rest) b x
@@ -220,15 +224,18 @@ passed_either f es fs n m b c h none nor still k = record {
         by (inr among) = behind (Contains-append_cases es rest x among)
 
 -- ---- the instances of a rule with a first id, those of the present problem in place of those of f
-pub passed_found : (f : Sparse) (r : Rule) (k : ℕ) (n m : Marks) (b c : Ledger) → Follows f b → Passed f (filter (enabled_on b.problem) (instances_from b.problem r k)) n b m c → Passed f (instances_from f r k) n b m c
-passed_found f r k n m b c h passed = by (from_stand f b.problem h.later r k) (passed_all f (instances_from b.problem r k) n m b c h passed)
+pub passed_found : (opens : Open) (f : Sparse) (r : Rule) (k : ℕ) (n m : Marks) (b c : Ledger) → Follows opens f b → Passed opens f (filter (enabled_on b.problem) (instances_from (open_on b.tally) b.problem r k)) n b m c → Passed opens f (instances_from opens f r k) n b m c
+passed_found opens f r k n m b c h passed = by (from_stand opens (open_on b.tally) f b.problem h.moves h.later r k) (passed_all opens f now n m b c h passed)
   where
-    -- what is enabled now is among the present ones
-    still : (x : Instance) → enabled_on b.problem x ≡ true → Contains (instances_from f r k) x → Contains (instances_from b.problem r k) x
-    still x on c =
-        let is = from_is f r k x c in
-        subst (λ (i : ℕ). Contains (instances_from b.problem r i) x) is.1 (subst (λ (s : Rule). Contains (instances_from b.problem s (id_at x)) x) is.0 (enabled_listed b.problem x on).there)
+    now : List Instance
+    now = instances_from (open_on b.tally) b.problem r k
 
-    by : IsAlikeFrom f b.problem (instances_from f r k) (instances_from b.problem r k) → Passed f (instances_from b.problem r k) n b m c → Passed f (instances_from f r k) n b m c
-    by (inl same) x = subst (λ (es : List Instance). Passed f es n b m c) (sym same) x
-    by (inr (none, nor)) x = passed_either f (instances_from f r k) (instances_from b.problem r k) n m b c h none nor still x
+    -- what is enabled and open now is among the present ones
+    still : (x : Instance) → enabled_on b.problem x ≡ true → is_open (open_on b.tally) x ≡ true → Contains (instances_from opens f r k) x → Contains now x
+    still x on free c =
+        let is = from_is opens f r k x c in
+        subst (λ (i : ℕ). Contains (instances_from (open_on b.tally) b.problem r i) x) is.1 (subst (λ (s : Rule). Contains (instances_from (open_on b.tally) b.problem s (id_at x)) x) is.0 (enabled_listed (open_on b.tally) b.problem x free on).there)
+
+    by : IsAlikeFrom f b.problem (instances_from opens f r k) now → Passed opens f now n b m c → Passed opens f (instances_from opens f r k) n b m c
+    by (inl same) x = subst (λ (es : List Instance). Passed opens f es n b m c) (sym same) x
+    by (inr (none, nor)) x = passed_either opens f (instances_from opens f r k) now n m b c h none nor still x

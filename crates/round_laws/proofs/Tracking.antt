@@ -18,7 +18,8 @@ use Rattle.place_laws.specs.Choosing.{proposals}
 use Rattle.place_laws.specs.Marks.{AreStirred, Grows, IsMarked, IsNoted, Marks, parts_for, RestsOnReading}
 use Rattle.dual_laws.specs.Forms.{Seen, seen_at}
 use Rattle.presolve_model.specs.declared.instance.Reach.{Reach}
-use Rattle.presolve_model.specs.Instances.{goes_by_form, reach_of, rule_at}
+use Rattle.presolve_model.specs.Instances.{goes_by_form, is_open, reach_of, rule_at}
+use Rattle.presolve_model.specs.Tallies.{Open, open_on}
 use Rattle.presolve_model.proofs.Forms.{enabled_by_form, parts_by_form}
 use Rattle.round_laws.specs.Passing.{Follows, IsTracked, Passed, Tracks}
 use Rattle.round_laws.proofs.Committing.{committed_append, proposals_append}
@@ -27,7 +28,7 @@ use Rattle.place_laws.proofs.ShortLists.{first_or_behind}
 module _ (n : Marks) (e : Instance) (es : List Instance) (b : Ledger) (t : Tracks n (e ∷ es) b) where
   -- the first one is passed over: it is not enabled
   pub tracks_over : (enabled_on b.problem e ≡ true → ⊥) → Tracks n es b
-  tracks_over h none room x on = by (t none room x on)
+  tracks_over h none room x on free = by (t none room x on free)
     where
       first : (e ≡ x) ⊎ Contains es x → IsTracked n es b x
       first (inl same) = absurd (h (subst (λ (y : Instance). enabled_on b.problem y ≡ true) (sym same) on))
@@ -39,7 +40,7 @@ module _ (n : Marks) (e : Instance) (es : List Instance) (b : Ledger) (t : Track
 
   -- the first one is marked
   pub tracks_marked : IsMarked b.numbers b.problem n e → Tracks n es b
-  tracks_marked h none room x on = by (t none room x on)
+  tracks_marked h none room x on free = by (t none room x on free)
     where
       first : (e ≡ x) ⊎ Contains es x → IsTracked n es b x
       first (inl same) = inl (subst (IsMarked b.numbers b.problem n) same h)
@@ -82,7 +83,7 @@ noted_count : (m : Marks) (r : Reach) → goes_by_form r ≡ false → parts_for
 noted_count m r t = ap (λ (s : Bool). if s then m.stirred else m.noted) t
 
 module _ (n m : Marks) (es : List Instance) (b c : Ledger) (h : AreNoted b.problem c.problem n.noted m.noted) (s : AreStirred b.problem c.problem n.stirred m.stirred) (alike : c.numbers ≡ b.numbers)
-    (sleeps : (a : Part) → Contains n.asleep a → Contains m.asleep a) where
+    (sleeps : (a : Part) → Contains n.asleep a → Contains m.asleep a) (before : (e : Instance) → is_open (open_on c.tally) e ≡ true → is_open (open_on b.tally) e ≡ true) where
   -- an instance that reads what it read
   module _ (x : Instance) (by_ends : goes_by_form (reach_of (rule_at x)) ≡ false) (same : map (read_of b.problem) (reads c.problem x) ≡ map (read_of c.problem) (reads c.problem x)) where
     still_reads : (a : Part) → Contains (reads b.problem x) a → Contains (reads c.problem x) a
@@ -113,15 +114,15 @@ module _ (n m : Marks) (es : List Instance) (b c : Ledger) (h : AreNoted b.probl
     stays_seen (inr among) = inr among
 
   pub tracks_changed : b.verdict ≡ None → length b.history < b.limit → Tracks n es b → Tracks m es c
-  tracks_changed none room t none' room' x on = by (goes_by_form (reach_of (rule_at x))) refl
+  tracks_changed none room t none' room' x on free = by (goes_by_form (reach_of (rule_at x))) refl
     where
       by_reading : goes_by_form (reach_of (rule_at x)) ≡ false → ReadsNoted m.noted (reads c.problem x) ⊎ (map (read_of b.problem) (reads c.problem x) ≡ map (read_of c.problem) (reads c.problem x)) → IsTracked m es c x
       by_reading e (inl (a, r, k)) = inl (inl (a, r, subst (λ (ps : List Part). Contains ps a) (sym (noted_count m (reach_of (rule_at x)) e)) k))
-      by_reading e (inr same) = stays x e same (t none room x (enabled_same c.problem b.problem x same ∙ on))
+      by_reading e (inr same) = stays x e same (t none room x (enabled_same c.problem b.problem x same ∙ on) (before x free))
 
       by_seeing : goes_by_form (reach_of (rule_at x)) ≡ true → ReadsNoted m.stirred (reads c.problem x) ⊎ (map (seen_at b.problem) (reads c.problem x) ≡ map (seen_at c.problem) (reads c.problem x)) → IsTracked m es c x
       by_seeing e (inl (a, r, k)) = inl (inl (a, r, subst (λ (ps : List Part). Contains ps a) (sym (stirred_count m (reach_of (rule_at x)) e)) k))
-      by_seeing e (inr same) = stays_seen x e same (t none room x (enabled_by_form c.problem b.problem x e same ∙ on))
+      by_seeing e (inr same) = stays_seen x e same (t none room x (enabled_by_form c.problem b.problem x e same ∙ on) (before x free))
 
       by : (f : Bool) → goes_by_form (reach_of (rule_at x)) ≡ f → IsTracked m es c x
       by true e = by_seeing e (parts_seen b.problem c.problem n.stirred m.stirred s (reads c.problem x))
@@ -137,7 +138,7 @@ marked_more numbers p n m e h (inl (a, r, k)) = inl (a, r, by (goes_by_form (rea
 marked_more numbers p n m e h (inr k) = let told = k.told in inr (record { told = (told.0, told.1, h.asleep told.0 told.2); rests = k.rests; by_ends = k.by_ends })
 
 pub tracks_more : (n m : Marks) (es : List Instance) (b : Ledger) → Grows n m → Tracks n es b → Tracks m es b
-tracks_more n m es b h t none room x on = by (t none room x on)
+tracks_more n m es b h t none room x on free = by (t none room x on free)
   where
     by : IsTracked n es b x → IsTracked m es b x
     by (inl k) = inl (marked_more b.numbers b.problem n m x h k)
@@ -147,8 +148,8 @@ pub grows_none : (n : Marks) → Grows n n
 grows_none n = record { noted = λ a x. x; stirred = λ a x. x; asleep = λ a x. x }
 
 -- ---- one pass after another
-pub passed_on : (f : Sparse) (es fs : List Instance) (n m k : Marks) (b c d : Ledger) → Passed f es n b m c → Passed f fs m c k d → Passed f (es ++ fs) n b k d
-passed_on f es fs n m k b c d x y = record {
+pub passed_on : (opens : Open) (f : Sparse) (es fs : List Instance) (n m k : Marks) (b c d : Ledger) → Passed opens f es n b m c → Passed opens f fs m c k d → Passed opens f (es ++ fs) n b k d
+passed_on opens f es fs n m k b c d x y = record {
   book = record { start = y.book.start ∙ x.book.start; numbers = y.book.numbers ∙ x.book.numbers; limit = y.book.limit ∙ x.book.limit };
   before = x.before;
   committed = λ v. subst (λ ps. Committed b ps d) (sym (proposals_append f v es fs)) (committed_append b c d (proposals f v es) (proposals f v fs) (x.committed v) (y.committed v));
@@ -164,5 +165,5 @@ passed_on f es fs n m k b c d x y = record {
     both_moved a (inl e) (inr h) = inr h
     both_moved a (inr h) z = inr (y.grows.noted a h)
 
-pub passed_none : (f : Sparse) (n : Marks) (b : Ledger) → Follows f b → Passed f [] n b n b
-passed_none f n b h = record { book = record { start = refl; numbers = refl; limit = refl }; before = h; committed = λ v. refl; follows = h; tracks = λ rest t. t; moved = λ a. inl refl; grows = grows_none n }
+pub passed_none : (opens : Open) (f : Sparse) (n : Marks) (b : Ledger) → Follows opens f b → Passed opens f [] n b n b
+passed_none opens f n b h = record { book = record { start = refl; numbers = refl; limit = refl }; before = h; committed = λ v. refl; follows = h; tracks = λ rest t. t; moved = λ a. inl refl; grows = grows_none n }

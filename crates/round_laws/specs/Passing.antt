@@ -8,11 +8,13 @@ use Rattle.problem_model.specs.Sparse.{Sparse}
 use Rattle.edit_laws.specs.Sizes.{SameSize}
 use Rattle.presolve_model.specs.declared.instance.Instance.{Instance}
 use Rattle.presolve_model.specs.Enabled.{enabled_on}
+use Rattle.presolve_model.specs.Instances.{is_open}
+use Rattle.presolve_model.specs.Tallies.{Open, open_on}
 use Rattle.presolve_model.specs.Ledger.{Ledger}
 use Rattle.presolve_model.specs.Ordered.{Committed}
 use Rattle.place_laws.specs.Choosing.{proposals}
 use Rattle.place_laws.specs.Marks.{Grows, IsMarked, Marks}
-use Rattle.place_laws.specs.Standing.{IsLaterAt}
+use Rattle.place_laws.specs.Standing.{IsLaterAt, Moves}
 
 -- the book was opened alike
 pub record IsSameBook (b c : Ledger) : Type 0 where
@@ -20,13 +22,15 @@ pub record IsSameBook (b c : Ledger) : Type 0 where
   pub numbers : c.numbers ≡ b.numbers
   pub limit : c.limit ≡ b.limit
 
--- The book's problem comes after f. No part has changed more often than reductions were applied, so that no number stands at its end.
-pub record Follows (f : Sparse) (b : Ledger) : Type 0 where
+-- The book's problem comes after f, where other bounds may have been open. No part has changed more often than reductions were applied, so
+-- that no number stands at its end.
+pub record Follows (opens : Open) (f : Sparse) (b : Ledger) : Type 0 where
   pub later : (a : Part) → IsLaterAt f b.problem a
   pub counted : (a : Part) → changes_of b.problem a ≤ length b.history
   pub short : b.limit < 2 ^ 64
   pub sparse : IsSparse b.problem
   pub size : SameSize f b.problem
+  pub moves : Moves f b.problem opens (open_on b.tally)
 
 -- an instance is marked, or its turn is still to come
 abbrev pub IsTracked : Marks → List Instance → Ledger → Instance → Type 0
@@ -34,15 +38,15 @@ IsTracked n es b e = IsMarked b.numbers b.problem n e ⊎ Contains es e
 
 -- where the run goes on, what is enabled is tracked
 abbrev pub Tracks : Marks → List Instance → Ledger → Type 0
-Tracks n es b = b.verdict ≡ None → length b.history < b.limit → (e : Instance) → enabled_on b.problem e ≡ true → IsTracked n es b e
+Tracks n es b = b.verdict ≡ None → length b.history < b.limit → (e : Instance) → enabled_on b.problem e ≡ true → is_open (open_on b.tally) e ≡ true → IsTracked n es b e
 
 -- The book c after a pass, with the marks m where there were n before: b comes after f, and c does; those of the instances that are enabled
 -- on f were committed; what is enabled is tracked, whatever comes after them; and each part that has changed is noted.
-pub record Passed (f : Sparse) (es : List Instance) (n : Marks) (b : Ledger) (m : Marks) (c : Ledger) : Type 0 where
+pub record Passed (opens : Open) (f : Sparse) (es : List Instance) (n : Marks) (b : Ledger) (m : Marks) (c : Ledger) : Type 0 where
   pub book : IsSameBook b c
-  pub before : Follows f b
+  pub before : Follows opens f b
   pub committed : (version : ℕ) → Committed b (proposals f version es) c
-  pub follows : Follows f c
+  pub follows : Follows opens f c
   pub tracks : (rest : List Instance) → Tracks n (es ++ rest) b → Tracks m rest c
   pub moved : (a : Part) → (changes_of c.problem a ≡ changes_of b.problem a) ⊎ Contains m.noted a
   pub grows : Grows n m

@@ -15,12 +15,13 @@ ghost use Rattle.presolve_model.specs.declared.outcome.Outcome.TheVariants.{NoMe
 ghost use Rattle.presolve_model.specs.Commits.{Allows, left_by};
 ghost use Rattle.presolve_model.specs.Enabled.{enabled_on};
 ghost use Rattle.presolve_model.specs.Given.{Proposed};
-ghost use Rattle.presolve_model.specs.Instances.{instances_from, reach_of, rests_on_reading, rule_at};
+ghost use Rattle.presolve_model.specs.Instances.{instances_from, is_open, reach_of, rests_on_reading, rule_at};
 ghost use Rattle.presolve_model.specs.Ledger.{Ledger};
 ghost use Rattle.presolve_model.specs.Ordered.{Committed, round_list};
 ghost use Rattle.presolve_model.specs.Scans.{proposal_of};
 ghost use Rattle.presolve_model.specs.Stuck.{Stuck};
 ghost use Rattle.presolve_model.specs.Tables.{heads};
+ghost use Rattle.presolve_model.specs.Tallies.{Open, open_on};
 ghost use Rattle.place_laws.specs.Choosing.{AreSorted, Around, IsComplete, visited};
 ghost use Rattle.place_laws.specs.Marks.{AreStirred, Grows, IsMarked, is_refusal, Marks, parts_for};
 ghost use Rattle.place_laws.specs.Standing.{IsFresh};
@@ -37,22 +38,22 @@ pub fn commits_are_met()
 /// number, and such a refusal rests on what it reads, it may be put to sleep in place of that. Those of a rule's instances with a first id are
 /// met that are enabled on the present problem. Passes follow one after another.
 pub fn turns_pass()
-    ensures over { (f : Sparse) (e : Instance) (n : Marks) (b : Ledger) → Follows f b → (enabled_on b.problem e ≡ true → ⊥) → Passed f (e ∷ []) n b n b }
-    ensures stale { (f : Sparse) (n m : Marks) (b : Ledger) (e : Instance) (a : Part) → Follows f b → (IsFresh f b.problem e → ⊥) → Grows n m → Contains (heads e) a → Contains (parts_for m (reach_of (rule_at e))) a → Passed f (e ∷ []) n b m b }
-    ensures met { (f : Sparse) (w : ℕ) (n m : Marks) (b c : Ledger) (e : Instance) (o : Outcome) (a : Part) → Follows f b → IsFresh f b.problem e → enabled_on b.problem e ≡ true → o ≢ NoMemory → Allows b (proposal_of b.problem w e) o → c ≡ left_by b (proposal_of b.problem w e) o → AreNoted b.problem c.problem n.noted m.noted → AreStirred b.problem c.problem n.stirred m.stirred → ((x : Part) → Contains n.asleep x → Contains m.asleep x) → Contains (heads e) a → Contains (parts_for m (reach_of (rule_at e))) a → Passed f (e ∷ []) n b m c }
-    ensures asleep { (f : Sparse) (w : ℕ) (n m : Marks) (b c : Ledger) (e : Instance) (o : Outcome) (a : Part) → Follows f b → IsFresh f b.problem e → enabled_on b.problem e ≡ true → is_refusal o ≡ true → rests_on_reading (rule_at e) ≡ true → Allows b (proposal_of b.problem w e) o → c ≡ left_by b (proposal_of b.problem w e) o → Grows n m → Contains (heads e) a → Contains m.asleep a → Passed f (e ∷ []) n b m c }
-    ensures found { (f : Sparse) (r : Rule) (k : ℕ) (n m : Marks) (b c : Ledger) → Follows f b → Passed f (filter (enabled_on b.problem) (instances_from b.problem r k)) n b m c → Passed f (instances_from f r k) n b m c }
-    ensures more { (f : Sparse) (es fs : List Instance) (n m k : Marks) (b c d : Ledger) → Passed f es n b m c → Passed f fs m c k d → Passed f (es ++ fs) n b k d }
+    ensures over { (opens : Open) (f : Sparse) (e : Instance) (n : Marks) (b : Ledger) → Follows opens f b → (enabled_on b.problem e ≡ true → ⊥) → Passed opens f (e ∷ []) n b n b }
+    ensures stale { (opens : Open) (f : Sparse) (n m : Marks) (b : Ledger) (e : Instance) (a : Part) → Follows opens f b → (IsFresh f b.problem e → ⊥) → Grows n m → Contains (heads e) a → Contains (parts_for m (reach_of (rule_at e))) a → Passed opens f (e ∷ []) n b m b }
+    ensures met { (opens : Open) (f : Sparse) (w : ℕ) (n m : Marks) (b c : Ledger) (e : Instance) (o : Outcome) (a : Part) → Follows opens f b → IsFresh f b.problem e → enabled_on b.problem e ≡ true → o ≢ NoMemory → Allows b (proposal_of b.problem w e) o → c ≡ left_by b (proposal_of b.problem w e) o → AreNoted b.problem c.problem n.noted m.noted → AreStirred b.problem c.problem n.stirred m.stirred → ((x : Part) → Contains n.asleep x → Contains m.asleep x) → Contains (heads e) a → Contains (parts_for m (reach_of (rule_at e))) a → Passed opens f (e ∷ []) n b m c }
+    ensures asleep { (opens : Open) (f : Sparse) (w : ℕ) (n m : Marks) (b c : Ledger) (e : Instance) (o : Outcome) (a : Part) → Follows opens f b → IsFresh f b.problem e → enabled_on b.problem e ≡ true → is_refusal o ≡ true → rests_on_reading (rule_at e) ≡ true → Allows b (proposal_of b.problem w e) o → c ≡ left_by b (proposal_of b.problem w e) o → Grows n m → Contains (heads e) a → Contains m.asleep a → Passed opens f (e ∷ []) n b m c }
+    ensures found { (opens : Open) (f : Sparse) (r : Rule) (k : ℕ) (n m : Marks) (b c : Ledger) → Follows opens f b → Passed opens f (filter (enabled_on b.problem) (instances_from (open_on b.tally) b.problem r k)) n b m c → Passed opens f (instances_from opens f r k) n b m c }
+    ensures more { (opens : Open) (f : Sparse) (es fs : List Instance) (n m k : Marks) (b c d : Ledger) → Passed opens f es n b m c → Passed opens f fs m c k d → Passed opens f (es ++ fs) n b k d }
 {}
 
 /// A pass over rows and columns where each enabled instance is that does not sleep commits what a round lists, with those that sleep. After
 /// it each enabled instance is marked, if the run goes on: it reads a part that is noted, or sleeps.
 pub fn passes_are_rounds()
-    ensures round { (b c : Ledger) (n : Around) (k m : Marks) → AreSorted n → IsComplete b.numbers b.problem n k.asleep → Passed b.problem (visited b.problem n) k b m c → Committed b (round_list b) c }
-    ensures marked { (b c : Ledger) (n : Around) (k m : Marks) → AreSorted n → IsComplete b.numbers b.problem n k.asleep → Passed b.problem (visited b.problem n) k b m c → c.verdict ≡ None → length c.history < c.limit → (e : Instance) → enabled_on c.problem e ≡ true → IsMarked c.numbers c.problem m e }
+    ensures round { (b c : Ledger) (n : Around) (k m : Marks) → AreSorted n → IsComplete b.numbers (open_on b.tally) b.problem n k.asleep → Passed (open_on b.tally) b.problem (visited (open_on b.tally) b.problem n) k b m c → Committed b (round_list b) c }
+    ensures marked { (b c : Ledger) (n : Around) (k m : Marks) → AreSorted n → IsComplete b.numbers (open_on b.tally) b.problem n k.asleep → Passed (open_on b.tally) b.problem (visited (open_on b.tally) b.problem n) k b m c → c.verdict ≡ None → length c.history < c.limit → (e : Instance) → enabled_on c.problem e ≡ true → is_open (open_on c.tally) e ≡ true → IsMarked c.numbers c.problem m e }
 {}
 
 /// A round that applied nothing leaves the book as it was, and nothing can be applied there.
 pub fn rounds_come_to_an_end()
-    ensures { (b c : Ledger) → b.verdict ≡ None → length b.history < b.limit → Committed b (round_list b) c → c.verdict ≡ None → length c.history ≡ length b.history → (c ≡ b) × Stuck b.numbers b.problem }
+    ensures { (b c : Ledger) → b.verdict ≡ None → length b.history < b.limit → Committed b (round_list b) c → c.verdict ≡ None → length c.history ≡ length b.history → (c ≡ b) × Stuck b.numbers (open_on b.tally) b.problem }
 {}
