@@ -1,13 +1,32 @@
-//! How often each bound of a column was tightened.
+//! How often each bound of a column was tightened. Counts stop at ten, and from there on the bound is tightened no more.
 
-ghost use Rattle.std.specs.Prelude.{◌≡◌, ◌+◌, ◌-◌, ◌<◌, ◌^◌, length, IfOk};
-ghost use Rattle.instances.specs.Counting.{count_on, counted, no_counts};
+ghost use Rattle.std.specs.Prelude.{◌≡◌, length, slice_index_or, slice_set, IfOk};
+ghost use Rattle.presolve_model.specs.Instances.{tallied};
+ghost use Rattle.presolve_model.specs.Tallies.{count_on, counted, no_counts, one_more as once_more, open_on};
 
+use presolve_model::Reduction;
 use std::alloc::{AllocError, Global};
 use std::marker::Model;
 use undo_records::Side;
 
-/// How often the lower and the upper bound of each column were tightened.
+/// One more, up to ten.
+fn one_more(count: u32) -> u32
+    ensures { result ≡ once_more count }
+{
+    if count < 10 { count + 1 } else { count }
+}
+
+/// One more at a place, if it is there.
+fn add_at(counts: &mut Vec<u32>, place: usize)
+    ensures items { counts.new.items ≡ slice_set counts.old.items place (once_more (slice_index_or counts.old.items place 0)) }
+    ensures long { length counts.new.items ≡ length counts.old.items }
+{
+    if place < counts.len() {
+        counts[place] = one_more(counts[place]);
+    }
+}
+
+/// How often the lower and the upper bound of each column were tightened, up to ten.
 #[derive(Drop)]
 pub struct Tally {
     lower: Vec<u32>,
@@ -43,7 +62,7 @@ impl Tally {
         self.lower.len()
     }
 
-    /// How often a bound of a column was tightened; of a column past the last, 0.
+    /// How often a bound of a column was tightened, up to ten; of a column past the last, 0.
     pub fn count(&self, column: u32, side: Side) -> u32
         ensures { result ≡ count_on self.now column side }
     {
@@ -57,16 +76,40 @@ impl Tally {
         }
     }
 
+    /// Whether a bound of a column may be tightened.
+    pub fn is_open(&self, column: u32, side: Side) -> bool
+        ensures { result ≡ open_on self.now column side }
+    {
+        self.count(column, side) < 10
+    }
+
     /// A bound of a column was tightened once more.
     pub fn add(&mut self, column: u32, side: Side)
-        requires there { column < length self.old.lower }
-        requires room { count_on self.old column side < 2 ^ 32 - 1 }
         ensures { self.new ≡ counted self.old column side }
     {
         let place = column as usize;
         match side {
-            Side::Lower => self.lower[place] += 1,
-            Side::Upper => self.upper[place] += 1,
+            Side::Lower => add_at(&mut self.lower, place),
+            Side::Upper => add_at(&mut self.upper, place),
+        }
+    }
+
+    /// A reduction was applied: one that tightens a bound is counted.
+    pub fn follow(&mut self, reduction: Reduction)
+        ensures { self.new ≡ tallied reduction self.old }
+    {
+        match reduction {
+            Reduction::TightenedBound { column, side, .. } => self.add(column, side),
+            Reduction::EmptyRow { .. }
+            | Reduction::SingletonRow { .. }
+            | Reduction::FixedColumn { .. }
+            | Reduction::RoundBounds { .. }
+            | Reduction::RedundantRow { .. }
+            | Reduction::RedundantSide { .. }
+            | Reduction::ForcingRow { .. }
+            | Reduction::FixedByCost { .. }
+            | Reduction::DominatedColumn { .. }
+            | Reduction::EmptyColumn { .. } => (),
         }
     }
 
