@@ -13,10 +13,12 @@ use Rattle.problem_model.specs.Sparse.{Sparse}
 use Rattle.presolve_model.specs.Instances.{instances_from, id_count}
 use Rattle.std.specs.Prelude.{if◌then◌else◌}
 use Rattle.problem_model.specs.Problems.{row_entries}
+use Rattle.activity_laws.specs.TightenedBound.{bounds_of}
 use Rattle.dual_laws.specs.DominatedColumn.{pairs_of}
+use Rattle.presolve_model.specs.Tallies.{Open}
 use Rattle.presolve_model.specs.declared.instance.Instance.{Instance}
 use Rattle.presolve_model.specs.declared.instance.Instance.TheVariants as at
-use Rattle.presolve_model.specs.declared.instance.Reduction.TheVariants.{DominatedColumn}
+use Rattle.presolve_model.specs.declared.instance.Reduction.TheVariants.{DominatedColumn, TightenedBound}
 
 gone : (lines : List Line) (k : ℕ) → length lines ≤ k → (line_at lines k).live ≡ false
 gone lines k l = ap (λ (line : Line). line.live) (get_or_past lines k no_line l)
@@ -35,6 +37,18 @@ passes_mapped t f (x ∷ xs) = by (t (f x)) (passes_mapped t f xs)
     by true ih = ap (λ es. f x ∷ es) ih
     by false ih = ih
 
+-- of two tests the order makes no difference
+pub tests_swapped : {X : Type 0} (t u : X → Bool) (xs : List X) → filter t (filter u xs) ≡ filter u (filter t xs)
+tests_swapped t u [] = refl
+tests_swapped t u (x ∷ xs) = by (t x) (u x) refl refl (tests_swapped t u xs)
+  where
+    by : (a b : Bool) → t x ≡ a → u x ≡ b → filter t (filter u xs) ≡ filter u (filter t xs)
+        → filter t (if b then x ∷ filter u xs else filter u xs) ≡ filter u (if a then x ∷ filter t xs else filter t xs)
+    by true true e f ih = rw (e, f) (ap (λ ys. x ∷ ys) ih)
+    by true false e f ih = rw f ih
+    by false true e f ih = rw e ih
+    by false false e f ih = ih
+
 -- what passed passes again
 pub passes_again : (t : Instance → Bool) (es : List Instance) → filter t (filter t es) ≡ filter t es
 passes_again t [] = refl
@@ -45,39 +59,44 @@ passes_again t (e ∷ es) = by (t e) refl (passes_again t es)
     by false h ih = ih
 
 -- no instance of a rule is enabled at an id past the rule's
-past : (p : Sparse) (rule : Rule) (k : ℕ) → id_count p rule ≤ k → filter (enabled_on p) (instances_from p rule k) ≡ []
-past p rule.CrossedBounds k l = rw (gone p.matrix.columns k l) refl
-past p rule.CrossedSides k l = rw (gone p.matrix.rows k l) refl
-past p rule.Ray k l = rw (gone p.matrix.columns k l) refl
-past p rule.EmptyRow k l = rw (gone p.matrix.rows k l) refl
-past p rule.SingletonRow k l = rw (gone p.matrix.rows k l) refl
-past p rule.FixedColumn k l = rw (gone p.matrix.columns k l) refl
-past p rule.RoundBounds k l = rw (gone p.matrix.columns k l) refl
-past p rule.FixedByCost k l = rw (gone p.matrix.columns k l) refl
-past p rule.DominatedColumn k l = none_pass (enabled_on p) (λ x. at.Reduction (DominatedColumn k x.0 x.1)) (pairs_of (row_entries p k)) (λ x. rw (gone p.matrix.rows k l) refl)
-past p rule.EmptyColumn k l = rw (gone p.matrix.columns k l) refl
+past : (opens : Open) (p : Sparse) (rule : Rule) (k : ℕ) → id_count p rule ≤ k → filter (enabled_on p) (instances_from opens p rule k) ≡ []
+past opens p rule.CrossedBounds k l = rw (gone p.matrix.columns k l) refl
+past opens p rule.CrossedSides k l = rw (gone p.matrix.rows k l) refl
+past opens p rule.OutOfReach k l = rw (gone p.matrix.rows k l) refl
+past opens p rule.Ray k l = rw (gone p.matrix.columns k l) refl
+past opens p rule.EmptyRow k l = rw (gone p.matrix.rows k l) refl
+past opens p rule.SingletonRow k l = rw (gone p.matrix.rows k l) refl
+past opens p rule.FixedColumn k l = rw (gone p.matrix.columns k l) refl
+past opens p rule.RoundBounds k l = rw (gone p.matrix.columns k l) refl
+past opens p rule.RedundantRow k l = rw (gone p.matrix.rows k l) refl
+past opens p rule.RedundantSide k l = rw (gone p.matrix.rows k l) refl
+past opens p rule.ForcingRow k l = rw (gone p.matrix.rows k l) refl
+past opens p rule.TightenedBound k l = none_pass (enabled_on p) (λ x. at.Reduction (TightenedBound k x.0 x.1)) (filter (λ x. opens x.0 x.1) (bounds_of (row_entries p k))) (λ x. rw (gone p.matrix.rows k l) refl)
+past opens p rule.FixedByCost k l = rw (gone p.matrix.columns k l) refl
+past opens p rule.DominatedColumn k l = none_pass (enabled_on p) (λ x. at.Reduction (DominatedColumn k x.0 x.1)) (pairs_of (row_entries p k)) (λ x. rw (gone p.matrix.rows k l) refl)
+past opens p rule.EmptyColumn k l = rw (gone p.matrix.columns k l) refl
 
-pub found_past : (p : Sparse) (version : ℕ) (rule : Rule) (k : ℕ) → id_count p rule ≤ k → found_at p version rule (k ∷ []) ≡ []
-found_past p version rule k l = ap (map (proposal_of p version)) (ap (filter (enabled_on p)) (append-nil (instances_from p rule k)) ∙ past p rule k l)
+pub found_past : (opens : Open) (p : Sparse) (version : ℕ) (rule : Rule) (k : ℕ) → id_count p rule ≤ k → found_at opens p version rule (k ∷ []) ≡ []
+found_past opens p version rule k l = ap (map (proposal_of p version)) (ap (filter (enabled_on p)) (append-nil (instances_from opens p rule k)) ∙ past opens p rule k l)
 
 -- ---- ids one after the other
-pub found_both : (p : Sparse) (version : ℕ) (rule : Rule) (a b : List ℕ) → found_at p version rule (a ++ b) ≡ found_at p version rule a ++ found_at p version rule b
-found_both p version rule a b =
+pub found_both : (opens : Open) (p : Sparse) (version : ℕ) (rule : Rule) (a b : List ℕ) → found_at opens p version rule (a ++ b) ≡ found_at opens p version rule a ++ found_at opens p version rule b
+found_both opens p version rule a b =
     ap (λ es. map (proposal_of p version) (filter (enabled_on p) es)) (both a)
-    ∙ ap (map (proposal_of p version)) (filter-append (enabled_on p) (instances_at p rule a) (instances_at p rule b))
-    ∙ map-append (proposal_of p version) (filter (enabled_on p) (instances_at p rule a)) (filter (enabled_on p) (instances_at p rule b))
+    ∙ ap (map (proposal_of p version)) (filter-append (enabled_on p) (instances_at opens p rule a) (instances_at opens p rule b))
+    ∙ map-append (proposal_of p version) (filter (enabled_on p) (instances_at opens p rule a)) (filter (enabled_on p) (instances_at opens p rule b))
   where
-    both : (ks : List ℕ) → instances_at p rule (ks ++ b) ≡ instances_at p rule ks ++ instances_at p rule b
+    both : (ks : List ℕ) → instances_at opens p rule (ks ++ b) ≡ instances_at opens p rule ks ++ instances_at opens p rule b
     both [] = refl
-    both (k ∷ ks) = ap (λ es. instances_from p rule k ++ es) (both ks) ∙ sym (append_assoc (instances_from p rule k) (instances_at p rule ks) (instances_at p rule b))
+    both (k ∷ ks) = ap (λ es. instances_from opens p rule k ++ es) (both ks) ∙ sym (append_assoc (instances_from opens p rule k) (instances_at opens p rule ks) (instances_at opens p rule b))
 
 range_more : (a n : ℕ) → range_with_len a (suc n) ≡ range_with_len a n ++ (a + n) ∷ []
 range_more a zero = ap (λ k. k ∷ []) (omega arith)
 range_more a (suc n) = ap (λ ks. a ∷ ks) (range_more (a + 1) n ∙ ap (λ k. range_with_len (a + 1) n ++ k ∷ []) (omega arith))
 
-pub found_more : (p : Sparse) (version : ℕ) (rule : Rule) (a n : ℕ) → found_at p version rule (range_with_len a (n + 1)) ≡ found_at p version rule (range_with_len a n) ++ found_at p version rule ((a + n) ∷ [])
-found_more p version rule a n =
+pub found_more : (opens : Open) (p : Sparse) (version : ℕ) (rule : Rule) (a n : ℕ) → found_at opens p version rule (range_with_len a (n + 1)) ≡ found_at opens p version rule (range_with_len a n) ++ found_at opens p version rule ((a + n) ∷ [])
+found_more opens p version rule a n =
     let one : n + 1 ≡ suc n = omega arith in
-    ap (λ k. found_at p version rule (range_with_len a k)) one
-    ∙ ap (found_at p version rule) (range_more a n)
-    ∙ found_both p version rule (range_with_len a n) ((a + n) ∷ [])
+    ap (λ k. found_at opens p version rule (range_with_len a k)) one
+    ∙ ap (found_at opens p version rule) (range_more a n)
+    ∙ found_both opens p version rule (range_with_len a n) ((a + n) ∷ [])

@@ -6,6 +6,7 @@ ghost use Rattle.presolve_model.specs.Enabled.{enabled_on};
 ghost use Rattle.presolve_model.specs.Tables.{edits, record_of, Computes};
 ghost use Rattle.presolve_model.specs.declared.instance.Instance.TheVariants as at;
 
+use activity_rules::{forcing_row, out_of_reach, redundant_row, redundant_side, tightened_bound};
 use dual_rules::{dominated_column, fixed_by_cost, ray};
 use presolve_model::{Instance, Reduction, Verdict};
 use problem_model::Refusal;
@@ -25,6 +26,12 @@ fn is_reduction_enabled(problem: &Problem, reduction: Reduction) -> bool
         Reduction::SingletonRow { row } => singleton_row::is_enabled(problem, row),
         Reduction::FixedColumn { column } => fixed_column::is_enabled(problem, column),
         Reduction::RoundBounds { column } => round_bounds::is_enabled(problem, column),
+        Reduction::RedundantRow { row } => redundant_row::is_enabled(problem, row),
+        Reduction::RedundantSide { row } => redundant_side::is_enabled(problem, row),
+        Reduction::ForcingRow { row } => forcing_row::is_enabled(problem, row),
+        Reduction::TightenedBound { row, column, side } => {
+            tightened_bound::is_enabled(problem, row, column, side)
+        }
         Reduction::FixedByCost { column } => fixed_by_cost::is_enabled(problem, column),
         Reduction::DominatedColumn {
             row,
@@ -41,6 +48,7 @@ fn is_verdict_enabled(problem: &Problem, verdict: Verdict) -> bool
     match verdict {
         Verdict::CrossedBounds { column } => crossed_bounds::is_enabled(problem, column),
         Verdict::CrossedSides { row } => crossed_sides::is_enabled(problem, row),
+        Verdict::OutOfReach { row } => out_of_reach::is_enabled(problem, row),
         Verdict::Ray { column } => ray::is_enabled(problem, column),
     }
 }
@@ -69,6 +77,12 @@ pub fn change(alloc: Global, problem: &Problem, reduction: Reduction) -> Result<
         Reduction::SingletonRow { row } => singleton_row::change(alloc, problem, row),
         Reduction::FixedColumn { column } => fixed_column::change(alloc, problem, column),
         Reduction::RoundBounds { column } => round_bounds::change(alloc, problem, column),
+        Reduction::RedundantRow { row } => redundant_row::change(alloc, problem, row),
+        Reduction::RedundantSide { row } => redundant_side::change(alloc, problem, row),
+        Reduction::ForcingRow { row } => forcing_row::change(alloc, problem, row),
+        Reduction::TightenedBound { row, column, side } => {
+            tightened_bound::change(alloc, problem, row, column, side)
+        }
         Reduction::FixedByCost { column } => fixed_by_cost::change(alloc, problem, column),
         Reduction::DominatedColumn {
             row,

@@ -2,17 +2,23 @@
 
 ghost use Rattle.std.specs.Prelude.{◌≡◌, ◌∷◌, ◌++◌, [], map, OnOk};
 ghost use Rattle.std.specs.List.{filter};
+ghost use Rattle.problem_model.specs.Problems.{row_entries};
+ghost use Rattle.dual_laws.specs.DominatedColumn.{pairs_of};
 ghost use Rattle.presolve_model.specs.declared.instance.Instance.TheVariants as at;
 ghost use Rattle.presolve_model.specs.declared.instance.Reduction.TheVariants as reduction;
 ghost use Rattle.presolve_model.specs.declared.instance.Rule.TheVariants as rule;
 ghost use Rattle.presolve_model.specs.Enabled.{enabled_on};
 ghost use Rattle.presolve_model.specs.Instances.{instances_from};
+ghost use Rattle.presolve_model.specs.Tallies.{open_on};
 
 use crate::enabled::is_enabled;
+use crate::tally::Tally;
+use activity_rules::tightened_bound::add_tightened;
 use dual_rules::dominated_column::pairs_at;
 use presolve_model::{Instance, Reduction, Rule, Verdict};
 use sparse_problem::Problem;
 use std::alloc::{AllocError, Global};
+use undo_records::Side;
 
 /// Adds an instance, if it is enabled.
 fn add_one(
@@ -51,31 +57,75 @@ fn add_dominated(
     row: u32,
     found: &mut Vec<Instance>,
 ) -> Result<(), AllocError>
-    ensures { OnOk result (found.new.items ≡ found.old.items ++ filter (enabled_on problem.now) (instances_from problem.now rule.DominatedColumn row)) }
+    ensures { OnOk result (found.new.items ≡ found.old.items ++ filter (enabled_on problem.now) (map (λ x. at.Reduction (reduction.DominatedColumn row x.0 x.1)) (pairs_of (row_entries problem.now row)))) }
 {
     let pairs = pairs_at(alloc, problem, row)?;
     add_pairs(row, pairs.as_slice(), found)?;
     Ok(())
 }
 
-/// Adds the enabled instances of a rule with a first id, in their order.
+/// Adds those of some bounds that may be tightened.
+fn add_bounds(
+    tally: &Tally,
+    row: u32,
+    bounds: &[(u32, Side)],
+    found: &mut Vec<Instance>,
+) -> Result<(), AllocError>
+    ensures { OnOk result (found.new.items ≡ found.old.items ++ map (λ x. at.Reduction (reduction.TightenedBound row x.0 x.1)) (filter (λ x. open_on tally.now x.0 x.1) bounds.now)) }
+{
+    let mut rest = bounds;
+    while let [(column, side), after @ ..] = rest {
+        if tally.is_open(*column, *side) {
+            found.push(Instance::Reduction(Reduction::TightenedBound {
+                row,
+                column: *column,
+                side: *side,
+            }))?;
+        }
+        rest = after;
+    }
+    Ok(())
+}
+
+/// Adds the bounds that a row tightens, and that may be.
+fn add_open(
+    alloc: Global,
+    problem: &Problem,
+    tally: &Tally,
+    row: u32,
+    found: &mut Vec<Instance>,
+) -> Result<(), AllocError>
+    ensures { OnOk result (found.new.items ≡ found.old.items ++ filter (enabled_on problem.now) (instances_from (open_on tally.now) problem.now rule.TightenedBound row)) }
+{
+    let mut bounds = Vec::new(alloc);
+    add_tightened(alloc, problem, row, &mut bounds)?;
+    add_bounds(tally, row, bounds.as_slice(), found)
+}
+
+/// Adds the enabled instances of a rule with a first id that are open, in their order.
 pub fn add_enabled(
     alloc: Global,
     problem: &Problem,
+    tally: &Tally,
     rule: Rule,
     id: u32,
     found: &mut Vec<Instance>,
 ) -> Result<(), AllocError>
-    ensures { OnOk result (found.new.items ≡ found.old.items ++ filter (enabled_on problem.now) (instances_from problem.now rule id)) }
+    ensures { OnOk result (found.new.items ≡ found.old.items ++ filter (enabled_on problem.now) (instances_from (open_on tally.now) problem.now rule id)) }
 {
     let instance = match rule {
         Rule::CrossedBounds => Instance::Verdict(Verdict::CrossedBounds { column: id }),
         Rule::CrossedSides => Instance::Verdict(Verdict::CrossedSides { row: id }),
+        Rule::OutOfReach => Instance::Verdict(Verdict::OutOfReach { row: id }),
         Rule::Ray => Instance::Verdict(Verdict::Ray { column: id }),
         Rule::EmptyRow => Instance::Reduction(Reduction::EmptyRow { row: id }),
         Rule::SingletonRow => Instance::Reduction(Reduction::SingletonRow { row: id }),
         Rule::FixedColumn => Instance::Reduction(Reduction::FixedColumn { column: id }),
         Rule::RoundBounds => Instance::Reduction(Reduction::RoundBounds { column: id }),
+        Rule::RedundantRow => Instance::Reduction(Reduction::RedundantRow { row: id }),
+        Rule::RedundantSide => Instance::Reduction(Reduction::RedundantSide { row: id }),
+        Rule::ForcingRow => Instance::Reduction(Reduction::ForcingRow { row: id }),
+        Rule::TightenedBound => return add_open(alloc, problem, tally, id, found),
         Rule::FixedByCost => Instance::Reduction(Reduction::FixedByCost { column: id }),
         Rule::DominatedColumn => return add_dominated(alloc, problem, id, found),
         Rule::EmptyColumn => Instance::Reduction(Reduction::EmptyColumn { column: id }),

@@ -4,6 +4,7 @@
 
 mod admit;
 mod applying;
+mod bounds;
 mod chunk;
 mod enabled;
 mod finding;

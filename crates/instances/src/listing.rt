@@ -10,14 +10,19 @@ ghost use Rattle.presolve_model.specs.Order.{reduction_order, verdict_order};
 use presolve_model::{Instance, Reach, Reduction, Rule, Verdict};
 
 /// The rules of verdicts in order.
-pub fn verdict_rules() -> [Rule; 3]
+pub fn verdict_rules() -> [Rule; 4]
     ensures { result ≡ verdict_order }
 {
-    [Rule::CrossedBounds, Rule::CrossedSides, Rule::Ray]
+    [
+        Rule::CrossedBounds,
+        Rule::CrossedSides,
+        Rule::OutOfReach,
+        Rule::Ray,
+    ]
 }
 
 /// The rules of reductions in order.
-pub fn reduction_rules() -> [Rule; 7]
+pub fn reduction_rules() -> [Rule; 11]
     ensures { result ≡ reduction_order }
 {
     [
@@ -25,6 +30,10 @@ pub fn reduction_rules() -> [Rule; 7]
         Rule::SingletonRow,
         Rule::FixedColumn,
         Rule::RoundBounds,
+        Rule::RedundantRow,
+        Rule::RedundantSide,
+        Rule::ForcingRow,
+        Rule::TightenedBound,
         Rule::FixedByCost,
         Rule::DominatedColumn,
         Rule::EmptyColumn,
@@ -36,7 +45,15 @@ pub fn is_of_rows(rule: Rule) -> bool
     ensures { result ≡ of_rows rule }
 {
     match rule {
-        Rule::CrossedSides | Rule::EmptyRow | Rule::SingletonRow | Rule::DominatedColumn => true,
+        Rule::CrossedSides
+        | Rule::OutOfReach
+        | Rule::EmptyRow
+        | Rule::SingletonRow
+        | Rule::RedundantRow
+        | Rule::RedundantSide
+        | Rule::ForcingRow
+        | Rule::TightenedBound
+        | Rule::DominatedColumn => true,
         Rule::CrossedBounds
         | Rule::Ray
         | Rule::FixedColumn
@@ -58,7 +75,13 @@ pub fn reach_of(rule: Rule) -> Reach
         | Rule::FixedColumn
         | Rule::RoundBounds
         | Rule::EmptyColumn => Reach::Here,
-        Rule::Ray | Rule::FixedByCost => Reach::Near,
+        Rule::OutOfReach
+        | Rule::Ray
+        | Rule::RedundantRow
+        | Rule::RedundantSide
+        | Rule::ForcingRow
+        | Rule::TightenedBound
+        | Rule::FixedByCost => Reach::Near,
         Rule::DominatedColumn => Reach::Far,
     }
 }
@@ -67,10 +90,13 @@ fn reduction_rests(reduction: Reduction) -> bool
     ensures { result ≡ rests (rule_of reduction) }
 {
     match reduction {
-        Reduction::RoundBounds { .. } => true,
+        Reduction::RoundBounds { .. } | Reduction::TightenedBound { .. } => true,
         Reduction::EmptyRow { .. }
         | Reduction::SingletonRow { .. }
         | Reduction::FixedColumn { .. }
+        | Reduction::RedundantRow { .. }
+        | Reduction::RedundantSide { .. }
+        | Reduction::ForcingRow { .. }
         | Reduction::FixedByCost { .. }
         | Reduction::DominatedColumn { .. }
         | Reduction::EmptyColumn { .. } => false,
@@ -81,7 +107,10 @@ fn verdict_rests(verdict: Verdict) -> bool
     ensures { result ≡ rests (rule_at (at.Verdict verdict)) }
 {
     match verdict {
-        Verdict::CrossedBounds { .. } | Verdict::CrossedSides { .. } | Verdict::Ray { .. } => false,
+        Verdict::CrossedBounds { .. }
+        | Verdict::CrossedSides { .. }
+        | Verdict::OutOfReach { .. }
+        | Verdict::Ray { .. } => false,
     }
 }
 
@@ -100,7 +129,8 @@ pub fn says_no_point(verdict: Verdict) -> bool
     ensures { result ≡ no_point verdict }
 {
     match verdict {
-        Verdict::CrossedBounds { .. } | Verdict::CrossedSides { .. } => true,
+        Verdict::CrossedBounds { .. } | Verdict::CrossedSides { .. } | Verdict::OutOfReach { .. } =>
+            true,
         Verdict::Ray { .. } => false,
     }
 }

@@ -5,6 +5,7 @@ ghost use Rattle.std.specs.List.{filter, range_with_len};
 ghost use Rattle.presolve_model.specs.Enabled.{enabled_on};
 ghost use Rattle.presolve_model.specs.Instances.{id_count};
 ghost use Rattle.presolve_model.specs.Scans.{found_at, found_in, proposal_of};
+ghost use Rattle.presolve_model.specs.Tallies.{open_on};
 
 use crate::chunk::Chunk;
 use crate::enabled::is_enabled;
@@ -65,36 +66,38 @@ fn visit_each(
     Ok(())
 }
 
-/// Adds the instances of a rule with a first id that are enabled.
+/// Adds the instances of a rule with a first id that are enabled and open.
 fn visit_from(
     alloc: Global,
     problem: &Problem,
+    tally: &Tally,
     version: u64,
     rule: Rule,
     id: u32,
     found: &mut Vec<Proposal>,
 ) -> Result<(), AllocError>
-    ensures { OnOk result (found.new.items ≡ found.old.items ++ found_at problem.now version rule (id ∷ [])) }
+    ensures { OnOk result (found.new.items ≡ found.old.items ++ found_at (open_on tally.now) problem.now version rule (id ∷ [])) }
 {
     let mut instances = Vec::new(alloc);
-    add_enabled(alloc, problem, rule, id, &mut instances)?;
+    add_enabled(alloc, problem, tally, rule, id, &mut instances)?;
     visit_each(alloc, problem, version, instances.as_slice(), found)
 }
 
-/// The enabled instances of a rule at these ids, in their order, each with its reading.
+/// The enabled instances of a rule that are open, at these ids, in their order, each with its reading.
 pub fn scan_at(
     alloc: Global,
     problem: &Problem,
+    tally: &Tally,
     version: u64,
     rule: Rule,
     ids: &[u32],
 ) -> Result<Vec<Proposal>, AllocError>
-    ensures { IfOk result (λ found. found.items ≡ found_at problem.now version rule ids.now) }
+    ensures { IfOk result (λ found. found.items ≡ found_at (open_on tally.now) problem.now version rule ids.now) }
 {
     let mut found = Vec::new(alloc);
     let mut rest = ids;
     while let [id, after @ ..] = rest {
-        visit_from(alloc, problem, version, rule, *id, &mut found)?;
+        visit_from(alloc, problem, tally, version, rule, *id, &mut found)?;
         rest = after;
     }
     Ok(found)
@@ -116,39 +119,49 @@ fn ids_of(problem: &Problem, rule: Rule) -> u64
 fn visit_at(
     alloc: Global,
     problem: &Problem,
+    tally: &Tally,
     version: u64,
     rule: Rule,
     id: u64,
     found: &mut Vec<Proposal>,
 ) -> Result<(), AllocError>
-    ensures { OnOk result (found.new.items ≡ found.old.items ++ found_at problem.now version rule (id ∷ [])) }
+    ensures { OnOk result (found.new.items ≡ found.old.items ++ found_at (open_on tally.now) problem.now version rule (id ∷ [])) }
 {
     if id >= ids_of(problem, rule) {
         return Ok(());
     }
-    visit_from(alloc, problem, version, rule, id as u32, found)
+    visit_from(alloc, problem, tally, version, rule, id as u32, found)
 }
 
-/// The enabled instances of a rule at so many ids in a row, in their order, each with its reading.
+/// The enabled instances of a rule that are open, at so many ids in a row, in their order, each with its reading.
 fn scan_row(
     alloc: Global,
     problem: &Problem,
+    tally: &Tally,
     version: u64,
     rule: Rule,
     first: u64,
     count: u64,
 ) -> Result<Vec<Proposal>, AllocError>
     requires { first + count < 2 ^ 64 }
-    ensures { IfOk result (λ found. found.items ≡ found_at problem.now version rule (range_with_len first count)) }
+    ensures { IfOk result (λ found. found.items ≡ found_at (open_on tally.now) problem.now version rule (range_with_len first count)) }
 {
     let mut found = Vec::new(alloc);
     for passed in 0..count {
-        visit_at(alloc, problem, version, rule, first + passed, &mut found)?;
+        visit_at(
+            alloc,
+            problem,
+            tally,
+            version,
+            rule,
+            first + passed,
+            &mut found,
+        )?;
     }
     Ok(found)
 }
 
-/// The enabled instances of a rule in a chunk of ids, in their order, each with its reading. No rule here reads the tally.
+/// The enabled instances of a rule that are open, in a chunk of ids, in their order, each with its reading.
 pub fn scan(
     alloc: Global,
     problem: &Problem,
@@ -157,9 +170,8 @@ pub fn scan(
     rule: Rule,
     chunk: Chunk,
 ) -> Result<Vec<Proposal>, AllocError>
-    ensures { IfOk result (λ found. found.items ≡ found_in problem.now version rule chunk) }
+    ensures { IfOk result (λ found. found.items ≡ found_in (open_on tally.now) problem.now version rule chunk) }
 {
-    let _ = tally;
     let start = chunk.first();
-    scan_row(alloc, problem, version, rule, start, 1024)
+    scan_row(alloc, problem, tally, version, rule, start, 1024)
 }

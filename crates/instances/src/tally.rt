@@ -1,13 +1,20 @@
-//! How often each bound of a column was tightened.
+//! How often each bound of a column was tightened. Counts stop at ten, and from there on the bound is tightened no more.
 
-ghost use Rattle.std.specs.Prelude.{◌≡◌, ◌+◌, ◌-◌, ◌<◌, ◌^◌, length, IfOk};
-ghost use Rattle.instances.specs.Counting.{count_on, counted, no_counts};
+ghost use Rattle.std.specs.Prelude.{◌≡◌, ◌<◌, length, IfOk};
+ghost use Rattle.presolve_model.specs.Tallies.{count_on, counted, no_counts, one_more as once_more, open_on};
 
 use std::alloc::{AllocError, Global};
 use std::marker::Model;
 use undo_records::Side;
 
-/// How often the lower and the upper bound of each column were tightened.
+/// One more, up to ten.
+fn one_more(count: u32) -> u32
+    ensures { result ≡ once_more count }
+{
+    if count < 10 { count + 1 } else { count }
+}
+
+/// How often the lower and the upper bound of each column were tightened, up to ten.
 #[derive(Drop)]
 pub struct Tally {
     lower: Vec<u32>,
@@ -43,7 +50,7 @@ impl Tally {
         self.lower.len()
     }
 
-    /// How often a bound of a column was tightened; of a column past the last, 0.
+    /// How often a bound of a column was tightened, up to ten; of a column past the last, 0.
     pub fn count(&self, column: u32, side: Side) -> u32
         ensures { result ≡ count_on self.now column side }
     {
@@ -57,16 +64,22 @@ impl Tally {
         }
     }
 
+    /// Whether a bound of a column may be tightened.
+    pub fn is_open(&self, column: u32, side: Side) -> bool
+        ensures { result ≡ open_on self.now column side }
+    {
+        self.count(column, side) < 10
+    }
+
     /// A bound of a column was tightened once more.
     pub fn add(&mut self, column: u32, side: Side)
-        requires there { column < length self.old.lower }
-        requires room { count_on self.old column side < 2 ^ 32 - 1 }
+        requires { column < length self.old.lower }
         ensures { self.new ≡ counted self.old column side }
     {
         let place = column as usize;
         match side {
-            Side::Lower => self.lower[place] += 1,
-            Side::Upper => self.upper[place] += 1,
+            Side::Lower => self.lower[place] = one_more(self.lower[place]),
+            Side::Upper => self.upper[place] = one_more(self.upper[place]),
         }
     }
 

@@ -28,22 +28,38 @@ const ROWS: [(&[u8], Option<Quotient>, Option<Quotient>); 3] = [
 ];
 
 /// A column's name, its bounds, and whether it is whole and stands in the first row.
-const COLUMNS: [(&[u8], Quotient, Option<Quotient>, bool); 4] = [
+type Column = (&'static [u8], Quotient, Option<Quotient>, bool);
+
+/// The columns of the first problem.
+const COLUMNS: [Column; 4] = [
     (b"w", (0, 1), Some((7, 2)), true),
     (b"x", (3, 1), Some((3, 1)), false),
     (b"y", (0, 1), None, false),
     (b"z", (2, 1), Some((1, 1)), false),
 ];
 
+/// Two columns in the first row, which bounds them from above.
+const BOUNDED: [Column; 4] = [
+    (b"w", (0, 1), Some((9, 1)), true),
+    (b"x", (0, 1), Some((9, 1)), true),
+    (b"y", (0, 1), None, false),
+    (b"z", (0, 1), Some((1, 1)), false),
+];
+
 /// Where each rule is enabled.
-const FOUND: [(Rule, &[u32]); 10] = [
+const FOUND: [(Rule, &[u32]); 15] = [
     (Rule::CrossedBounds, &[3]),
     (Rule::CrossedSides, &[2]),
+    (Rule::OutOfReach, &[]),
     (Rule::Ray, &[]),
     (Rule::EmptyRow, &[1]),
     (Rule::SingletonRow, &[0]),
     (Rule::FixedColumn, &[1]),
     (Rule::RoundBounds, &[0]),
+    (Rule::RedundantRow, &[0]),
+    (Rule::RedundantSide, &[]),
+    (Rule::ForcingRow, &[]),
+    (Rule::TightenedBound, &[]),
     (Rule::FixedByCost, &[0, 2]),
     (Rule::DominatedColumn, &[]),
     (Rule::EmptyColumn, &[2]),
@@ -109,11 +125,15 @@ fn entries(rt: &impl Abort, alloc: Global, first: bool) -> Result<Terms, AllocEr
 }
 
 /// The columns.
-fn columns(rt: &impl Abort, alloc: Global) -> Result<Vec<ColumnDef>, AllocError>
+fn columns(
+    rt: &impl Abort,
+    alloc: Global,
+    wanted: [Column; 4],
+) -> Result<Vec<ColumnDef>, AllocError>
     ensures { IfOk result (λ columns. All (λ column. Ascends 0 3 column.entries) columns.items) }
 {
     let mut columns = Vec::new(alloc);
-    for (name, lower, upper, first) in COLUMNS {
+    for (name, lower, upper, first) in wanted {
         let entries = entries(rt, alloc, first)?;
         columns.push(ColumnDef {
             name: name_of(rt, alloc, name)?,
@@ -127,9 +147,9 @@ fn columns(rt: &impl Abort, alloc: Global) -> Result<Vec<ColumnDef>, AllocError>
     Ok(columns)
 }
 
-fn small(rt: &impl Abort, alloc: Global) -> Result<Problem, AllocError> {
+fn small(rt: &impl Abort, alloc: Global, wanted: [Column; 4]) -> Result<Problem, AllocError> {
     let rows = rows(rt, alloc)?;
-    let columns = columns(rt, alloc)?;
+    let columns = columns(rt, alloc, wanted)?;
     let objective = name_of(rt, alloc, b"COST")?;
     assert!(rt; names_differ(&objective, rows.as_slice(), columns.as_slice()));
     assert!(rt; rows.len() == 3 && columns.len() == 4);
@@ -142,8 +162,13 @@ fn id_of(instance: Instance) -> u32 {
     match instance {
         Instance::Reduction(Reduction::EmptyRow { row })
         | Instance::Reduction(Reduction::SingletonRow { row })
+        | Instance::Reduction(Reduction::RedundantRow { row })
+        | Instance::Reduction(Reduction::RedundantSide { row })
+        | Instance::Reduction(Reduction::ForcingRow { row })
+        | Instance::Reduction(Reduction::TightenedBound { row, .. })
         | Instance::Reduction(Reduction::DominatedColumn { row, .. })
-        | Instance::Verdict(Verdict::CrossedSides { row }) => row,
+        | Instance::Verdict(Verdict::CrossedSides { row })
+        | Instance::Verdict(Verdict::OutOfReach { row }) => row,
         Instance::Reduction(Reduction::FixedColumn { column })
         | Instance::Reduction(Reduction::RoundBounds { column })
         | Instance::Reduction(Reduction::FixedByCost { column })
@@ -156,7 +181,7 @@ fn id_of(instance: Instance) -> u32 {
 #[test]
 fn scans_and_readings(rt: HostRuntime) -> Result<(), Fail> {
     let alloc = rt.alloc();
-    let mut problem = small(&rt, alloc)?;
+    let mut problem = small(&rt, alloc, COLUMNS)?;
     let tally = Tally::new(alloc, 4)?;
     for (rule, ids) in FOUND {
         let found = scan(alloc, &problem, &tally, 7, rule, Chunk::new(0))?;
@@ -169,7 +194,7 @@ fn scans_and_readings(rt: HostRuntime) -> Result<(), Fail> {
             let again = reading_for(alloc, &problem, instance)?;
             assert_eq!(rt; again.agrees(&problem), Ok(()));
         }
-        let same = scan_at(alloc, &problem, 7, rule, &[0, 1, 2, 3])?;
+        let same = scan_at(alloc, &problem, &tally, 7, rule, &[0, 1, 2, 3])?;
         assert_eq!(rt; same.len(), ids.len());
         let past = scan(alloc, &problem, &tally, 7, rule, Chunk::new(u32::MAX))?;
         assert_eq!(rt; past.len(), 0);
@@ -196,6 +221,58 @@ fn scans_and_readings(rt: HostRuntime) -> Result<(), Fail> {
     Ok(())
 }
 
+/// The bounds that the first row tightens, where each of some was tightened so often.
+fn tightened(
+    rt: &impl Abort,
+    alloc: Global,
+    problem: &Problem,
+    often: &[(u32, Side, u32)],
+) -> Result<Vec<(u32, Side)>, AllocError> {
+    let mut tally = Tally::new(alloc, 4)?;
+    for (column, side, count) in often {
+        for _ in 0..*count {
+            assert!(rt; (*column as usize) < tally.columns());
+            tally.add(*column, *side);
+        }
+    }
+    let mut bounds = Vec::new(alloc);
+    for proposal in scan(
+        alloc,
+        problem,
+        &tally,
+        7,
+        Rule::TightenedBound,
+        Chunk::new(0),
+    )? {
+        if let Instance::Reduction(
+            Reduction::TightenedBound { column, side, .. },
+        ) = proposal.instance()
+        {
+            bounds.push((column, side))?;
+        }
+    }
+    Ok(bounds)
+}
+
+#[test]
+fn bounds_tightened_ten_times(rt: HostRuntime) -> Result<(), Fail> {
+    let alloc = rt.alloc();
+    let problem = small(&rt, alloc, BOUNDED)?;
+    let both = tightened(
+        &rt,
+        alloc,
+        &problem,
+        &[(0, Side::Upper, 9), (1, Side::Lower, 12)],
+    )?;
+    assert_eq!(rt;
+        both.as_slice(),
+        [(0, Side::Upper), (1, Side::Upper)].as_slice()
+    );
+    let one = tightened(&rt, alloc, &problem, &[(0, Side::Upper, 10)])?;
+    assert_eq!(rt; one.as_slice(), [(1, Side::Upper)].as_slice());
+    Ok(())
+}
+
 #[test]
 fn tallies_and_chunks(rt: HostRuntime) -> Result<(), Fail> {
     let alloc = rt.alloc();
@@ -211,6 +288,16 @@ fn tallies_and_chunks(rt: HostRuntime) -> Result<(), Fail> {
     ] {
         assert_eq!(rt; copy.count(column, side), count);
     }
+    for _ in 0..12 {
+        assert!(rt; tally.columns() == 4);
+        assert_eq!(rt;
+            tally.is_open(2, Side::Lower),
+            tally.count(2, Side::Lower) < 10
+        );
+        tally.add(2, Side::Lower);
+    }
+    assert_eq!(rt; tally.count(2, Side::Lower), 10);
+    assert!(rt; !tally.is_open(2, Side::Lower) && tally.is_open(2, Side::Upper));
     for (ids, chunks) in [(0, 0), (1, 1), (1024, 1), (1025, 2)] {
         assert_eq!(rt; Chunk::count(ids), chunks);
     }

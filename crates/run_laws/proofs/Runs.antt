@@ -6,6 +6,7 @@ use Rattle.presolve_model.specs.declared.instance.Instance.{Instance}
 use Rattle.presolve_model.specs.Ledger.{Ledger}
 use Rattle.presolve_model.specs.Ordered.{Closes, Committed, enabled_verdicts, EndsIn, GoesOn, IsRound, Ordered, round_list, Stops, StopsAfter}
 use Rattle.presolve_model.specs.Stuck.{skipped_on}
+use Rattle.presolve_model.specs.Tallies.{open_on}
 use Rattle.round_laws.proofs.Committing.{committed_same}
 
 pub run_more : (b c d : Ledger) (e : Option End) → length b.history < b.limit → Committed b (round_list b) c → c.verdict ≡ None → length b.history < length c.history → Ordered c e d → Ordered b e d
@@ -14,12 +15,12 @@ run_more b c d e room h none more (n, k) = (suc n, (c, record { round = record {
 pub run_stops : (b c : Ledger) (e : Option End) → length b.history < b.limit → Committed b (round_list b) c → EndsIn b e c → Ordered b e c
 run_stops b c e room h k = (zero, inl (record { room = room; committed = h }, k))
 
-pub run_full : (b c : Ledger) (e : Option End) → b.limit ≤ length b.history → Closes b (enabled_verdicts b.problem) e c → Ordered b e c
+pub run_full : (b c : Ledger) (e : Option End) → b.limit ≤ length b.history → Closes b (enabled_verdicts (open_on b.tally) b.problem) e c → Ordered b e c
 run_full b c e full k = (zero, inr (full, k))
 
 -- ---- there is one run at most
 fixpoint_same : (b c d : Ledger) (m n : ℕ) → EndsIn b (Some (Fixpoint m)) c → EndsIn b (Some (Fixpoint n)) d → c ≡ d → Some (Fixpoint m) ≡ Some (Fixpoint n)
-fixpoint_same b c d m n x y s = ap (λ (k : ℕ). Some (Fixpoint k)) (x.2 ∙ ap (λ (z : Ledger). skipped_on z.problem) s ∙ sym y.2)
+fixpoint_same b c d m n x y s = ap (λ (k : ℕ). Some (Fixpoint k)) (x.2 ∙ ap (λ (z : Ledger). skipped_on (open_on z.tally) z.problem) s ∙ sym y.2)
 
 ends_same : (b c d : Ledger) (e f : Option End) → EndsIn b e c → EndsIn b f d → c ≡ d → e ≡ f
 ends_same b c d None None x y s = refl
@@ -41,7 +42,7 @@ stops_same : (b c d : Ledger) (e f : Option End) → Stops b e c → Stops b f d
 stops_same b c d e f (inl (x, h)) (inl (y, k)) = let s = round_same b c d x y in (ends_same b c d e f h k s, s)
 stops_same b c d e f (inl (x, h)) (inr (full, k)) = absurd (let r = x.room in omega (arith, r, full))
 stops_same b c d e f (inr (full, h)) (inl (y, k)) = absurd (let r = y.room in omega (arith, r, full))
-stops_same b c d e f (inr (full, h)) (inr (_, k)) = closes_same b c d e f (enabled_verdicts b.problem) h k
+stops_same b c d e f (inr (full, h)) (inr (_, k)) = closes_same b c d e f (enabled_verdicts (open_on b.tally) b.problem) h k
 
 goes_or_stops : (b c d : Ledger) (f : Option End) → GoesOn b c → Stops b f d → ⊥
 goes_or_stops b c d f g (inr (full, k)) = let r = g.round.room in omega (arith, r, full)
