@@ -22,7 +22,7 @@ pub fn verdict_rules() -> [Rule; 4]
 }
 
 /// The rules of reductions in order.
-pub fn reduction_rules() -> [Rule; 11]
+pub fn reduction_rules() -> [Rule; 12]
     ensures { result ≡ reduction_order }
 {
     [
@@ -34,6 +34,7 @@ pub fn reduction_rules() -> [Rule; 11]
         Rule::RedundantSide,
         Rule::ForcingRow,
         Rule::TightenedBound,
+        Rule::TightenedCoefficient,
         Rule::FixedByCost,
         Rule::DominatedColumn,
         Rule::EmptyColumn,
@@ -53,6 +54,7 @@ pub fn is_of_rows(rule: Rule) -> bool
         | Rule::RedundantSide
         | Rule::ForcingRow
         | Rule::TightenedBound
+        | Rule::TightenedCoefficient
         | Rule::DominatedColumn => true,
         Rule::CrossedBounds
         | Rule::Ray
@@ -81,6 +83,7 @@ pub fn reach_of(rule: Rule) -> Reach
         | Rule::RedundantSide
         | Rule::ForcingRow
         | Rule::TightenedBound
+        | Rule::TightenedCoefficient
         | Rule::FixedByCost => Reach::Near,
         Rule::DominatedColumn => Reach::Far,
     }
@@ -90,7 +93,9 @@ fn reduction_rests(reduction: Reduction) -> bool
     ensures { result ≡ rests (rule_of reduction) }
 {
     match reduction {
-        Reduction::RoundBounds { .. } | Reduction::TightenedBound { .. } => true,
+        Reduction::RoundBounds { .. }
+        | Reduction::TightenedBound { .. }
+        | Reduction::TightenedCoefficient { .. } => true,
         Reduction::EmptyRow { .. }
         | Reduction::SingletonRow { .. }
         | Reduction::FixedColumn { .. }
