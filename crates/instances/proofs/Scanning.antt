@@ -18,7 +18,7 @@ use Rattle.dual_laws.specs.DominatedColumn.{pairs_of}
 use Rattle.presolve_model.specs.Tallies.{Open}
 use Rattle.presolve_model.specs.declared.instance.Instance.{Instance}
 use Rattle.presolve_model.specs.declared.instance.Instance.TheVariants as at
-use Rattle.presolve_model.specs.declared.instance.Reduction.TheVariants.{DominatedColumn, TightenedBound}
+use Rattle.presolve_model.specs.declared.instance.Reduction.TheVariants.{DominatedColumn, TightenedBound, TightenedCoefficient}
 
 gone : (lines : List Line) (k : ℕ) → length lines ≤ k → (line_at lines k).live ≡ false
 gone lines k l = ap (λ (line : Line). line.live) (get_or_past lines k no_line l)
@@ -72,6 +72,7 @@ past opens p rule.RedundantRow k l = rw (gone p.matrix.rows k l) refl
 past opens p rule.RedundantSide k l = rw (gone p.matrix.rows k l) refl
 past opens p rule.ForcingRow k l = rw (gone p.matrix.rows k l) refl
 past opens p rule.TightenedBound k l = none_pass (enabled_on p) (λ x. at.Reduction (TightenedBound k x.0 x.1)) (filter (λ x. opens x.0 x.1) (bounds_of (row_entries p k))) (λ x. rw (gone p.matrix.rows k l) refl)
+past opens p rule.TightenedCoefficient k l = none_pass (enabled_on p) (λ j. at.Reduction (TightenedCoefficient k j)) (map (λ t. t.id) (row_entries p k)) (λ j. rw (gone p.matrix.rows k l) refl)
 past opens p rule.FixedByCost k l = rw (gone p.matrix.columns k l) refl
 past opens p rule.DominatedColumn k l = none_pass (enabled_on p) (λ x. at.Reduction (DominatedColumn k x.0 x.1)) (pairs_of (row_entries p k)) (λ x. rw (gone p.matrix.rows k l) refl)
 past opens p rule.EmptyColumn k l = rw (gone p.matrix.columns k l) refl

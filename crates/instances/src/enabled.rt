@@ -7,6 +7,7 @@ ghost use Rattle.presolve_model.specs.Tables.{edits, record_of, Computes};
 ghost use Rattle.presolve_model.specs.declared.instance.Instance.TheVariants as at;
 
 use activity_rules::{forcing_row, out_of_reach, redundant_row, redundant_side, tightened_bound};
+use coef_rules::tightened_coefficient;
 use dual_rules::{dominated_column, fixed_by_cost, ray};
 use presolve_model::{Instance, Reduction, Verdict};
 use problem_model::Refusal;
@@ -31,6 +32,9 @@ fn is_reduction_enabled(problem: &Problem, reduction: Reduction) -> bool
         Reduction::ForcingRow { row } => forcing_row::is_enabled(problem, row),
         Reduction::TightenedBound { row, column, side } => {
             tightened_bound::is_enabled(problem, row, column, side)
+        }
+        Reduction::TightenedCoefficient { row, column } => {
+            tightened_coefficient::is_enabled(problem, row, column)
         }
         Reduction::FixedByCost { column } => fixed_by_cost::is_enabled(problem, column),
         Reduction::DominatedColumn {
@@ -82,6 +86,9 @@ pub fn change(alloc: Global, problem: &Problem, reduction: Reduction) -> Result<
         Reduction::ForcingRow { row } => forcing_row::change(alloc, problem, row),
         Reduction::TightenedBound { row, column, side } => {
             tightened_bound::change(alloc, problem, row, column, side)
+        }
+        Reduction::TightenedCoefficient { row, column } => {
+            tightened_coefficient::change(alloc, problem, row, column)
         }
         Reduction::FixedByCost { column } => fixed_by_cost::change(alloc, problem, column),
         Reduction::DominatedColumn {

@@ -102,6 +102,35 @@ fn add_open(
     add_bounds(tally, row, bounds.as_slice(), found)
 }
 
+/// Adds the coefficients of a row in some columns.
+fn add_coefficients(row: u32, columns: &[u32], found: &mut Vec<Instance>) -> Result<(), AllocError>
+    ensures { OnOk result (found.new.items ≡ found.old.items ++ map (λ j. at.Reduction (reduction.TightenedCoefficient row j)) columns.now) }
+{
+    let mut rest = columns;
+    while let [column, after @ ..] = rest {
+        found.push(Instance::Reduction(Reduction::TightenedCoefficient {
+            row,
+            column: *column,
+        }))?;
+        rest = after;
+    }
+    Ok(())
+}
+
+/// Adds the coefficients of a row that can be tightened.
+fn add_shrinking(
+    alloc: Global,
+    problem: &Problem,
+    row: u32,
+    found: &mut Vec<Instance>,
+) -> Result<(), AllocError>
+    ensures { OnOk result (found.new.items ≡ found.old.items ++ filter (enabled_on problem.now) (map (λ j. at.Reduction (reduction.TightenedCoefficient row j)) (map (λ t. t.id) (row_entries problem.now row)))) }
+{
+    let mut columns = Vec::new(alloc);
+    coef_rules::add_tightened(alloc, problem, row, &mut columns)?;
+    add_coefficients(row, columns.as_slice(), found)
+}
+
 /// Adds the enabled instances of a rule with a first id that are open, in their order.
 pub fn add_enabled(
     alloc: Global,
@@ -126,6 +155,7 @@ pub fn add_enabled(
         Rule::RedundantSide => Instance::Reduction(Reduction::RedundantSide { row: id }),
         Rule::ForcingRow => Instance::Reduction(Reduction::ForcingRow { row: id }),
         Rule::TightenedBound => return add_open(alloc, problem, tally, id, found),
+        Rule::TightenedCoefficient => return add_shrinking(alloc, problem, id, found),
         Rule::FixedByCost => Instance::Reduction(Reduction::FixedByCost { column: id }),
         Rule::DominatedColumn => return add_dominated(alloc, problem, id, found),
         Rule::EmptyColumn => Instance::Reduction(Reduction::EmptyColumn { column: id }),

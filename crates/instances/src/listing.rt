@@ -22,7 +22,7 @@ pub fn verdict_rules() -> [Rule; 4]
 }
 
 /// The rules of reductions in order.
-pub fn reduction_rules() -> [Rule; 11]
+pub fn reduction_rules() -> [Rule; 12]
     ensures { result ≡ reduction_order }
 {
     [
@@ -34,6 +34,7 @@ pub fn reduction_rules() -> [Rule; 11]
         Rule::RedundantSide,
         Rule::ForcingRow,
         Rule::TightenedBound,
+        Rule::TightenedCoefficient,
         Rule::FixedByCost,
         Rule::DominatedColumn,
         Rule::EmptyColumn,
@@ -49,6 +50,12 @@ pub fn reach_of(rule: Rule) -> Reach
         Rule::CrossedBounds | Rule::FixedColumn | Rule::RoundBounds | Rule::EmptyColumn => {
             Reach::OwnColumn
         }
+        Rule::OutOfReach
+        | Rule::RedundantRow
+        | Rule::RedundantSide
+        | Rule::ForcingRow
+        | Rule::TightenedBound
+        | Rule::TightenedCoefficient => Reach::RowsOfBounds,
         Rule::Ray | Rule::FixedByCost => Reach::ColumnsOfSides,
         Rule::DominatedColumn => Reach::RowsOfBoth,
     }
@@ -73,6 +80,11 @@ fn reduction_goes_by_form(reduction: Reduction) -> bool
         | Reduction::SingletonRow { .. }
         | Reduction::FixedColumn { .. }
         | Reduction::RoundBounds { .. }
+        | Reduction::RedundantRow { .. }
+        | Reduction::RedundantSide { .. }
+        | Reduction::ForcingRow { .. }
+        | Reduction::TightenedBound { .. }
+        | Reduction::TightenedCoefficient { .. }
         | Reduction::EmptyColumn { .. } => false,
     }
 }
@@ -81,7 +93,9 @@ fn verdict_goes_by_form(verdict: Verdict) -> bool
     ensures { result ≡ by_form (reach (rule_at (at.Verdict verdict))) }
 {
     match verdict {
-        Verdict::CrossedBounds { .. } | Verdict::CrossedSides { .. } => false,
+        Verdict::CrossedBounds { .. }
+        | Verdict::CrossedSides { .. }
+        | Verdict::OutOfReach { .. } => false,
         Verdict::Ray { .. } => true,
     }
 }
@@ -100,7 +114,9 @@ fn reduction_rests(reduction: Reduction) -> bool
     ensures { result ≡ rests (rule_of reduction) }
 {
     match reduction {
-        Reduction::RoundBounds { .. } | Reduction::TightenedBound { .. } => true,
+        Reduction::RoundBounds { .. }
+        | Reduction::TightenedBound { .. }
+        | Reduction::TightenedCoefficient { .. } => true,
         Reduction::EmptyRow { .. }
         | Reduction::SingletonRow { .. }
         | Reduction::FixedColumn { .. }

@@ -47,7 +47,7 @@ const BOUNDED: [Column; 4] = [
 ];
 
 /// Where each rule is enabled.
-const FOUND: [(Rule, &[u32]); 15] = [
+const FOUND: [(Rule, &[u32]); 16] = [
     (Rule::CrossedBounds, &[3]),
     (Rule::CrossedSides, &[2]),
     (Rule::OutOfReach, &[]),
@@ -60,6 +60,7 @@ const FOUND: [(Rule, &[u32]); 15] = [
     (Rule::RedundantSide, &[]),
     (Rule::ForcingRow, &[]),
     (Rule::TightenedBound, &[]),
+    (Rule::TightenedCoefficient, &[]),
     (Rule::FixedByCost, &[0, 2]),
     (Rule::DominatedColumn, &[]),
     (Rule::EmptyColumn, &[2]),
@@ -166,6 +167,7 @@ fn id_of(instance: Instance) -> u32 {
         | Instance::Reduction(Reduction::RedundantSide { row })
         | Instance::Reduction(Reduction::ForcingRow { row })
         | Instance::Reduction(Reduction::TightenedBound { row, .. })
+        | Instance::Reduction(Reduction::TightenedCoefficient { row, .. })
         | Instance::Reduction(Reduction::DominatedColumn { row, .. })
         | Instance::Verdict(Verdict::CrossedSides { row })
         | Instance::Verdict(Verdict::OutOfReach { row }) => row,

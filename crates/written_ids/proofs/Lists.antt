@@ -1,6 +1,6 @@
 -- Lists whose items stand one for one.
-use Rattle.std.proofs.Common.{◌≡◌, ◌↔◌, List, [], ◌∷◌, ◌++◌, map, refl, subst, sym, ap₂, ◌∙◌}
-use Rattle.std.specs.List.{All, flat_map}
+use Rattle.std.proofs.Common.{◌≡◌, ◌↔◌, Bool, true, false, cond, List, [], ◌∷◌, ◌++◌, map, refl, subst, sym, ap₂, ◌∙◌}
+use Rattle.std.specs.List.{All, filter, flat_map}
 use Rattle.std.proofs.lemmas.List.{map-append}
 use Rattle.std.proofs.lemmas.List.Elements.{All-append, All-cons, All-head, All-nil, All-tail}
 
@@ -34,6 +34,17 @@ pub flat_across : {X X' Y Y' : Type 0} (f : X → X') (old : X → List Y) (g : 
     → (xs : List X) → flat_map new (map f xs) ≡ map g (flat_map old xs)
 flat_across f old g new e [] = refl
 flat_across f old g new e (x ∷ xs) = ap₂ ◌++◌ (e x) (flat_across f old g new e xs) ∙ sym (map-append g (old x) (flat_map old xs))
+
+-- a test passes items before a change where another one passes them after it
+pub filter_across : {X Y : Type 0} (f : X → Y) (old : X → Bool) (new : Y → Bool) (xs : List X) → All (λ x. new (f x) ≡ old x) xs → filter new (map f xs) ≡ map f (filter old xs)
+filter_across f old new [] h = refl
+filter_across f old new (x ∷ xs) h =
+    ap₂ (λ (b : Bool) (ys : List _). cond b (f x ∷ ys) ys) (All-head (λ x. new (f x) ≡ old x) x xs h) (filter_across f old new xs (All-tail (λ x. new (f x) ≡ old x) x xs h))
+    ∙ step (old x)
+  where
+    step : (b : Bool) → cond b (f x ∷ map f (filter old xs)) (map f (filter old xs)) ≡ map f (cond b (x ∷ filter old xs) (filter old xs))
+    step true = refl
+    step false = refl
 
 pub all_flat : {X Y : Type 0} (P : Y → Type 0) (f : X → List Y) (xs : List X) → All (λ x. All P (f x)) xs → All P (flat_map f xs)
 all_flat P f [] h = All-nil P

@@ -104,7 +104,7 @@ module _ (f : ℕ → ℕ) (j : ℕ) (ss : List Span) (h : All (NamesAlike f j) 
   implied_by Lower a l u = let x = rest_by f Greatest j ss h in let y = rest_by f Least j ss h in λ t. if lt_ℚ zero_ℚ a then tightened.left_over a l (x t) else tightened.left_over a u (y t)
   implied_by Upper a l u = let x = rest_by f Greatest j ss h in let y = rest_by f Least j ss h in λ t. if lt_ℚ zero_ℚ a then tightened.left_over a u (y t) else tightened.left_over a l (x t)
 
-  entry_by : (xs : List Span) → All (NamesAlike f j) xs → tightened.entry_at (f j) (spans_by f xs) ≡ option_map (span_by f) (tightened.entry_at j xs)
+  pub entry_by : (xs : List Span) → All (NamesAlike f j) xs → tightened.entry_at (f j) (spans_by f xs) ≡ option_map (span_by f) (tightened.entry_at j xs)
   entry_by [] g = refl
   entry_by (x ∷ xs) g =
       ap₂ (λ (b : Bool) (o : Option Span). if b then Some (span_by f x) else o) (All-head (NamesAlike f j) x xs g) (entry_by xs (All-tail (NamesAlike f j) x xs g))
@@ -125,7 +125,7 @@ module _ (f : ℕ → ℕ) (j : ℕ) (ss : List Span) (h : All (NamesAlike f j) 
       (ap (tightened.is_tightened_at side (f j) l u (spans_by f ss)) (entry_by ss h) ∙ tightened_at_by side l u (tightened.entry_at j ss))
 
 -- the spans of a row are at live columns, and so is column j
-spans_alike : (n : Ids) (p : Sparse) → AreOneToOne n p → (i j : ℕ) → (column_at p j).live ≡ true → All (NamesAlike n.column j) (spans_of p i)
+pub spans_alike : (n : Ids) (p : Sparse) → AreOneToOne n p → (i j : ℕ) → (column_at p j).live ≡ true → All (NamesAlike n.column j) (spans_of p i)
 spans_alike n p o i j on = let ts : List Term = row_entries p i in
     All-map (NamesAlike n.column j) (span_of p) ts (λ k d m. equal_at n.column p.matrix.columns o.column (get_or ts k d).id j (row_entries-live p i k d m) on)
 

@@ -1,9 +1,9 @@
 -- What the rules say at other ids, by cases: one line a rule, and what a rule reads and computes in a lemma of its own.
 use Rattle.std.proofs.Common.{◌≡◌, ◌↔◌, ℕ, true, ◌&&◌, List, [], ◌∷◌, ◌++◌, get_or, map, Option, unwrap_or, refl, sym, ap, ap₂, ◌∙◌, subst, arith}
 use Rattle.std.specs.Prelude.{if◌then◌else◌}
-use Rattle.std.specs.List.{All}
+use Rattle.std.specs.List.{All, filter}
 use Rattle.std.proofs.lemmas.List.{map-append}
-use Rattle.std.proofs.lemmas.List.Elements.{All-head, All-map, All-nil, All-tail}
+use Rattle.std.proofs.lemmas.List.Elements.{All-filter, All-head, All-map, All-nil, All-tail}
 use Rattle.rational.specs.Number.{Number, zero_ℚ, ◌*ℚ◌}
 use Rattle.rational.specs.Ends.{less, meet_low, meet_high}
 use Rattle.rational.specs.Lowest.{Fits}
@@ -13,6 +13,7 @@ use Rattle.lp_model.specs.EndTests.{holds_zero, is_apart, is_in_order, is_place}
 use Rattle.lp_theory.specs.MetEnds.{lower_over, upper_over}
 use Rattle.lp_columns.specs.EmptyColumn.{resting_place}
 use Rattle.lp_columns.specs.RoundBounds.{rounded_up, rounded_down}
+use Rattle.undo_records.specs.declared.side.Side.{Side}
 use Rattle.problem_model.specs.declared.edit.Edit.{Edit}
 use Rattle.problem_model.specs.declared.edit.Edit.TheVariants.{DeleteRow, SetBounds, SetSides}
 use Rattle.problem_model.specs.declared.line.Line.{Line}
@@ -41,6 +42,15 @@ use Rattle.singleton_laws.proofs.RoundBounds as round_bounds
 use Rattle.singleton_laws.proofs.EmptyColumn as empty_column
 use Rattle.singleton_laws.proofs.CrossedBounds as crossed_bounds
 use Rattle.singleton_laws.proofs.CrossedSides as crossed_sides
+use Rattle.activity_laws.specs.ForcingRow.{is_forcing_row}
+use Rattle.activity_laws.specs.OutOfReach.{is_out_of_reach}
+use Rattle.activity_laws.specs.RedundantRow.{is_redundant_row}
+use Rattle.activity_laws.specs.RedundantSide.{has_redundant_side}
+use Rattle.activity_laws.specs.Rows.{heads, row_found}
+use Rattle.activity_laws.specs.TightenedBound.{bounds_of}
+use Rattle.activity_laws.proofs.Rows.{said}
+use Rattle.activity_laws.proofs.TightenedBound as tightened_bound
+use Rattle.coef_laws.proofs.Changing as coefficients
 use Rattle.dual_laws.specs.DominatedColumn.{pairs_of}
 use Rattle.dual_laws.proofs.FixedByCost as fixed_by_cost
 use Rattle.dual_laws.proofs.DominatedColumn as dominated_column
@@ -48,23 +58,28 @@ use Rattle.dual_laws.proofs.Ray as ray
 use Rattle.presolve_model.specs.declared.instance.Instance.{Instance}
 use Rattle.presolve_model.specs.declared.instance.Instance.TheVariants as at
 use Rattle.presolve_model.specs.declared.instance.Reduction.{Reduction}
-use Rattle.presolve_model.specs.declared.instance.Reduction.TheVariants.{EmptyRow, SingletonRow, FixedColumn, RoundBounds, FixedByCost, DominatedColumn, EmptyColumn}
+use Rattle.presolve_model.specs.declared.instance.Reduction.TheVariants.{EmptyRow, SingletonRow, FixedColumn, RoundBounds, RedundantRow, RedundantSide, ForcingRow, TightenedBound, TightenedCoefficient, FixedByCost, DominatedColumn, EmptyColumn}
 use Rattle.presolve_model.specs.declared.instance.Rule.{Rule}
 use Rattle.presolve_model.specs.declared.instance.Rule.TheVariants as rule
 use Rattle.presolve_model.specs.declared.instance.Verdict.{Verdict}
-use Rattle.presolve_model.specs.declared.instance.Verdict.TheVariants.{CrossedBounds, CrossedSides, Ray}
+use Rattle.presolve_model.specs.declared.instance.Verdict.TheVariants.{CrossedBounds, CrossedSides, OutOfReach, Ray}
 use Rattle.presolve_model.specs.Enabled.{enabled_on}
-use Rattle.presolve_model.specs.Instances.{instances_from, is_of_rows}
+use Rattle.presolve_model.specs.Instances.{instances_from, is_of_rows, is_open}
 use Rattle.presolve_model.specs.Tables.{Computes, edits, heads_of, holds_by, holds_of, looked_at_by, more_by, more_of}
+use Rattle.presolve_model.specs.Tallies.{Open}
 use Rattle.written_ids.specs.NewIds.{Ids, new_ids, term_at, terms_at}
 use Rattle.written_ids.specs.Standing.{AreOneToOne, LinesStand}
-use Rattle.written_ids.proofs.Lists.{all_both, all_one, all_two, both_by, both_then}
+use Rattle.written_ids.proofs.Ends.{all_bounds_live, all_ids_live, at_ids, bounds_of_at, ids_in, side_at}
+use Rattle.written_ids.proofs.Lists.{all_both, all_one, all_two, both_by, both_then, filter_across, map_across}
 use Rattle.written_ids.proofs.Naming.{entries_read, sides_read_at, sides_read_there}
 use Rattle.written_ids.proofs.NewIds.{contents_at, edit_at, id_of, none_at, one_at, part_at}
 use Rattle.written_ids.proofs.Pairs.{all_pairs, at_pairs}
 use Rattle.written_ids.proofs.Standing.{AreThere, IsThere, one_part, two_parts}
+use Rattle.written_laws.specs.Left.{AreOpenAlike}
+use Rattle.written_laws.proofs.Activities.{bound_there, bounds_read_at, bounds_read_there, forcing_row_alike, forcing_row_edits, out_of_reach_alike, redundant_row_alike, redundant_row_edits, redundant_side_alike, redundant_side_edits, row_there, tightened_alike, tightened_edits, tightened_there}
 use Rattle.written_laws.proofs.DominatedColumn.{dominated_alike, lines_there, sides_of_both_at, sides_of_both_there}
 use Rattle.written_laws.proofs.Locks.{fixed_by_cost_alike, place_kept, ray_alike}
+use Rattle.written_laws.proofs.TightenedCoefficient.{coefficient_alike, coefficient_computes, coefficient_edits, coefficient_there}
 
 -- ---- instances at other ids
 abbrev pub reduction_at : Ids → Reduction → Reduction
@@ -72,6 +87,11 @@ reduction_at n (EmptyRow i) = EmptyRow (n.row i)
 reduction_at n (SingletonRow i) = SingletonRow (n.row i)
 reduction_at n (FixedColumn j) = FixedColumn (n.column j)
 reduction_at n (RoundBounds j) = RoundBounds (n.column j)
+reduction_at n (RedundantRow i) = RedundantRow (n.row i)
+reduction_at n (RedundantSide i) = RedundantSide (n.row i)
+reduction_at n (ForcingRow i) = ForcingRow (n.row i)
+reduction_at n (TightenedBound i j side) = TightenedBound (n.row i) (n.column j) side
+reduction_at n (TightenedCoefficient i j) = TightenedCoefficient (n.row i) (n.column j)
 reduction_at n (FixedByCost j) = FixedByCost (n.column j)
 reduction_at n (DominatedColumn i j k) = DominatedColumn (n.row i) (n.column j) (n.column k)
 reduction_at n (EmptyColumn j) = EmptyColumn (n.column j)
@@ -79,6 +99,7 @@ reduction_at n (EmptyColumn j) = EmptyColumn (n.column j)
 abbrev pub verdict_at : Ids → Verdict → Verdict
 verdict_at n (CrossedBounds j) = CrossedBounds (n.column j)
 verdict_at n (CrossedSides i) = CrossedSides (n.row i)
+verdict_at n (OutOfReach i) = OutOfReach (n.row i)
 verdict_at n (Ray j) = Ray (n.column j)
 
 abbrev pub instance_at : Ids → Instance → Instance
@@ -87,7 +108,9 @@ instance_at n (at.Verdict v) = at.Verdict (verdict_at n v)
 
 -- ---- the parts at which an instance is, with all its ids: its heads, and what of its ids these do not have
 abbrev pub beside : Reduction → List Part
-beside r = []
+beside (TightenedBound i j side) = Bounds j ∷ []
+beside (TightenedCoefficient i j) = Bounds j ∷ []
+beside other = []
 
 abbrev pub own_of : Reduction → List Part
 own_of r = heads_of r ++ beside r
@@ -97,7 +120,9 @@ own (at.Reduction r) = own_of r
 own (at.Verdict v) = looked_at_by v
 
 pub reduction_beside : (n : Ids) (r : Reduction) → beside (reduction_at n r) ≡ map (part_at n) (beside r)
-reduction_beside n r = refl
+reduction_beside n (TightenedBound i j side) = refl
+reduction_beside n (TightenedCoefficient i j) = refl
+reduction_beside n other = refl
 
 -- ---- what is read
 pub reduction_heads : (n : Ids) (r : Reduction) → heads_of (reduction_at n r) ≡ map (part_at n) (heads_of r)
@@ -105,6 +130,11 @@ reduction_heads n (EmptyRow i) = refl
 reduction_heads n (SingletonRow i) = refl
 reduction_heads n (FixedColumn j) = refl
 reduction_heads n (RoundBounds j) = refl
+reduction_heads n (RedundantRow i) = refl
+reduction_heads n (RedundantSide i) = refl
+reduction_heads n (ForcingRow i) = refl
+reduction_heads n (TightenedBound i j side) = refl
+reduction_heads n (TightenedCoefficient i j) = refl
 reduction_heads n (FixedByCost j) = refl
 reduction_heads n (DominatedColumn i j k) = refl
 reduction_heads n (EmptyColumn j) = refl
@@ -112,6 +142,7 @@ reduction_heads n (EmptyColumn j) = refl
 pub verdict_heads : (n : Ids) (v : Verdict) → looked_at_by (verdict_at n v) ≡ map (part_at n) (looked_at_by v)
 verdict_heads n (CrossedBounds j) = refl
 verdict_heads n (CrossedSides i) = refl
+verdict_heads n (OutOfReach i) = refl
 verdict_heads n (Ray j) = refl
 
 -- what is read by what the heads hold
@@ -121,6 +152,11 @@ module _ (n : Ids) (p : Sparse) (o : AreOneToOne n p) where
   reduction_more (SingletonRow i) = refl
   reduction_more (FixedColumn j) = refl
   reduction_more (RoundBounds j) = refl
+  reduction_more (RedundantRow i) = bounds_read_at n p i
+  reduction_more (RedundantSide i) = bounds_read_at n p i
+  reduction_more (ForcingRow i) = bounds_read_at n p i
+  reduction_more (TightenedBound i j side) = bounds_read_at n p i
+  reduction_more (TightenedCoefficient i j) = bounds_read_at n p i
   reduction_more (FixedByCost j) = sides_read_at n p j
   reduction_more (DominatedColumn i j k) = sides_of_both_at n p o j k
   reduction_more (EmptyColumn j) = refl
@@ -128,6 +164,7 @@ module _ (n : Ids) (p : Sparse) (o : AreOneToOne n p) where
   pub verdict_more : (v : Verdict) → more_by (verdict_at n v) (map (contents_at n) (map (contents_of p) (looked_at_by v))) ≡ map (part_at n) (more_by v (map (contents_of p) (looked_at_by v)))
   verdict_more (CrossedBounds j) = refl
   verdict_more (CrossedSides i) = refl
+  verdict_more (OutOfReach i) = bounds_read_at n p i
   verdict_more (Ray j) = sides_read_at n p j
 
 -- what the heads name is live
@@ -136,6 +173,11 @@ reduction_names p (EmptyRow i) = All-nil (IsThere p)
 reduction_names p (SingletonRow i) = All-nil (IsThere p)
 reduction_names p (FixedColumn j) = All-nil (IsThere p)
 reduction_names p (RoundBounds j) = All-nil (IsThere p)
+reduction_names p (RedundantRow i) = bounds_read_there p i
+reduction_names p (RedundantSide i) = bounds_read_there p i
+reduction_names p (ForcingRow i) = bounds_read_there p i
+reduction_names p (TightenedBound i j side) = bounds_read_there p i
+reduction_names p (TightenedCoefficient i j) = bounds_read_there p i
 reduction_names p (FixedByCost j) = sides_read_there p j
 reduction_names p (DominatedColumn i j k) = sides_of_both_there p j k
 reduction_names p (EmptyColumn j) = All-nil (IsThere p)
@@ -143,6 +185,7 @@ reduction_names p (EmptyColumn j) = All-nil (IsThere p)
 pub verdict_names : (p : Sparse) (v : Verdict) → All (IsThere p) (more_by v (map (contents_of p) (looked_at_by v)))
 verdict_names p (CrossedBounds j) = All-nil (IsThere p)
 verdict_names p (CrossedSides i) = All-nil (IsThere p)
+verdict_names p (OutOfReach i) = bounds_read_there p i
 verdict_names p (Ray j) = sides_read_there p j
 
 -- ---- the conditions are the same
@@ -181,6 +224,11 @@ module _ (n : Ids) (p : Sparse) (o : AreOneToOne n p) where
   reduction_holds (SingletonRow i) h = singleton_row_alike n (contents_of p (Row i)) (contents_of p (Sides i))
   reduction_holds (FixedColumn j) h = fixed_column_alike n (contents_of p (Col j)) (contents_of p (Bounds j))
   reduction_holds (RoundBounds j) h = round_bounds_alike n (contents_of p (Bounds j))
+  reduction_holds (RedundantRow i) h = redundant_row_alike n (row_found p i)
+  reduction_holds (RedundantSide i) h = redundant_side_alike n (row_found p i)
+  reduction_holds (ForcingRow i) h = forcing_row_alike n (row_found p i)
+  reduction_holds (TightenedBound i j side) h = tightened_alike n p o i j side (h 2 (Row i) (omega arith))
+  reduction_holds (TightenedCoefficient i j) h = coefficient_alike n p o i j (h 2 (Row i) (omega arith))
   reduction_holds (FixedByCost j) h = fixed_by_cost_alike n (contents_of p (Col j)) (contents_of p (Bounds j)) (map (contents_of p) (sides_of (entries_read p j)))
   reduction_holds (DominatedColumn i j k) h = dominated_alike n p o i j k (h 1 (Row i) (omega arith)) (h 2 (Row i) (omega arith)) (h 0 (Row i) (omega arith))
   reduction_holds (EmptyColumn j) h = empty_column_alike n (contents_of p (Col j)) (contents_of p (Bounds j))
@@ -189,6 +237,7 @@ module _ (n : Ids) (p : Sparse) (o : AreOneToOne n p) where
       → holds_by (verdict_at n v) (map (contents_at n) (found_on (looked_at_by v) (more_by v) p)) ≡ holds_by v (found_on (looked_at_by v) (more_by v) p)
   verdict_holds (CrossedBounds j) h = crossed_bounds_alike n (contents_of p (Bounds j))
   verdict_holds (CrossedSides i) h = crossed_sides_alike n (contents_of p (Sides i))
+  verdict_holds (OutOfReach i) h = out_of_reach_alike n (row_found p i)
   verdict_holds (Ray j) h = ray_alike n (contents_of p (Col j)) (contents_of p (Bounds j)) (map (contents_of p) (sides_of (entries_read p j)))
 
 -- ---- nothing is enabled at what is not live
@@ -197,6 +246,11 @@ reduction_there p (EmptyRow i) e = let on = (empty_row.said p i e).live in all_t
 reduction_there p (SingletonRow i) e = let on = (singleton_row.said p i e).live in all_two (IsThere p) (Row i) (Sides i) on on
 reduction_there p (FixedColumn j) e = let on = (fixed_column.said p j e).live in all_two (IsThere p) (Col j) (Bounds j) on on
 reduction_there p (RoundBounds j) e = all_one (IsThere p) (Bounds j) (round_bounds.said p j e).live
+reduction_there p (RedundantRow i) e = row_there is_redundant_row p i e
+reduction_there p (RedundantSide i) e = row_there has_redundant_side p i e
+reduction_there p (ForcingRow i) e = row_there is_forcing_row p i e
+reduction_there p (TightenedBound i j side) e = tightened_there p i j side e
+reduction_there p (TightenedCoefficient i j) e = coefficient_there p i j e
 reduction_there p (FixedByCost j) e = let on = (fixed_by_cost.said p j e).live in all_two (IsThere p) (Col j) (Bounds j) on on
 reduction_there p (DominatedColumn i j k) e = let o = dominated_column.said p i j k e in lines_there p i j k o.row_live o.first_live o.second_live
 reduction_there p (EmptyColumn j) e = let on = (empty_column.said p j e).live in all_two (IsThere p) (Col j) (Bounds j) on on
@@ -204,6 +258,7 @@ reduction_there p (EmptyColumn j) e = let on = (empty_column.said p j e).live in
 pub verdict_there : (p : Sparse) (v : Verdict) → enabled_on p (at.Verdict v) ≡ true → All (IsThere p) (looked_at_by v)
 verdict_there p (CrossedBounds j) e = all_one (IsThere p) (Bounds j) (crossed_bounds.said p j e).live
 verdict_there p (CrossedSides i) e = all_one (IsThere p) (Sides i) (crossed_sides.said p i e).live
+verdict_there p (OutOfReach i) e = row_there is_out_of_reach p i e
 verdict_there p (Ray j) e = let on = (ray.said p j e).live in all_two (IsThere p) (Col j) (Bounds j) on on
 
 -- ---- ids that come back
@@ -215,6 +270,11 @@ reduction_back n m (EmptyRow i) h = ap (λ k. EmptyRow k) (All-head (ComesBack n
 reduction_back n m (SingletonRow i) h = ap (λ k. SingletonRow k) (All-head (ComesBack n m) (Row i) (Sides i ∷ []) h)
 reduction_back n m (FixedColumn j) h = ap (λ k. FixedColumn k) (All-head (ComesBack n m) (Col j) (Bounds j ∷ []) h)
 reduction_back n m (RoundBounds j) h = ap (λ k. RoundBounds k) (All-head (ComesBack n m) (Bounds j) [] h)
+reduction_back n m (RedundantRow i) h = ap (λ k. RedundantRow k) (All-head (ComesBack n m) (Row i) (Sides i ∷ []) h)
+reduction_back n m (RedundantSide i) h = ap (λ k. RedundantSide k) (All-head (ComesBack n m) (Row i) (Sides i ∷ []) h)
+reduction_back n m (ForcingRow i) h = ap (λ k. ForcingRow k) (All-head (ComesBack n m) (Row i) (Sides i ∷ []) h)
+reduction_back n m (TightenedBound i j side) h = λ t. TightenedBound (h 0 (Row i) (omega arith) t) (h 2 (Row i) (omega arith) t) side
+reduction_back n m (TightenedCoefficient i j) h = λ t. TightenedCoefficient (h 0 (Row i) (omega arith) t) (h 2 (Row i) (omega arith) t)
 reduction_back n m (FixedByCost j) h = ap (λ k. FixedByCost k) (All-head (ComesBack n m) (Col j) (Bounds j ∷ []) h)
 reduction_back n m (DominatedColumn i j k) h = λ t. DominatedColumn (h 0 (Row i) (omega arith) t) (h 1 (Row i) (omega arith) t) (h 2 (Row i) (omega arith) t)
 reduction_back n m (EmptyColumn j) h = ap (λ k. EmptyColumn k) (All-head (ComesBack n m) (Col j) (Bounds j ∷ []) h)
@@ -222,6 +282,7 @@ reduction_back n m (EmptyColumn j) h = ap (λ k. EmptyColumn k) (All-head (Comes
 pub verdict_back : (n m : Ids) (v : Verdict) → All (ComesBack n m) (looked_at_by v) → verdict_at n (verdict_at m v) ≡ v
 verdict_back n m (CrossedBounds j) h = ap (λ k. CrossedBounds k) (All-head (ComesBack n m) (Bounds j) [] h)
 verdict_back n m (CrossedSides i) h = ap (λ k. CrossedSides k) (All-head (ComesBack n m) (Sides i) [] h)
+verdict_back n m (OutOfReach i) h = ap (λ k. OutOfReach k) (All-head (ComesBack n m) (Row i) (Sides i ∷ []) h)
 verdict_back n m (Ray j) h = ap (λ k. Ray k) (All-head (ComesBack n m) (Col j) (Bounds j ∷ []) h)
 
 -- ---- edits, and the numbers that are computed
@@ -290,6 +351,11 @@ module _ (n : Ids) (p q : Sparse) (s : LinesStand n p q) where
   edits_stand (SingletonRow i) e = singleton_row_edits i (singleton_row.said p i e)
   edits_stand (FixedColumn j) e = fixed_column_edits j (fixed_column.said p j e).live
   edits_stand (RoundBounds j) e = let c = s.column j (round_bounds.said p j e).live in λ t. SetBounds (n.column j) (rounded_up (c.lower t)) (rounded_down (c.upper t)) ∷ []
+  edits_stand (RedundantRow i) e = redundant_row_edits n p q s i
+  edits_stand (RedundantSide i) e = redundant_side_edits n p q s i (said has_redundant_side p i e).live
+  edits_stand (ForcingRow i) e = forcing_row_edits n p q s i (said is_forcing_row p i e).live
+  edits_stand (TightenedBound i j side) e = tightened_edits n p q s i (tightened_bound.row_live p i j side e) j side (tightened_bound.column_live p i j side e)
+  edits_stand (TightenedCoefficient i j) e = coefficient_edits n p q s i j (coefficients.row_live p i j e) (coefficients.column_live p i j e)
   edits_stand (FixedByCost j) e = ap (λ (o : Option Number). SetBounds (n.column j) o o ∷ []) (place_kept n p q s j (fixed_by_cost.said p j e).live)
   edits_stand (DominatedColumn i j k) e = let c = s.column k (dominated_column.said p i j k e).second_live in λ t. SetBounds (n.column k) (c.lower t) (c.lower t) ∷ []
   edits_stand (EmptyColumn j) e = ap (λ (o : Option Number). SetBounds (n.column j) o o ∷ []) (place_same j (empty_column.said p j e).live)
@@ -300,9 +366,20 @@ module _ (n : Ids) (p q : Sparse) (s : LinesStand n p q) where
   computes_stand (SingletonRow i) e = singleton_row_computes i (singleton_row.said p i e)
   computes_stand (FixedColumn j) e = fixed_column_computes j (fixed_column.said p j e).live
   computes_stand (RoundBounds j) e = (λ h. h, λ h. h)
+  computes_stand (RedundantRow i) e = (λ h. h, λ h. h)
+  computes_stand (RedundantSide i) e = (λ h. h, λ h. h)
+  computes_stand (ForcingRow i) e = (λ h. h, λ h. h)
+  computes_stand (TightenedBound i j side) e = (λ h. h, λ h. h)
+  computes_stand (TightenedCoefficient i j) e = coefficient_computes n p q s i j (coefficients.row_live p i j e) (coefficients.column_live p i j e)
   computes_stand (FixedByCost j) e = (λ h. h, λ h. h)
   computes_stand (DominatedColumn i j k) e = (λ h. h, λ h. h)
   computes_stand (EmptyColumn j) e = (λ h. h, λ h. h)
+
+-- ---- a bound that is open at its new id, and every other instance
+pub open_stands : (old : Open) (p : Sparse) (new : Open) → AreOpenAlike old p new → (r : Reduction) → AreThere p (own_of r)
+    → is_open new (at.Reduction (reduction_at (new_ids p) r)) ≡ is_open old (at.Reduction r)
+open_stands old p new a (TightenedBound i j side) h = a j side (h 2 (Row i) (omega arith))
+open_stands old p new a other h = refl
 
 -- the lines that the first ids of a rule name
 abbrev pub lines_of : Sparse → Rule → List Line
@@ -329,27 +406,84 @@ dominated_at_line p i = let pairs = pairs_of (row_entries p i) in
     let on = all_pairs (λ j. (column_at p j).live ≡ true) (row_entries p i) (row_entries-live p i) a d l in
     (λ h. lines_there p i x.0 x.1 h on.0 on.1, λ h. h 0 (Row i) (omega arith)))
 
-pub instances_stand : (p q : Sparse) → LinesStand (new_ids p) p q → (kind : Rule) (k : ℕ) → (line_at (lines_of p kind) k).live ≡ true
-    → instances_from q kind (rank (lines_of p kind) k) ≡ map (instance_at (new_ids p)) (instances_from p kind k)
-instances_stand p q s rule.CrossedBounds k on = refl
-instances_stand p q s rule.CrossedSides k on = refl
-instances_stand p q s rule.Ray k on = refl
-instances_stand p q s rule.EmptyRow k on = refl
-instances_stand p q s rule.SingletonRow k on = refl
-instances_stand p q s rule.FixedColumn k on = refl
-instances_stand p q s rule.RoundBounds k on = refl
-instances_stand p q s rule.FixedByCost k on = refl
-instances_stand p q s rule.DominatedColumn k on = dominated_stand p q s k on
-instances_stand p q s rule.EmptyColumn k on = refl
+-- K8 has one for each bound of a column of a row that is open
+abbrev tightened_in : ℕ → ℕ × Side → Instance
+tightened_in i x = at.Reduction (TightenedBound i x.0 x.1)
 
-pub instances_at_line : (p : Sparse) (kind : Rule) (k : ℕ) → All (IsAtLine p kind k) (instances_from p kind k)
-instances_at_line p rule.CrossedBounds k = all_one (IsAtLine p rule.CrossedBounds k) (at.Verdict (CrossedBounds k)) (one_part p (Bounds k))
-instances_at_line p rule.CrossedSides k = all_one (IsAtLine p rule.CrossedSides k) (at.Verdict (CrossedSides k)) (one_part p (Sides k))
-instances_at_line p rule.Ray k = all_one (IsAtLine p rule.Ray k) (at.Verdict (Ray k)) (two_parts p (Col k) (Bounds k) (λ h. h))
-instances_at_line p rule.EmptyRow k = all_one (IsAtLine p rule.EmptyRow k) (at.Reduction (EmptyRow k)) (two_parts p (Row k) (Sides k) (λ h. h))
-instances_at_line p rule.SingletonRow k = all_one (IsAtLine p rule.SingletonRow k) (at.Reduction (SingletonRow k)) (two_parts p (Row k) (Sides k) (λ h. h))
-instances_at_line p rule.FixedColumn k = all_one (IsAtLine p rule.FixedColumn k) (at.Reduction (FixedColumn k)) (two_parts p (Col k) (Bounds k) (λ h. h))
-instances_at_line p rule.RoundBounds k = all_one (IsAtLine p rule.RoundBounds k) (at.Reduction (RoundBounds k)) (one_part p (Bounds k))
-instances_at_line p rule.FixedByCost k = all_one (IsAtLine p rule.FixedByCost k) (at.Reduction (FixedByCost k)) (two_parts p (Col k) (Bounds k) (λ h. h))
-instances_at_line p rule.DominatedColumn k = dominated_at_line p k
-instances_at_line p rule.EmptyColumn k = all_one (IsAtLine p rule.EmptyColumn k) (at.Reduction (EmptyColumn k)) (two_parts p (Col k) (Bounds k) (λ h. h))
+abbrev open_bounds : Open → List Term → List (ℕ × Side)
+open_bounds opens ts = filter (λ x. opens x.0 x.1) (bounds_of ts)
+
+tightened_stand : (old : Open) (p : Sparse) (new : Open) (q : Sparse) → LinesStand (new_ids p) p q → AreOpenAlike old p new → (i : ℕ) → (row_at p i).live ≡ true
+    → map (tightened_in (rank p.matrix.rows i)) (open_bounds new (row_entries q (rank p.matrix.rows i))) ≡ map (instance_at (new_ids p)) (map (tightened_in i) (open_bounds old (row_entries p i)))
+tightened_stand old p new q s a i on = let n = new_ids p in let ts = row_entries p i in
+    ap (λ us. map (tightened_in (n.row i)) (open_bounds new us)) (s.row i on).entries
+    ∙ ap (λ (xs : List (ℕ × Side)). map (tightened_in (n.row i)) (filter (λ x. new x.0 x.1) xs)) (bounds_of_at n.column ts)
+    ∙ ap (map (tightened_in (n.row i))) (filter_across (side_at n.column) (λ x. old x.0 x.1) (λ x. new x.0 x.1) (bounds_of ts)
+    (λ k d l. let x = get_or (bounds_of ts) k d in a x.0 x.1 (all_bounds_live p i k d l)))
+    ∙ map_across (side_at n.column) (tightened_in i) (instance_at n) (tightened_in (n.row i)) (λ x. refl) (open_bounds old ts)
+
+-- where there is one, the columns are live
+with_column : (p : Sparse) (kind : Rule) (i j : ℕ) (e : Instance) → own e ≡ heads i ++ Bounds j ∷ [] → (line_at (lines_of p kind) i).live ≡ (row_at p i).live → (column_at p j).live ≡ true → IsAtLine p kind i e
+with_column p kind i j e is line on = (
+  λ h. subst (AreThere p) (sym is) (bound_there p i j (sym line ∙ h) on),
+  λ h. line ∙ subst (AreThere p) is h 0 (Row i) (omega arith),
+)
+
+tightened_at_line : (opens : Open) (p : Sparse) (i : ℕ) → All (IsAtLine p rule.TightenedBound i) (map (tightened_in i) (open_bounds opens (row_entries p i)))
+tightened_at_line opens p i = let bounds = open_bounds opens (row_entries p i) in
+    All-map (IsAtLine p rule.TightenedBound i) (tightened_in i) bounds (λ a d l.
+    let x = get_or bounds a d in
+    with_column p rule.TightenedBound i x.0 (tightened_in i x) refl refl
+    (All-filter (λ x. opens x.0 x.1) (λ (x : ℕ × Side). (column_at p x.0).live ≡ true) (bounds_of (row_entries p i)) (all_bounds_live p i) a d l))
+
+-- K9 has one for each column of a row
+abbrev coefficient_in : ℕ → ℕ → Instance
+coefficient_in i j = at.Reduction (TightenedCoefficient i j)
+
+coefficients_stand : (p q : Sparse) → LinesStand (new_ids p) p q → (i : ℕ) → (row_at p i).live ≡ true
+    → map (coefficient_in (rank p.matrix.rows i)) (ids_in (row_entries q (rank p.matrix.rows i))) ≡ map (instance_at (new_ids p)) (map (coefficient_in i) (ids_in (row_entries p i)))
+coefficients_stand p q s i on = let n = new_ids p in
+    ap (λ ts. map (coefficient_in (n.row i)) (ids_in ts)) (s.row i on).entries
+    ∙ at_ids n.column (coefficient_in i) (instance_at n) (coefficient_in (n.row i)) (λ j. refl) (row_entries p i)
+
+coefficients_at_line : (p : Sparse) (i : ℕ) → All (IsAtLine p rule.TightenedCoefficient i) (map (coefficient_in i) (ids_in (row_entries p i)))
+coefficients_at_line p i = let js = ids_in (row_entries p i) in
+    All-map (IsAtLine p rule.TightenedCoefficient i) (coefficient_in i) js (λ a d l.
+    let j = get_or js a d in with_column p rule.TightenedCoefficient i j (coefficient_in i j) refl refl (all_ids_live p i a d l))
+
+pub instances_stand : (old : Open) (p : Sparse) (new : Open) (q : Sparse) → LinesStand (new_ids p) p q → AreOpenAlike old p new → (kind : Rule) (k : ℕ) → (line_at (lines_of p kind) k).live ≡ true
+    → instances_from new q kind (rank (lines_of p kind) k) ≡ map (instance_at (new_ids p)) (instances_from old p kind k)
+instances_stand old p new q s a rule.CrossedBounds k on = refl
+instances_stand old p new q s a rule.CrossedSides k on = refl
+instances_stand old p new q s a rule.OutOfReach k on = refl
+instances_stand old p new q s a rule.Ray k on = refl
+instances_stand old p new q s a rule.EmptyRow k on = refl
+instances_stand old p new q s a rule.SingletonRow k on = refl
+instances_stand old p new q s a rule.FixedColumn k on = refl
+instances_stand old p new q s a rule.RoundBounds k on = refl
+instances_stand old p new q s a rule.RedundantRow k on = refl
+instances_stand old p new q s a rule.RedundantSide k on = refl
+instances_stand old p new q s a rule.ForcingRow k on = refl
+instances_stand old p new q s a rule.TightenedBound k on = tightened_stand old p new q s a k on
+instances_stand old p new q s a rule.TightenedCoefficient k on = coefficients_stand p q s k on
+instances_stand old p new q s a rule.FixedByCost k on = refl
+instances_stand old p new q s a rule.DominatedColumn k on = dominated_stand p q s k on
+instances_stand old p new q s a rule.EmptyColumn k on = refl
+
+pub instances_at_line : (opens : Open) (p : Sparse) (kind : Rule) (k : ℕ) → All (IsAtLine p kind k) (instances_from opens p kind k)
+instances_at_line opens p rule.CrossedBounds k = all_one (IsAtLine p rule.CrossedBounds k) (at.Verdict (CrossedBounds k)) (one_part p (Bounds k))
+instances_at_line opens p rule.CrossedSides k = all_one (IsAtLine p rule.CrossedSides k) (at.Verdict (CrossedSides k)) (one_part p (Sides k))
+instances_at_line opens p rule.OutOfReach k = all_one (IsAtLine p rule.OutOfReach k) (at.Verdict (OutOfReach k)) (two_parts p (Row k) (Sides k) (λ h. h))
+instances_at_line opens p rule.Ray k = all_one (IsAtLine p rule.Ray k) (at.Verdict (Ray k)) (two_parts p (Col k) (Bounds k) (λ h. h))
+instances_at_line opens p rule.EmptyRow k = all_one (IsAtLine p rule.EmptyRow k) (at.Reduction (EmptyRow k)) (two_parts p (Row k) (Sides k) (λ h. h))
+instances_at_line opens p rule.SingletonRow k = all_one (IsAtLine p rule.SingletonRow k) (at.Reduction (SingletonRow k)) (two_parts p (Row k) (Sides k) (λ h. h))
+instances_at_line opens p rule.FixedColumn k = all_one (IsAtLine p rule.FixedColumn k) (at.Reduction (FixedColumn k)) (two_parts p (Col k) (Bounds k) (λ h. h))
+instances_at_line opens p rule.RoundBounds k = all_one (IsAtLine p rule.RoundBounds k) (at.Reduction (RoundBounds k)) (one_part p (Bounds k))
+instances_at_line opens p rule.RedundantRow k = all_one (IsAtLine p rule.RedundantRow k) (at.Reduction (RedundantRow k)) (two_parts p (Row k) (Sides k) (λ h. h))
+instances_at_line opens p rule.RedundantSide k = all_one (IsAtLine p rule.RedundantSide k) (at.Reduction (RedundantSide k)) (two_parts p (Row k) (Sides k) (λ h. h))
+instances_at_line opens p rule.ForcingRow k = all_one (IsAtLine p rule.ForcingRow k) (at.Reduction (ForcingRow k)) (two_parts p (Row k) (Sides k) (λ h. h))
+instances_at_line opens p rule.TightenedBound k = tightened_at_line opens p k
+instances_at_line opens p rule.TightenedCoefficient k = coefficients_at_line p k
+instances_at_line opens p rule.FixedByCost k = all_one (IsAtLine p rule.FixedByCost k) (at.Reduction (FixedByCost k)) (two_parts p (Col k) (Bounds k) (λ h. h))
+instances_at_line opens p rule.DominatedColumn k = dominated_at_line p k
+instances_at_line opens p rule.EmptyColumn k = all_one (IsAtLine p rule.EmptyColumn k) (at.Reduction (EmptyColumn k)) (two_parts p (Col k) (Bounds k) (λ h. h))

@@ -17,8 +17,10 @@ use Rattle.presolve_model.specs.Instances.{id_count, instances_from, is_of_rows}
 use Rattle.presolve_model.specs.Order.{reduction_order}
 use Rattle.presolve_model.specs.Scans.{all_ids, all_of, instances_at}
 use Rattle.presolve_model.specs.Stuck.{skipped_on}
+use Rattle.presolve_model.specs.Tallies.{Open}
 use Rattle.written_ids.specs.NewIds.{new_ids}
 use Rattle.written_ids.specs.Standing.{IsLeft}
+use Rattle.written_laws.specs.Left.{AreOpenAlike}
 use Rattle.written_laws.proofs.ByCases.{instance_at, instances_at_line, instances_stand, lines_of}
 use Rattle.written_laws.proofs.Tabled.{enabled_stands, there_where_enabled}
 
@@ -77,11 +79,11 @@ module _ (t u : Instance → Bool) (f g : ℕ → List Instance) where
       by false e ih = let none = h.dead 0 k e (omega arith) in let rest = ih b (after_dead (λ i. passing t (f i)) (λ a. passing u (g a)) k b y ls e h) in omega (arith, none, rest)
 
 -- ---- over rules
-module _ (p q : Sparse) (l : IsLeft p q) where
-  at_live : (kind : Rule) (i : ℕ) → (line_at (lines_of p kind) i).live ≡ true → passing (enabled_on q) (instances_from q kind (rank (lines_of p kind) i)) ≡ passing (enabled_on p) (instances_from p kind i)
-  at_live kind i h = ap (passing (enabled_on q)) (instances_stand p q l.stands kind i h)
-      ∙ passing_alike (enabled_on p) (enabled_on q) (instance_at (new_ids p)) (instances_from p kind i)
-      (λ k d m. let e = get_or (instances_from p kind i) k d in enabled_stands (new_ids p) p q l.stands e ((instances_at_line p kind i k d m).0 h))
+module _ (old : Open) (p : Sparse) (new : Open) (q : Sparse) (l : IsLeft p q) (a : AreOpenAlike old p new) where
+  at_live : (kind : Rule) (i : ℕ) → (line_at (lines_of p kind) i).live ≡ true → passing (enabled_on q) (instances_from new q kind (rank (lines_of p kind) i)) ≡ passing (enabled_on p) (instances_from old p kind i)
+  at_live kind i h = ap (passing (enabled_on q)) (instances_stand old p new q l.stands a kind i h)
+      ∙ passing_alike (enabled_on p) (enabled_on q) (instance_at (new_ids p)) (instances_from old p kind i)
+      (λ k d m. let e = get_or (instances_from old p kind i) k d in enabled_stands (new_ids p) p q l.stands e ((instances_at_line old p kind i k d m).0 h))
 
   not_enabled : (e : Instance) → (enabled_on p e ≡ true → ⊥) → enabled_on p e ≡ false
   not_enabled e none = by (enabled_on p e) refl
@@ -90,9 +92,9 @@ module _ (p q : Sparse) (l : IsLeft p q) where
       by true on = absurd (none on)
       by false on = refl
 
-  at_dead : (kind : Rule) (i : ℕ) → (line_at (lines_of p kind) i).live ≡ false → passing (enabled_on p) (instances_from p kind i) ≡ 0
-  at_dead kind i h = passing_none (enabled_on p) (instances_from p kind i)
-      (λ k d m. let e = get_or (instances_from p kind i) k d in not_enabled e (λ on. not_both ((instances_at_line p kind i k d m).1 (there_where_enabled p e on)) h))
+  at_dead : (kind : Rule) (i : ℕ) → (line_at (lines_of p kind) i).live ≡ false → passing (enabled_on p) (instances_from old p kind i) ≡ 0
+  at_dead kind i h = passing_none (enabled_on p) (instances_from old p kind i)
+      (λ k d m. let e = get_or (instances_from old p kind i) k d in not_enabled e (λ on. not_both ((instances_at_line old p kind i k d m).1 (there_where_enabled p e on)) h))
 
   ids_left : (kind : Rule) → id_count q kind ≡ length (live_ids (lines_of p kind))
   ids_left kind = by (is_of_rows kind)
@@ -108,20 +110,20 @@ module _ (p q : Sparse) (l : IsLeft p q) where
       by true = refl
       by false = refl
 
-  of_rule : (kind : Rule) → passing (enabled_on q) (instances_at q kind (all_ids q kind)) ≡ passing (enabled_on p) (instances_at p kind (all_ids p kind))
+  of_rule : (kind : Rule) → passing (enabled_on q) (instances_at new q kind (all_ids q kind)) ≡ passing (enabled_on p) (instances_at old p kind (all_ids p kind))
   of_rule kind =
-      ap (λ (n : ℕ). passing (enabled_on q) (instances_at q kind (range_with_len 0 n))) (ids_left kind)
-      ∙ over_lines (enabled_on p) (enabled_on q) (instances_from p kind) (instances_from q kind) 0 0 (lines_of p kind) (record {
-        live = λ i j a h e d. ap (λ x. passing (enabled_on q) (instances_from q kind x)) (omega (arith, d)) ∙ at_live kind i h ∙ ap (λ x. passing (enabled_on p) (instances_from p kind x)) (omega (arith, e));
-        dead = λ i j h e. ap (λ x. passing (enabled_on p) (instances_from p kind x)) (omega (arith, e)) ∙ at_dead kind i h;
+      ap (λ (n : ℕ). passing (enabled_on q) (instances_at new q kind (range_with_len 0 n))) (ids_left kind)
+      ∙ over_lines (enabled_on p) (enabled_on q) (instances_from old p kind) (instances_from new q kind) 0 0 (lines_of p kind) (record {
+        live = λ i j b h e d. ap (λ x. passing (enabled_on q) (instances_from new q kind x)) (omega (arith, d)) ∙ at_live kind i h ∙ ap (λ x. passing (enabled_on p) (instances_from old p kind x)) (omega (arith, e));
+        dead = λ i j h e. ap (λ x. passing (enabled_on p) (instances_from old p kind x)) (omega (arith, e)) ∙ at_dead kind i h;
       })
-      ∙ ap (λ (n : ℕ). passing (enabled_on p) (instances_at p kind (range_with_len 0 n))) (ids_all kind)
+      ∙ ap (λ (n : ℕ). passing (enabled_on p) (instances_at old p kind (range_with_len 0 n))) (ids_all kind)
 
-  of_rules : (rules : List Rule) → passing (enabled_on q) (all_of q rules) ≡ passing (enabled_on p) (all_of p rules)
+  of_rules : (rules : List Rule) → passing (enabled_on q) (all_of new q rules) ≡ passing (enabled_on p) (all_of old p rules)
   of_rules [] = refl
-  of_rules (kind ∷ rules) = passing_more (enabled_on q) (instances_at q kind (all_ids q kind)) (all_of q rules)
+  of_rules (kind ∷ rules) = passing_more (enabled_on q) (instances_at new q kind (all_ids q kind)) (all_of new q rules)
       ∙ ap₂ ◌+◌ (of_rule kind) (of_rules rules)
-      ∙ sym (passing_more (enabled_on p) (instances_at p kind (all_ids p kind)) (all_of p rules))
+      ∙ sym (passing_more (enabled_on p) (instances_at old p kind (all_ids p kind)) (all_of old p rules))
 
-  pub skipped_same : skipped_on q ≡ skipped_on p
+  pub skipped_same : skipped_on new q ≡ skipped_on old p
   skipped_same = of_rules reduction_order

@@ -14,13 +14,15 @@ use Rattle.presolve_model.specs.declared.instance.Reduction.{Reduction}
 use Rattle.presolve_model.specs.Enabled.{enabled_on}
 use Rattle.presolve_model.specs.Replay.{CanApply}
 use Rattle.presolve_model.specs.Stuck.{IsUndecided, Stuck}
-use Rattle.written_laws.specs.Left.{HaveSameLeft}
+use Rattle.presolve_model.specs.Instances.{is_open}
+use Rattle.presolve_model.specs.Tallies.{Open}
+use Rattle.written_laws.specs.Left.{AreOpenAlike, HaveSameLeft}
 use Rattle.written_ids.specs.NewIds.{new_ids}
 use Rattle.written_ids.specs.Standing.{IsLeft}
 use Rattle.written_ids.proofs.NewIds.{old_ids}
 use Rattle.written_ids.proofs.Standing.{AreThere}
 use Rattle.written_ids.proofs.WrittenStand.{still_of, written_left}
-use Rattle.written_laws.proofs.ByCases.{instance_at, own, own_of, reduction_at, verdict_at}
+use Rattle.written_laws.proofs.ByCases.{instance_at, open_stands, own, own_of, reduction_at, verdict_at}
 use Rattle.written_laws.proofs.Counting.{skipped_same}
 use Rattle.written_laws.proofs.Tabled.{applies_stand, enabled_stands, own_back, instances_back, reductions_back, there_where_enabled}
 
@@ -53,15 +55,24 @@ module _ (p q : Sparse) (l : IsLeft p q) where
         (applies_stand (new_ids p) p q l.stands numbers (reduction_at (old_ids p) r) l.offset (own_back p q l (at.Reduction r) h)).1
         (subst (CanApply numbers q) (sym (reductions_back p q l r h)) c)
 
-    stuck_same : Stuck numbers p ↔ Stuck numbers q
-    stuck_same = (
-      λ s. record { undecided = undecided_same.0 s.undecided; reductions = λ r c. s.reductions (reduction_at (old_ids p) r) (applies_back r c) },
-      λ s. record { undecided = undecided_same.1 s.undecided; reductions = λ r c. s.reductions (reduction_at (new_ids p) r) (applies_there r c) },
-    )
+    module _ (old new : Open) (a : AreOpenAlike old p new) where
+      open_there : (r : Reduction) → CanApply numbers p r → is_open new (at.Reduction (reduction_at (new_ids p) r)) ≡ is_open old (at.Reduction r)
+      open_there r c = open_stands old p new a r (there_where_enabled p (at.Reduction r) c.enabled)
 
-    pub same_left : HaveSameLeft numbers p q
-    same_left = record { undecided = undecided_same; stuck = stuck_same; skipped = skipped_same p q l }
+      open_back : (r : Reduction) → CanApply numbers q r → is_open old (at.Reduction (reduction_at (old_ids p) r)) ≡ is_open new (at.Reduction r)
+      open_back r c =
+          let h : AreThere q (own_of r) = there_where_enabled q (at.Reduction r) c.enabled in
+          sym (open_stands old p new a (reduction_at (old_ids p) r) (own_back p q l (at.Reduction r) h)) ∙ ap (λ (s : Reduction). is_open new (at.Reduction s)) (reductions_back p q l r h)
 
-pub written_same_left : (numbers : Numbers) (program : ProgramData) (start p q : Sparse) → IsProblemOf program start → SameSize start p → IsSparse p → IsProblemOf (written_program program p) q
-    → HaveSameLeft numbers p (offset_set q p.offset)
-written_same_left numbers program start p q h z s w = same_left p (offset_set q p.offset) (written_left program p q s (still_of program start p h z) w) numbers
+      stuck_same : Stuck numbers old p ↔ Stuck numbers new q
+      stuck_same = (
+        λ s. record { undecided = undecided_same.0 s.undecided; reductions = λ r o c. s.reductions (reduction_at (old_ids p) r) (open_back r c ∙ o) (applies_back r c) },
+        λ s. record { undecided = undecided_same.1 s.undecided; reductions = λ r o c. s.reductions (reduction_at (new_ids p) r) (open_there r c ∙ o) (applies_there r c) },
+      )
+
+      pub same_left : HaveSameLeft numbers old p new q
+      same_left = record { undecided = undecided_same; stuck = stuck_same; skipped = skipped_same old p new q l a }
+
+pub written_same_left : (numbers : Numbers) (program : ProgramData) (start p q : Sparse) (old new : Open) → IsProblemOf program start → SameSize start p → IsSparse p → IsProblemOf (written_program program p) q → AreOpenAlike old p new
+    → HaveSameLeft numbers old p new (offset_set q p.offset)
+written_same_left numbers program start p q old new h z s w a = same_left p (offset_set q p.offset) (written_left program p q s (still_of program start p h z) w) numbers old new a
