@@ -93,9 +93,8 @@ fn verdict_goes_by_form(verdict: Verdict) -> bool
     ensures { result ≡ by_form (reach (rule_at (at.Verdict verdict))) }
 {
     match verdict {
-        Verdict::CrossedBounds { .. }
-        | Verdict::CrossedSides { .. }
-        | Verdict::OutOfReach { .. } => false,
+        Verdict::CrossedBounds { .. } | Verdict::CrossedSides { .. } | Verdict::OutOfReach { .. } =>
+            false,
         Verdict::Ray { .. } => true,
     }
 }

@@ -1,4 +1,2 @@
 pub mod Concluding
-pub mod Sorting
-pub mod Restamping
 pub mod Running

@@ -40,11 +40,11 @@ use Rattle.place_laws.proofs.ShortLists.{comes_from}
 use Rattle.run_laws.proofs.Runs.{run_full}
 use Rattle.round_laws.proofs.Tracking.{passed_on}
 use Rattle.round_laws.proofs.Turns.{follows_next, follows_start, met, met_asleep}
-use Rattle.presolve_rounds.specs.Marking.{AreReached, marked}
+use Rattle.round_marks.specs.Marking.{AreReached, marked}
 use Rattle.presolve_rounds.specs.Readiness.{AreMarked, IsReady}
 use Rattle.presolve_rounds.specs.Running.{EndsWith, IsAtFixpoint, IsFirst}
-use Rattle.presolve_rounds.specs.Stamping.{AreStampsOf, restamped, Stamped, stamps_of}
-use Rattle.presolve_rounds.proofs.Restamping.{restamped_right, stamped}
+use Rattle.round_marks.specs.Stamping.{AreStampsOf, restamped, Stamped, stamps_of}
+use Rattle.round_marks.proofs.Restamping.{restamped_right, stamped}
 
 -- ---- what is marked
 -- a part more

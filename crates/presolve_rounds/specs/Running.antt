@@ -2,13 +2,14 @@
 use Rattle.std.specs.Prelude.{◌≡◌, ◌≢◌, ◌<◌, ℕ, List, [], ◌∷◌, length, Option, Some, None}
 use Rattle.presolve_model.specs.declared.instance.Instance.{Instance}
 use Rattle.presolve_model.specs.Ledger.{Ledger}
+use Rattle.presolve_model.specs.Tallies.{open_on}
 use Rattle.presolve_model.specs.Stuck.{IsUndecided, skipped_on, Stuck}
 use Rattle.presolve_model.specs.declared.conclusion.End.{End}
 use Rattle.presolve_model.specs.declared.conclusion.End.TheVariants.{Fixpoint, LimitReached}
 
--- there is room in the book for more, none can be applied, and so many reductions are enabled
+-- there is room in the book for more, none that is open can be applied, and so many open reductions are enabled
 abbrev pub IsAtFixpoint : Ledger → ℕ → Type 0
-IsAtFixpoint b skipped = (length b.history < b.limit) × Stuck b.numbers b.problem × (skipped ≡ skipped_on b.problem)
+IsAtFixpoint b skipped = (length b.history < b.limit) × Stuck b.numbers (open_on b.tally) b.problem × (skipped ≡ skipped_on (open_on b.tally) b.problem)
 
 -- a run ended with this book; none says that a verdict was applied
 abbrev pub EndsWith : Option End → Ledger → Type 0

@@ -1,16 +1,11 @@
 //! Presolve: rounds on a book, each a pass over the instances that may be enabled, until nothing more can be done or the limit is reached.
 #![tactic(auto)]
 
-mod around;
-mod found;
-mod ids;
 mod labels;
-mod marks;
 mod outcome;
 mod pass;
 mod reduce;
 mod rounds;
-mod stamps;
 
 pub use outcome::{DecidedProgram, Presolved, ReducedProgram};
 pub use reduce::presolve;

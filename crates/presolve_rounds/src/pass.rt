@@ -9,17 +9,17 @@ ghost use Rattle.presolve_model.specs.Enabled.{enabled_on};
 ghost use Rattle.presolve_model.specs.Instances.{instances_from};
 ghost use Rattle.presolve_model.specs.Order.{reduction_order, verdict_order};
 ghost use Rattle.presolve_model.specs.Scans.{instances_at};
+ghost use Rattle.presolve_model.specs.Tallies.{open_on};
 ghost use Rattle.place_laws.specs.Choosing.{ids_of, instances_of, visited};
 ghost use Rattle.place_laws.specs.Standing.{IsFresh};
-ghost use Rattle.round_laws.specs.Passing.{Follows, Passed};
-ghost use Rattle.presolve_rounds.specs.Stamping.{AreStampsOf};
+ghost use Rattle.round_marks.specs.Stamping.{AreStampsOf};
+ghost use Rattle.presolve_rounds.specs.Walking.{IsGoing, IsPassed};
 
-use crate::around::Around;
-use crate::marks::Marks;
-use crate::stamps::Stamps;
 use instances::{add_enabled, head, is_enabled, parts_read, reduction_rules, verdict_rules};
-use presolve_model::{Instance, Outcome, Rule};
-use sparse_problem::Problem;
+use presolve_model::{Instance, Rule};
+use round_marks::around::Around;
+use round_marks::stamps::Stamps;
+use round_marks::watch::Watch;
 use std::alloc::{AllocError, Global};
 use std::snapshot::Snapshot;
 use txn_book::Book;
@@ -28,46 +28,43 @@ use txn_book::Book;
 fn meet(
     alloc: Global,
     book: &mut Book,
-    frozen: &Snapshot<Problem>,
+    frozen: &Snapshot<Book>,
     instance: Instance,
-    marks: &mut Marks,
+    watch: &mut Watch,
 ) -> Result<(), AllocError>
-    requires follows { Follows frozen.now.value book.old }
+    requires going { IsGoing frozen.now.value watch.old book.old }
     requires enabled { enabled_on book.old.problem instance ≡ true }
-    requires fresh { IsFresh frozen.now.value book.old.problem instance }
-    ensures { OnOk result (Passed frozen.now.value (instance ∷ []) marks.old book.old marks.new book.new) }
+    requires fresh { IsFresh frozen.now.value.problem book.old.problem instance }
+    ensures { OnOk result (IsPassed frozen.now.value (instance ∷ []) watch.old book.old watch.new book.new) }
 {
     let _ = frozen;
-    let outcome = marks.apply(alloc, book, instance);
-    match outcome {
-        Outcome::NoMemory => return Err(AllocError),
-        _ => {}
-    }
-    marks.mark(instance, outcome, head(instance))?;
+    let outcome = watch.apply(alloc, book, instance)?;
+    watch.mark(instance, outcome, head(instance))?;
     Ok(())
 }
 
-/// An instance at its turn.
+/// An instance at its turn. Where it is stale a part of it is marked: it is left to the next round.
 fn visit(
     alloc: Global,
     book: &mut Book,
-    frozen: &Snapshot<Problem>,
+    frozen: &Snapshot<Book>,
     stamps: &Stamps,
     instance: Instance,
-    marks: &mut Marks,
+    watch: &mut Watch,
 ) -> Result<(), AllocError>
-    requires follows { Follows frozen.now.value book.old }
-    requires stamps { AreStampsOf stamps.now frozen.now.value }
-    ensures { OnOk result (Passed frozen.now.value (instance ∷ []) marks.old book.old marks.new book.new) }
+    requires going { IsGoing frozen.now.value watch.old book.old }
+    requires stamps { AreStampsOf stamps.now frozen.now.value.problem }
+    ensures { OnOk result (IsPassed frozen.now.value (instance ∷ []) watch.old book.old watch.new book.new) }
 {
     if !is_enabled(book.problem(), instance) {
         return Ok(());
     }
     let parts = parts_read(alloc, book.problem(), instance)?;
     if !stamps.stand_for(book.problem(), parts.as_slice()) {
+        watch.leave(instance, head(instance))?;
         return Ok(());
     }
-    meet(alloc, book, frozen, instance, marks)?;
+    meet(alloc, book, frozen, instance, watch)?;
     Ok(())
 }
 
@@ -75,38 +72,38 @@ fn visit(
 fn visit_found(
     alloc: Global,
     book: &mut Book,
-    frozen: &Snapshot<Problem>,
+    frozen: &Snapshot<Book>,
     stamps: &Stamps,
     found: &[Instance],
-    marks: &mut Marks,
+    watch: &mut Watch,
 ) -> Result<(), AllocError>
-    requires follows { Follows frozen.now.value book.old }
-    requires stamps { AreStampsOf stamps.now frozen.now.value }
-    ensures { OnOk result (Passed frozen.now.value found.now marks.old book.old marks.new book.new) }
+    requires going { IsGoing frozen.now.value watch.old book.old }
+    requires stamps { AreStampsOf stamps.now frozen.now.value.problem }
+    ensures { OnOk result (IsPassed frozen.now.value found.now watch.old book.old watch.new book.new) }
 {
     for instance in found {
-        visit(alloc, book, frozen, stamps, *instance, marks)?;
+        visit(alloc, book, frozen, stamps, *instance, watch)?;
     }
     Ok(())
 }
 
-/// The instances of a rule with a first id: those that are enabled now.
+/// The instances of a rule with a first id: those that are enabled and open now.
 fn visit_at(
     alloc: Global,
     book: &mut Book,
-    frozen: &Snapshot<Problem>,
+    frozen: &Snapshot<Book>,
     stamps: &Stamps,
     rule: Rule,
     id: u32,
-    marks: &mut Marks,
+    watch: &mut Watch,
 ) -> Result<(), AllocError>
-    requires follows { Follows frozen.now.value book.old }
-    requires stamps { AreStampsOf stamps.now frozen.now.value }
-    ensures { OnOk result (Passed frozen.now.value (instances_from frozen.now.value rule id) marks.old book.old marks.new book.new) }
+    requires going { IsGoing frozen.now.value watch.old book.old }
+    requires stamps { AreStampsOf stamps.now frozen.now.value.problem }
+    ensures { OnOk result (IsPassed frozen.now.value (instances_from (open_on frozen.now.value.tally) frozen.now.value.problem rule id) watch.old book.old watch.new book.new) }
 {
     let mut found = Vec::new(alloc);
-    add_enabled(alloc, book.problem(), rule, id, &mut found)?;
-    visit_found(alloc, book, frozen, stamps, found.as_slice(), marks)?;
+    add_enabled(alloc, book.problem(), book.tally(), rule, id, &mut found)?;
+    visit_found(alloc, book, frozen, stamps, found.as_slice(), watch)?;
     Ok(())
 }
 
@@ -114,18 +111,18 @@ fn visit_at(
 fn visit_each(
     alloc: Global,
     book: &mut Book,
-    frozen: &Snapshot<Problem>,
+    frozen: &Snapshot<Book>,
     stamps: &Stamps,
     rule: Rule,
     ids: &[u32],
-    marks: &mut Marks,
+    watch: &mut Watch,
 ) -> Result<(), AllocError>
-    requires follows { Follows frozen.now.value book.old }
-    requires stamps { AreStampsOf stamps.now frozen.now.value }
-    ensures { OnOk result (Passed frozen.now.value (instances_at frozen.now.value rule ids.now) marks.old book.old marks.new book.new) }
+    requires going { IsGoing frozen.now.value watch.old book.old }
+    requires stamps { AreStampsOf stamps.now frozen.now.value.problem }
+    ensures { OnOk result (IsPassed frozen.now.value (instances_at (open_on frozen.now.value.tally) frozen.now.value.problem rule ids.now) watch.old book.old watch.new book.new) }
 {
     for id in ids {
-        visit_at(alloc, book, frozen, stamps, rule, *id, marks)?;
+        visit_at(alloc, book, frozen, stamps, rule, *id, watch)?;
     }
     Ok(())
 }
@@ -134,17 +131,17 @@ fn visit_each(
 fn visit_rule(
     alloc: Global,
     book: &mut Book,
-    frozen: &Snapshot<Problem>,
+    frozen: &Snapshot<Book>,
     stamps: &Stamps,
     rule: Rule,
     ids: &Around,
-    marks: &mut Marks,
+    watch: &mut Watch,
 ) -> Result<(), AllocError>
-    requires follows { Follows frozen.now.value book.old }
-    requires stamps { AreStampsOf stamps.now frozen.now.value }
-    ensures { OnOk result (Passed frozen.now.value (instances_at frozen.now.value rule (ids_of ids.now rule)) marks.old book.old marks.new book.new) }
+    requires going { IsGoing frozen.now.value watch.old book.old }
+    requires stamps { AreStampsOf stamps.now frozen.now.value.problem }
+    ensures { OnOk result (IsPassed frozen.now.value (instances_at (open_on frozen.now.value.tally) frozen.now.value.problem rule (ids_of ids.now rule)) watch.old book.old watch.new book.new) }
 {
-    visit_each(alloc, book, frozen, stamps, rule, ids.of(rule), marks)?;
+    visit_each(alloc, book, frozen, stamps, rule, ids.of(rule), watch)?;
     Ok(())
 }
 
@@ -152,36 +149,36 @@ fn visit_rule(
 fn visit_rules(
     alloc: Global,
     book: &mut Book,
-    frozen: &Snapshot<Problem>,
+    frozen: &Snapshot<Book>,
     stamps: &Stamps,
     rules: &[Rule],
     ids: &Around,
-    marks: &mut Marks,
+    watch: &mut Watch,
 ) -> Result<(), AllocError>
-    requires follows { Follows frozen.now.value book.old }
-    requires stamps { AreStampsOf stamps.now frozen.now.value }
-    ensures { OnOk result (Passed frozen.now.value (instances_of frozen.now.value ids.now rules.now) marks.old book.old marks.new book.new) }
+    requires going { IsGoing frozen.now.value watch.old book.old }
+    requires stamps { AreStampsOf stamps.now frozen.now.value.problem }
+    ensures { OnOk result (IsPassed frozen.now.value (instances_of (open_on frozen.now.value.tally) frozen.now.value.problem ids.now rules.now) watch.old book.old watch.new book.new) }
 {
     for rule in rules {
-        visit_rule(alloc, book, frozen, stamps, *rule, ids, marks)?;
+        visit_rule(alloc, book, frozen, stamps, *rule, ids, watch)?;
     }
     Ok(())
 }
 
-/// All instances at these rows and columns, in instance order. Notes what changes, and a part of what was refused, or marks it as asleep.
+/// All instances at these rows and columns, in instance order. Notes what changes, and a part of what was left over, or marks it as asleep.
 pub fn pass(
     alloc: Global,
     book: &mut Book,
-    frozen: &Snapshot<Problem>,
+    frozen: &Snapshot<Book>,
     stamps: &Stamps,
     ids: &Around,
-    marks: &mut Marks,
+    watch: &mut Watch,
 ) -> Result<(), AllocError>
-    requires follows { Follows frozen.now.value book.old }
-    requires stamps { AreStampsOf stamps.now frozen.now.value }
-    ensures { OnOk result (Passed frozen.now.value (visited frozen.now.value ids.now) marks.old book.old marks.new book.new) }
+    requires going { IsGoing frozen.now.value watch.old book.old }
+    requires stamps { AreStampsOf stamps.now frozen.now.value.problem }
+    ensures { OnOk result (IsPassed frozen.now.value (visited (open_on frozen.now.value.tally) frozen.now.value.problem ids.now) watch.old book.old watch.new book.new) }
 {
-    visit_rules(alloc, book, frozen, stamps, &verdict_rules(), ids, marks)?;
-    visit_rules(alloc, book, frozen, stamps, &reduction_rules(), ids, marks)?;
+    visit_rules(alloc, book, frozen, stamps, &verdict_rules(), ids, watch)?;
+    visit_rules(alloc, book, frozen, stamps, &reduction_rules(), ids, watch)?;
     Ok(())
 }

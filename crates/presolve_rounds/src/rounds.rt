@@ -10,18 +10,19 @@ ghost use Rattle.problem_model.specs.declared.part.Part.{Part};
 ghost use Rattle.problem_model.specs.Parts.{changes_of};
 ghost use Rattle.presolve_model.specs.Ordered.{Committed, Ordered, enabled_verdicts, round_list};
 ghost use Rattle.presolve_model.specs.Stuck.{skipped_on};
+ghost use Rattle.presolve_model.specs.Tallies.{open_on};
 ghost use Rattle.round_laws.specs.Passing.{IsSameBook};
-ghost use Rattle.presolve_rounds.specs.Marking.{AreReached};
+ghost use Rattle.round_marks.specs.Marking.{AreReached};
 ghost use Rattle.presolve_rounds.specs.Readiness.{AreMarked, IsReady};
 ghost use Rattle.presolve_rounds.specs.Running.{EndsWith, IsFirst};
 
-use crate::around::Around;
-use crate::found::enabled_of;
-use crate::marks::Marks;
 use crate::pass::pass;
-use crate::stamps::Stamps;
-use instances::{reduction_rules, verdict_rules};
+use instances::{Tally, reduction_rules, verdict_rules};
 use presolve_model::{End, Instance, Outcome, Part};
+use round_marks::around::Around;
+use round_marks::found::enabled_of;
+use round_marks::stamps::Stamps;
+use round_marks::watch::Watch;
 use sparse_problem::Problem;
 use std::alloc::{AllocError, Global};
 use std::snapshot::Snapshot;
@@ -33,19 +34,19 @@ fn round(
     book: &mut Book,
     stamps: &mut Stamps,
     ids: &mut Around,
-    marks: &mut Marks,
+    watch: &mut Watch,
 ) -> Result<(), AllocError>
-    requires ready { IsReady book.old stamps.old ids.old marks.old.asleep }
+    requires ready { IsReady book.old stamps.old ids.old watch.old }
     ensures book { OnOk result (IsSameBook book.old book.new) }
     ensures committed { OnOk result (Committed book.old (round_list book.old) book.new) }
-    ensures marked { OnOk result (book.new.verdict ≡ None → length book.new.history < book.new.limit → AreMarked book.new marks.new) }
-    ensures ready { OnOk result (book.new.verdict ≡ None → length book.new.history < book.new.limit → IsReady book.new stamps.new ids.new marks.new.asleep) }
+    ensures marked { OnOk result (book.new.verdict ≡ None → length book.new.history < book.new.limit → AreMarked book.new watch.new.marks) }
+    ensures ready { OnOk result (book.new.verdict ≡ None → length book.new.history < book.new.limit → IsReady book.new stamps.new ids.new watch.new) }
 {
-    let frozen = Snapshot::of(book.problem());
-    marks.begin_round();
-    pass(alloc, book, &frozen, stamps, ids, marks)?;
-    stamps.refresh(book.problem(), marks.noted());
-    *ids = Around::of_parts(alloc, book.problem(), marks.noted())?;
+    let frozen = Snapshot::of(book);
+    watch.begin_round();
+    pass(alloc, book, &frozen, stamps, ids, watch)?;
+    stamps.refresh(book.problem(), watch.noted());
+    *ids = watch.around(alloc, book.problem())?;
     Ok(())
 }
 
@@ -56,14 +57,19 @@ fn count(instances: &[Instance]) -> u64
     instances.len() as u64
 }
 
-/// How many reductions are enabled, each of which reads one of these parts.
-fn skipped(alloc: Global, problem: &Problem, parts: &[Part]) -> Result<u64, AllocError>
-    requires reached { AreReached problem.now parts.now }
-    ensures { IfOk result (λ skipped. skipped ≡ skipped_on problem.now) }
+/// How many open reductions are enabled, each of which reads one of these parts.
+fn skipped(
+    alloc: Global,
+    problem: &Problem,
+    tally: &Tally,
+    parts: &[Part],
+) -> Result<u64, AllocError>
+    requires reached { AreReached (open_on tally.now) problem.now parts.now }
+    ensures { IfOk result (λ skipped. skipped ≡ skipped_on (open_on tally.now) problem.now) }
 {
     problem.is_sparse();
-    let ids = Around::of_parts(alloc, problem, parts)?;
-    let found = enabled_of(alloc, problem, &ids, &reduction_rules())?;
+    let ids = Around::of_parts(alloc, problem, parts, parts)?;
+    let found = enabled_of(alloc, problem, tally, &ids, &reduction_rules())?;
     Ok(count(found.as_slice()))
 }
 
@@ -78,11 +84,15 @@ fn first_of(instances: &[Instance]) -> Option<Instance>
 }
 
 /// The first verdict that is enabled, in instance order.
-fn first_verdict(alloc: Global, problem: &Problem) -> Result<Option<Instance>, AllocError>
-    ensures { IfOk result (IsFirst (enabled_verdicts problem.now)) }
+fn first_verdict(
+    alloc: Global,
+    problem: &Problem,
+    tally: &Tally,
+) -> Result<Option<Instance>, AllocError>
+    ensures { IfOk result (IsFirst (enabled_verdicts (open_on tally.now) problem.now)) }
 {
     let all = Around::all_of(alloc, problem)?;
-    let found = enabled_of(alloc, problem, &all, &verdict_rules())?;
+    let found = enabled_of(alloc, problem, tally, &all, &verdict_rules())?;
     Ok(first_of(found.as_slice()))
 }
 
@@ -90,7 +100,7 @@ fn first_verdict(alloc: Global, problem: &Problem) -> Result<Option<Instance>, A
 fn decide(alloc: Global, book: &mut Book, verdict: Instance) -> Result<(), AllocError>
     requires undecided { book.old.verdict ≡ None }
     requires full { book.old.limit ≤ length book.old.history }
-    requires first { IsFirst (enabled_verdicts book.old.problem) (Some verdict) }
+    requires first { IsFirst (enabled_verdicts (open_on book.old.tally) book.old.problem) (Some verdict) }
     ensures book { OnOk result (IsSameBook book.old book.new) }
     ensures ordered { OnOk result (Ordered book.old None book.new) }
     ensures decided { OnOk result (book.new.verdict ≢ None) }
@@ -110,7 +120,7 @@ fn end_at_limit(alloc: Global, book: &mut Book) -> Result<Option<End>, AllocErro
     ensures end { IfOk result (λ end. EndsWith end book.new) }
 {
     book.stands();
-    match first_verdict(alloc, book.problem())? {
+    match first_verdict(alloc, book.problem(), book.tally())? {
         None => Ok(Some(End::LimitReached)),
         Some(verdict) => {
             decide(alloc, book, verdict)?;
@@ -131,16 +141,16 @@ pub fn run(alloc: Global, book: &mut Book) -> Result<Option<End>, AllocError>
     let limit = book.limit();
     let mut stamps = Stamps::of(alloc, book.problem())?;
     let mut ids = Around::all_of(alloc, book.problem())?;
-    let mut marks = Marks::none(alloc);
+    let mut watch = Watch::of(alloc, book.problem())?;
     while book.applied() < limit {
         let applied = book.applied();
-        round(alloc, book, &mut stamps, &mut ids, &mut marks)?;
+        round(alloc, book, &mut stamps, &mut ids, &mut watch)?;
         if book.verdict().is_some() {
             return Ok(None);
         }
         if book.applied() == applied {
-            let parts = marks.both(alloc)?;
-            let skipped = skipped(alloc, book.problem(), parts.as_slice())?;
+            let parts = watch.all(alloc)?;
+            let skipped = skipped(alloc, book.problem(), book.tally(), parts.as_slice())?;
             return Ok(Some(End::Fixpoint { skipped }));
         }
     }

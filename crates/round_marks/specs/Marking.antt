@@ -5,7 +5,8 @@ use Rattle.problem_model.specs.Sparse.{Sparse}
 use Rattle.presolve_model.specs.declared.instance.Instance.{Instance}
 use Rattle.presolve_model.specs.declared.outcome.Outcome.{Outcome}
 use Rattle.presolve_model.specs.Enabled.{enabled_on}
-use Rattle.presolve_model.specs.Instances.{goes_by_form, reach_of, rests_on_reading, rule_at}
+use Rattle.presolve_model.specs.Tallies.{Open}
+use Rattle.presolve_model.specs.Instances.{goes_by_form, is_open, reach_of, rests_on_reading, rule_at}
 use Rattle.place_laws.specs.Marks.{IsNoted, is_refusal, Marks}
 use Rattle.round_marks.specs.Forming.{Formed, reformed, Stirs}
 
@@ -37,6 +38,6 @@ pub record Notes (p : Sparse) (changed : List Part) (w v : Watched) : Type 0 whe
   pub asleep : v.marks.asleep ≡ w.marks.asleep
   pub forms : v.forms ≡ reformed w.forms p changed
 
--- each enabled instance reads one of these parts
-abbrev pub AreReached : Sparse → List Part → Type 0
-AreReached p parts = (e : Instance) → enabled_on p e ≡ true → IsNoted p parts e
+-- each enabled instance that is open reads one of these parts
+abbrev pub AreReached : Open → Sparse → List Part → Type 0
+AreReached opens p parts = (e : Instance) → enabled_on p e ≡ true → is_open opens e ≡ true → IsNoted p parts e

@@ -6,7 +6,7 @@ use Rattle.presolve_model.specs.Enabled.{enabled_on, reads}
 use Rattle.round_laws.specs.Passing.{are_unchanged}
 use Rattle.round_laws.proofs.Numbers.{changed_stale, unchanged_fresh}
 use Rattle.round_laws.proofs.Turns.{met_over}
-use Rattle.presolve_rounds.specs.Stamping.{stamp_at}
+use Rattle.round_marks.specs.Stamping.{stamp_at}
 use Rattle.presolve_rounds.proofs.pass.visit.Goals as goal
 
 pub returns-then-not-is_enabled : goal.returns-then-not-is_enabled

@@ -6,7 +6,7 @@ use Rattle.place_laws.specs.Marks.{Marks}
 use Rattle.round_laws.specs.Passing.{Passed}
 use Rattle.round_laws.proofs.Rounds.{passed_round}
 use Rattle.presolve_rounds.specs.Readiness.{IsReady}
-use Rattle.presolve_rounds.specs.Stamping.{restamped}
+use Rattle.round_marks.specs.Stamping.{restamped}
 use Rattle.presolve_rounds.proofs.Running.{ready_next, round_marked}
 use Rattle.presolve_rounds.proofs.rounds.round.Goals as goal
 

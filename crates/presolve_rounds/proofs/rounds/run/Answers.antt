@@ -2,8 +2,8 @@ use Rattle.std.proofs.Common.{◌≡◌, ◌<◌, ◌++◌, length, None, Some, 
 use Rattle.presolve_model.specs.Stuck.{skipped_on}
 use Rattle.place_laws.specs.Choosing.{all_around}
 use Rattle.run_laws.proofs.Runs.{run_more, run_stops}
-use Rattle.presolve_rounds.specs.Marking.{AreReached}
-use Rattle.presolve_rounds.specs.Stamping.{stamps_of}
+use Rattle.round_marks.specs.Marking.{AreReached}
+use Rattle.round_marks.specs.Stamping.{stamps_of}
 use Rattle.presolve_rounds.proofs.Running.{at_fixpoint, marked_reached, more_applied, none_of, ready_first, same_twice, some_of}
 use Rattle.presolve_rounds.proofs.rounds.run.Goals as goal
 use Rattle.problem_model.specs.Sparse.{Sparse}
