@@ -1,8 +1,10 @@
 //! How often each bound of a column was tightened. Counts stop at ten, and from there on the bound is tightened no more.
 
-ghost use Rattle.std.specs.Prelude.{◌≡◌, ◌<◌, length, IfOk};
+ghost use Rattle.std.specs.Prelude.{◌≡◌, length, slice_index_or, slice_set, IfOk};
+ghost use Rattle.presolve_model.specs.Instances.{tallied};
 ghost use Rattle.presolve_model.specs.Tallies.{count_on, counted, no_counts, one_more as once_more, open_on};
 
+use presolve_model::Reduction;
 use std::alloc::{AllocError, Global};
 use std::marker::Model;
 use undo_records::Side;
@@ -12,6 +14,16 @@ fn one_more(count: u32) -> u32
     ensures { result ≡ once_more count }
 {
     if count < 10 { count + 1 } else { count }
+}
+
+/// One more at a place, if it is there.
+fn add_at(counts: &mut Vec<u32>, place: usize)
+    ensures items { counts.new.items ≡ slice_set counts.old.items place (once_more (slice_index_or counts.old.items place 0)) }
+    ensures long { length counts.new.items ≡ length counts.old.items }
+{
+    if place < counts.len() {
+        counts[place] = one_more(counts[place]);
+    }
 }
 
 /// How often the lower and the upper bound of each column were tightened, up to ten.
@@ -73,13 +85,31 @@ impl Tally {
 
     /// A bound of a column was tightened once more.
     pub fn add(&mut self, column: u32, side: Side)
-        requires { column < length self.old.lower }
         ensures { self.new ≡ counted self.old column side }
     {
         let place = column as usize;
         match side {
-            Side::Lower => self.lower[place] = one_more(self.lower[place]),
-            Side::Upper => self.upper[place] = one_more(self.upper[place]),
+            Side::Lower => add_at(&mut self.lower, place),
+            Side::Upper => add_at(&mut self.upper, place),
+        }
+    }
+
+    /// A reduction was applied: one that tightens a bound is counted.
+    pub fn follow(&mut self, reduction: Reduction)
+        ensures { self.new ≡ tallied reduction self.old }
+    {
+        match reduction {
+            Reduction::TightenedBound { column, side, .. } => self.add(column, side),
+            Reduction::EmptyRow { .. }
+            | Reduction::SingletonRow { .. }
+            | Reduction::FixedColumn { .. }
+            | Reduction::RoundBounds { .. }
+            | Reduction::RedundantRow { .. }
+            | Reduction::RedundantSide { .. }
+            | Reduction::ForcingRow { .. }
+            | Reduction::FixedByCost { .. }
+            | Reduction::DominatedColumn { .. }
+            | Reduction::EmptyColumn { .. } => (),
         }
     }
 

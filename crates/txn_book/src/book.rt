@@ -14,6 +14,7 @@ ghost use Rattle.presolve_model.specs.Given.{Proposed};
 ghost use Rattle.presolve_model.specs.Ledger.{instance_count, Stands};
 ghost use Rattle.presolve_model.specs.Meanings.{Meant};
 ghost use Rattle.presolve_model.specs.Scans.{proposal_of};
+ghost use Rattle.presolve_model.specs.Tallies.{no_counts};
 ghost use Rattle.presolve_model.specs.Worlds.{version_of};
 ghost use Rattle.problem_model.specs.Noted.{AreNoted};
 ghost use Rattle.problem_model.specs.Reading.{Agrees};
@@ -23,7 +24,7 @@ ghost use Rattle.txn_book.specs.Applying.{Applies, outcome_of};
 
 use crate::version::Version;
 use fractions::Numbers;
-use instances::{Proposal, after};
+use instances::{Proposal, Tally, after};
 use presolve_model::{Instance, Outcome, Part, Reduction, Refusal, Verdict};
 use sparse_problem::Problem;
 use std::alloc::{AllocError, Global};
@@ -31,8 +32,8 @@ use std::marker::Model;
 use std::snapshot::Snapshot;
 use undo_records::Undo;
 
-/// A problem, and what was done to it: the reductions that were applied, first one first, with the record of each, and the verdict that
-/// closed the book. The problem is always what the history makes of the one that the book was opened with.
+/// A problem, and what was done to it: the reductions that were applied, first one first, with the record of each, how often each bound was
+/// tightened, and the verdict that closed the book. The problem is always what the history makes of the one that the book was opened with.
 #[derive(Drop)]
 pub struct Book {
     start: Snapshot<Problem>,
@@ -40,6 +41,7 @@ pub struct Book {
     history: Vec<Reduction>,
     verdict: Option<Verdict>,
     records: Vec<Undo>,
+    tally: Tally,
     numbers: Numbers,
     limit: u64,
 }
@@ -55,9 +57,9 @@ impl Model for Book {
 
     ghost use Rattle.presolve_model.specs.Ledger.{Stands};
 
-    ghost view = { λ b. record { start = b.start.value; problem = b.problem; history = b.history.items; verdict = b.verdict; records = b.records.items; numbers = b.numbers; limit = b.limit } };
+    ghost view = { λ b. record { start = b.start.value; problem = b.problem; history = b.history.items; verdict = b.verdict; records = b.records.items; tally = b.tally; numbers = b.numbers; limit = b.limit } };
 
-    ghost invariant = { λ b. Stands (record { start = b.start.value; problem = b.problem; history = b.history.items; verdict = b.verdict; records = b.records.items; numbers = b.numbers; limit = b.limit }) };
+    ghost invariant = { λ b. Stands (record { start = b.start.value; problem = b.problem; history = b.history.items; verdict = b.verdict; records = b.records.items; tally = b.tally; numbers = b.numbers; limit = b.limit }) };
 }
 
 /// What a book leaves when it is closed.
@@ -87,20 +89,30 @@ fn outcome_of(applied: Result<usize, Refusal>) -> Outcome
 
 impl Book {
     /// A book of a problem, to which at most `limit` reductions are applied.
-    pub fn open(alloc: Global, problem: Problem, numbers: Numbers, limit: u64) -> Book
+    ///
+    /// # Errors
+    /// Memory ran out.
+    pub fn open(
+        alloc: Global,
+        problem: Problem,
+        numbers: Numbers,
+        limit: u64,
+    ) -> Result<Book, AllocError>
         requires { IsWritable numbers problem }
-        ensures { result ≡ record { start = problem; problem = problem; history = []; verdict = None; records = []; numbers = numbers; limit = limit } }
+        ensures { IfOk result (λ book. book ≡ record { start = problem; problem = problem; history = []; verdict = None; records = []; tally = no_counts (length problem.matrix.columns); numbers = numbers; limit = limit }) }
     {
         problem.is_sparse();
-        Book {
+        let tally = Tally::new(alloc, problem.column_count() as u32)?;
+        Ok(Book {
             start: Snapshot::of(&problem),
             problem,
             history: Vec::new(alloc),
             verdict: None,
             records: Vec::new(alloc),
+            tally,
             numbers,
             limit,
-        }
+        })
     }
 
     /// The present problem.
@@ -108,6 +120,13 @@ impl Book {
         ensures { result.now ≡ self.now.problem }
     {
         &self.problem
+    }
+
+    /// How often each bound was tightened.
+    pub fn tally(&self) -> &Tally
+        ensures { result.now ≡ self.now.tally }
+    {
+        &self.tally
     }
 
     /// How many reductions were applied.
@@ -151,12 +170,13 @@ impl Book {
         }
     }
 
-    /// A copy of the present problem, with how many instances were applied.
+    /// A copy of the present problem, with how often each bound was tightened, and how many instances were applied.
     pub fn freeze(&self, alloc: Global) -> Result<Version, AllocError>
         ensures { IfOk result (λ v. v ≡ version_of self.now) }
     {
         let problem = self.problem.copy(alloc)?;
-        Ok(Version::new(problem, self.instance_count()))
+        let tally = self.tally.copy(alloc)?;
+        Ok(Version::new(problem, tally, self.instance_count()))
     }
 
     /// Whether so many reductions were applied as are allowed. A verdict always has room.
@@ -191,6 +211,7 @@ impl Book {
         };
         self.records.push_reserved(undo);
         self.history.push_reserved(reduction);
+        self.tally.follow(reduction);
         Ok(self.history.len())
     }
 

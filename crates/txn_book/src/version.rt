@@ -2,13 +2,15 @@
 
 ghost use Rattle.std.specs.Prelude.{◌≡◌};
 
+use instances::Tally;
 use sparse_problem::Problem;
 use std::marker::Model;
 
-/// A problem as it stood when so many instances had been applied, a verdict among them.
+/// A problem as it stood when so many instances had been applied, a verdict among them, and how often each bound had been tightened.
 #[derive(Drop)]
 pub struct Version {
     problem: Problem,
+    tally: Tally,
     applied: u64,
 }
 
@@ -21,15 +23,19 @@ impl Model for Version {
 
     ghost coded = { Prim.hlevel (codes, number_code) };
 
-    ghost view = { λ v. record { problem = v.problem; applied = v.applied } };
+    ghost view = { λ v. record { problem = v.problem; tally = v.tally; applied = v.applied } };
 }
 
 impl Version {
-    /// A problem, and how many instances had been applied.
-    pub fn new(problem: Problem, applied: u64) -> Version
-        ensures { result ≡ record { problem = problem; applied = applied } }
+    /// A problem, how often each bound had been tightened, and how many instances had been applied.
+    pub fn new(problem: Problem, tally: Tally, applied: u64) -> Version
+        ensures { result ≡ record { problem = problem; tally = tally; applied = applied } }
     {
-        Version { problem, applied }
+        Version {
+            problem,
+            tally,
+            applied,
+        }
     }
 
     /// The problem.
@@ -37,6 +43,13 @@ impl Version {
         ensures { result.now ≡ self.now.problem }
     {
         &self.problem
+    }
+
+    /// How often each bound had been tightened.
+    pub fn tally(&self) -> &Tally
+        ensures { result.now ≡ self.now.tally }
+    {
+        &self.tally
     }
 
     /// How many instances had been applied.

@@ -217,10 +217,10 @@ fn propose(
     world: &mut World,
     worker: u32,
     problem: &Problem,
+    tally: &Tally,
     (rule, count): (Rule, usize),
 ) -> Result<(), Fail> {
-    let tally = Tally::new(alloc, 2)?;
-    let found = scan(alloc, problem, &tally, 0, rule, Chunk::new(0))?;
+    let found = scan(alloc, problem, tally, 0, rule, Chunk::new(0))?;
     assert_eq!(rt; found.len(), count);
     for proposal in found {
         let answer = world.step(alloc, Event::Propose(worker, proposal))?;
@@ -242,7 +242,8 @@ fn propose_frozen(
         return Ok(());
     };
     let problem = version.problem().copy(alloc)?;
-    propose(rt, alloc, world, worker, &problem, wanted)
+    let tally = version.tally().copy(alloc)?;
+    propose(rt, alloc, world, worker, &problem, &tally, wanted)
 }
 
 /// A step of a story.
@@ -262,7 +263,8 @@ fn take(
             propose_frozen(rt, alloc, world, worker, (rule, count))?;
         }
         Step::FindOther(worker, rule, count) => {
-            propose(rt, alloc, world, worker, other, (rule, count))?;
+            let tally = Tally::new(alloc, 2)?;
+            propose(rt, alloc, world, worker, other, &tally, (rule, count))?;
         }
         Step::Commit(worker, wanted) => {
             let answer = world.step(alloc, Event::Commit(worker))?;
@@ -278,7 +280,8 @@ fn two_workers(rt: HostRuntime) -> Result<(), Fail> {
     for story in &STORIES {
         let first = problem(&rt, alloc, story.numbers, &story.model)?;
         let other = problem(&rt, alloc, story.numbers, &story.other)?;
-        let mut world = World::new(alloc, Book::open(alloc, first, story.numbers, story.limit));
+        let book = Book::open(alloc, first, story.numbers, story.limit)?;
+        let mut world = World::new(alloc, book);
         for step in story.steps {
             take(&rt, alloc, &mut world, &other, *step)?;
         }
@@ -292,7 +295,7 @@ fn two_workers(rt: HostRuntime) -> Result<(), Fail> {
 fn applied_at_once(rt: HostRuntime) -> Result<(), Fail> {
     let alloc = rt.alloc();
     let plain = problem(&rt, alloc, Numbers::Fractions, &PLAIN)?;
-    let mut book = Book::open(alloc, plain, Numbers::Fractions, 1);
+    let mut book = Book::open(alloc, plain, Numbers::Fractions, 1)?;
     let mut changed = Vec::new(alloc);
     let row = Instance::Reduction(Reduction::SingletonRow { row: 0 });
     assert!(rt; is_enabled(book.problem(), row));
