@@ -107,6 +107,7 @@ impl Tally {
             | Reduction::RedundantRow { .. }
             | Reduction::RedundantSide { .. }
             | Reduction::ForcingRow { .. }
+            | Reduction::TightenedCoefficient { .. }
             | Reduction::FixedByCost { .. }
             | Reduction::DominatedColumn { .. }
             | Reduction::EmptyColumn { .. } => (),
