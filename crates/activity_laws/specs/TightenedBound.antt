@@ -1,11 +1,13 @@
 -- K8: a bound of a column becomes the one that a row implies with the bounds of its other columns, where that is a better one.
 use Rattle.std.specs.Prelude.{◌≡◌, ℕ, ⊤, Bool, false, ◌&&◌, nat_eq, if◌then◌else◌, List, [], ◌∷◌, Option, Some, None, Result, Ok, Err}
+use Rattle.std.specs.List.{flat_map}
 use Rattle.rational.specs.Number.{Number, zero_ℚ}
 use Rattle.rational.specs.Order.{◌<ℚ◌}
 use Rattle.rational.specs.Compare.{lt_ℚ}
 use Rattle.fractions.specs.declared.Past.{Past}
 use Rattle.lp_model.specs.EndTests.{is_apart}
 use Rattle.lp_model.specs.Sparse.{dense}
+use Rattle.lp_model.specs.declared.terms.Term.{Term}
 use Rattle.undo_records.specs.declared.side.Side.{Side}
 use Rattle.undo_records.specs.declared.side.Side.TheVariants.{Lower, Upper}
 use Rattle.undo_records.specs.declared.undo.Undo.{Undo}
@@ -83,6 +85,10 @@ holds j side cs = on_row (is_tightened_bound j side) cs
 
 abbrev pub enabled : Sparse → ℕ → ℕ → Side → Bool
 enabled p i j side = holds j side (row_found p i)
+
+-- both bounds of each column of a row, in the order of its entries, the lower one first
+abbrev pub bounds_of : List Term → List (ℕ × Side)
+bounds_of ts = flat_map (λ t. (t.id, Lower) ∷ (t.id, Upper) ∷ []) ts
 
 -- the new bound
 abbrev pub new_bound : Sparse → ℕ → ℕ → Side → Option Number

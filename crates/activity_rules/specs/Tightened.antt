@@ -1,0 +1,36 @@
+-- The bounds that a row implies, by its entries with the bounds of their columns.
+use Rattle.std.specs.Prelude.{ℕ, Bool, ◌&&◌, List, [], ◌∷◌, ◌++◌, if◌then◌else◌}
+use Rattle.std.specs.List.{flat_map}
+use Rattle.undo_records.specs.declared.side.Side.{Side}
+use Rattle.undo_records.specs.declared.side.Side.TheVariants.{Lower, Upper}
+use Rattle.problem_model.specs.declared.line.Sides.{Sides}
+use Rattle.problem_model.specs.Problems.{bounds_at}
+use Rattle.problem_model.specs.Sparse.{Sparse}
+use Rattle.activities.specs.declared.span.Span.{Span}
+use Rattle.activities.specs.Spans.{spans_of}
+use Rattle.activity_laws.specs.TightenedBound.{has_two, implied, is_better, new_bound, old_bound}
+use Rattle.activity_rules.specs.Looks.{is_uncrossed}
+
+-- nothing of a row is crossed, and it has two entries or more
+abbrev pub is_looked_at : Sparse → ℕ → Bool
+is_looked_at p i = is_uncrossed p i && has_two (spans_of p i)
+
+-- the new bound of column j is a better one
+abbrev pub gets_better : Sparse → ℕ → ℕ → Side → Bool
+gets_better p i j side = is_better side (old_bound side (bounds_at p j).lower (bounds_at p j).upper) (new_bound p i j side)
+
+-- a row with these sides and entries implies a better bound for the column of this entry
+abbrev pub is_tight : Sides → List Span → Span → Side → Bool
+is_tight b ss s side = is_better side (old_bound side s.lower s.upper) (implied side s.id s.value b.lower b.upper ss)
+
+-- a bound of a column, or none
+abbrev pub bound_if : Bool → ℕ → Side → List (ℕ × Side)
+bound_if b j side = if b then (j, side) ∷ [] else []
+
+-- of the two bounds of an entry's column, those for which the row implies better ones
+abbrev pub found_at : Sides → List Span → Span → List (ℕ × Side)
+found_at b ss s = bound_if (is_tight b ss s Lower) s.id Lower ++ bound_if (is_tight b ss s Upper) s.id Upper
+
+-- and those of several entries
+abbrev pub found_among : Sides → List Span → List Span → List (ℕ × Side)
+found_among b ss ts = flat_map (found_at b ss) ts
