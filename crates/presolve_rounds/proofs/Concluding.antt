@@ -17,6 +17,9 @@ use Rattle.problem_model.specs.Problems.{IsSparse}
 use Rattle.problem_model.specs.Programs.{IsProblemOf, written_program}
 use Rattle.presolve_model.specs.Replay.{records, replay}
 use Rattle.problem_model.specs.Sparse.{Sparse}
+use Rattle.presolve_model.specs.Tallies.{Open, open_by, open_on}
+use Rattle.presolve_model.proofs.Tallying.{open_same}
+use Rattle.undo_records.specs.declared.undo.Undo.{Undo}
 use Rattle.presolve_model.specs.Stuck.{IsUndecided, skipped_on, Stuck}
 use Rattle.program_laws.specs.Chosen.{names_at}
 use Rattle.program_laws.proofs.Writing.{written_column_names, written_row_names}
@@ -58,9 +61,13 @@ records_long p (r ∷ rs) = let more = records_long (changed r p) rs in omega (a
 abbrev options_of : Ledger → Options
 options_of b = record { numbers = b.numbers; limit = b.limit }
 
-end_told : (e : End) (b : Ledger) (applied : ℕ) (q : Sparse) → applied ≡ length b.history → q ≡ b.problem → EndsWith (Some e) b → TellsEnd e (options_of b) applied q
-end_told (Fixpoint n) b applied q long same h = (omega (arith, long, h.0), subst (Stuck b.numbers) (sym same) h.1, h.2 ∙ ap skipped_on (sym same))
-end_told LimitReached b applied q long same h = (long ∙ h.0, subst IsUndecided (sym same) h.1)
+end_told : (e : End) (b : Ledger) (us : List Undo) (q : Sparse) → us ≡ b.records → length us ≡ length b.history → open_on b.tally ≡ open_by b.records → q ≡ b.problem → EndsWith (Some e) b → TellsEnd e (options_of b) us q
+end_told (Fixpoint n) b us q is long opens same h = let free : open_on b.tally ≡ open_by us = opens ∙ ap open_by (sym is) in (
+  omega (arith, long, h.0),
+  subst (λ (p : Sparse). Stuck b.numbers (open_by us) p) (sym same) (subst (λ (o : Open). Stuck b.numbers o b.problem) free h.1),
+  h.2 ∙ ap₂ skipped_on free (sym same),
+)
+end_told LimitReached b us q is long opens same h = (long ∙ h.0, subst IsUndecided (sym same) h.1)
 
 undecided_at : (e : End) (b : Ledger) → EndsWith (Some e) b → IsUndecided b.problem
 undecided_at (Fixpoint n) b h = h.1.undecided
@@ -76,7 +83,7 @@ concluded program b told e ascends writes o s h t named runs =
     record {
       walked = walked program b told o s t;
       reduces = walked_reduces b.numbers program (written_program program b.problem) told ascends (walked program b told o s t);
-      end = end_told e b (length told.undos) (replay b.start b.history) (ap length (t.undos ∙ s.records) ∙ records_long b.start b.history) (sym s.problem) h;
+      end = end_told e b told.undos (replay b.start b.history) t.undos (ap length (t.undos ∙ s.records) ∙ records_long b.start b.history) (open_same b.tally b.records s.tally) (sym s.problem) h;
       names = record {
         sense = t.sense;
         objective = refl;

@@ -1,5 +1,5 @@
 -- Rounds that follow one another, and the last.
-use Rattle.std.proofs.Common.{◌≡◌, ◌≢◌, ◌⊎◌, inl, inr, ℕ, zero, suc, ◌+◌, ◌^◌, ◌<◌, ◌≤◌, true, false, Bool, List, [], ◌∷◌, ◌++◌, length, take, get_or, Option, Some, None, sym, refl, ap, ◌∙◌, subst, arith, append_assoc}
+use Rattle.std.proofs.Common.{◌≡◌, ◌≢◌, ◌⊎◌, inl, inr, ℕ, suc, ◌+◌, ◌^◌, ◌<◌, ◌≤◌, true, false, Bool, List, [], ◌∷◌, ◌++◌, length, take, get_or, Option, Some, None, sym, refl, ap, ◌∙◌, subst, arith, append_assoc}
 use Rattle.std.specs.Prelude.{◌&&◌, if◌then◌else◌, is_some}
 use Rattle.std.specs.List.{Contains, filter, flat_map}
 use Rattle.std.proofs.lemmas.List.{append-nil, take_more}
@@ -24,23 +24,27 @@ use Rattle.presolve_model.specs.Order.{verdict_order}
 use Rattle.presolve_model.specs.Ordered.{Closes, Committed, enabled_verdicts, Ordered, round_list}
 use Rattle.presolve_model.specs.Scans.{all_ids, all_of, instances_at, proposal_of}
 use Rattle.presolve_model.specs.Stuck.{skipped_on, Stuck}
-use Rattle.presolve_model.specs.Instances.{instances_from, rests_on_reading, rule_at}
+use Rattle.presolve_model.specs.Instances.{goes_by_form, instances_from, reach_of, rests_on_reading, rule_at}
 use Rattle.presolve_model.specs.Tables.{heads}
 use Rattle.presolve_model.proofs.Readings.{reading_agrees}
 use Rattle.history_laws.proofs.Keeping.{sparse_replay}
-use Rattle.place_laws.specs.Choosing.{all_around, AreSorted, Around, HoldsAround, visited}
-use Rattle.place_laws.specs.Marks.{IsMarked, IsNoted, is_refusal, Marks}
+use Rattle.place_laws.specs.Choosing.{all_around, AreSorted, Around, HoldsAround, IsComplete, visited}
+use Rattle.place_laws.specs.Marks.{AreStirred, Grows, IsMarked, IsNoted, is_refusal, Marks}
 use Rattle.place_laws.specs.Standing.{IsFresh}
 use Rattle.round_laws.specs.Passing.{Follows, IsSameBook, Passed}
 use Rattle.place_laws.proofs.Choosing.{all_each, all_sorted, marked_complete}
 use Rattle.round_laws.proofs.Committing.{left_open}
 use Rattle.place_laws.proofs.Places.{IsVerdict, verdict_from}
-use Rattle.round_laws.proofs.Rounds.{committed_grows, passed_marked, round_stuck, undecided_none}
+use Rattle.round_laws.proofs.Rounds.{committed_grows, passed_marked, passed_round, round_stuck, undecided_none}
 use Rattle.place_laws.proofs.ShortLists.{comes_from}
 use Rattle.run_laws.proofs.Runs.{run_full}
-use Rattle.round_laws.proofs.Tracking.{passed_on}
-use Rattle.round_laws.proofs.Turns.{follows_next, follows_start, met, met_asleep}
-use Rattle.round_marks.specs.Marking.{AreReached, marked}
+use Rattle.round_laws.proofs.Tracking.{passed_none, passed_on}
+use Rattle.round_laws.proofs.Turns.{follows_next, follows_start, met, met_asleep, met_stale}
+use Rattle.round_marks.specs.Marking.{all_marked, AreReached, left_over, marked, Watched}
+use Rattle.round_marks.specs.Forming.{AreFormsOf, Formed, forms_of}
+use Rattle.round_marks.proofs.Reforming.{formed}
+use Rattle.presolve_rounds.specs.Walking.{IsGoing, IsPassed}
+use Rattle.presolve_model.specs.Tallies.{Open, open_on}
 use Rattle.presolve_rounds.specs.Readiness.{AreMarked, IsReady}
 use Rattle.presolve_rounds.specs.Running.{EndsWith, IsAtFixpoint, IsFirst}
 use Rattle.round_marks.specs.Stamping.{AreStampsOf, restamped, Stamped, stamps_of}
@@ -58,69 +62,132 @@ noted_more p q n m a h = record { kept = λ b c. (more_in m a).0 b (h.kept b c);
     wider b (inl x) = inl x
     wider b (inr c) = inr ((more_in m a).0 b c)
 
+stirred_more : (p q : Sparse) (n m : List Part) (a : Part) → AreStirred p q n m → AreStirred p q n (m ++ a ∷ [])
+stirred_more p q n m a h = record { kept = λ b c. (more_in m a).0 b (h.kept b c); changed = λ b. wider b (h.changed b) }
+  where
+    wider : {A : Type 0} (b : Part) → A ⊎ Contains m b → A ⊎ Contains (m ++ a ∷ []) b
+    wider b (inl x) = inl x
+    wider b (inr c) = inr ((more_in m a).0 b c)
+
+-- what is left over counts for the rule
+abbrev left_by_form : Bool → Marks → Part → Marks
+left_by_form s k a = if s then record k { stirred = k.stirred ++ a ∷ [] } else record k { noted = k.noted ++ a ∷ [] }
+
+over_counts : (s : Bool) (k : Marks) (a : Part) → Contains (if s then (left_by_form s k a).stirred else (left_by_form s k a).noted) a
+over_counts true k a = (more_in k.stirred a).1
+over_counts false k a = (more_in k.noted a).1
+
+over_grows : (s : Bool) (k : Marks) (a : Part) → Grows k (left_by_form s k a)
+over_grows true k a = record { noted = λ x c. c; stirred = (more_in k.stirred a).0; asleep = λ x c. c }
+over_grows false k a = record { noted = (more_in k.noted a).0; stirred = λ x c. c; asleep = λ x c. c }
+
+over_noted : (p q : Sparse) (n : List Part) (s : Bool) (k : Marks) (a : Part) → AreNoted p q n k.noted → AreNoted p q n (left_by_form s k a).noted
+over_noted p q n true k a h = h
+over_noted p q n false k a h = noted_more p q n k.noted a h
+
+over_stirred : (p q : Sparse) (n : List Part) (s : Bool) (k : Marks) (a : Part) → AreStirred p q n k.stirred → AreStirred p q n (left_by_form s k a).stirred
+over_stirred p q n true k a h = stirred_more p q n k.stirred a h
+over_stirred p q n false k a h = h
+
+over_asleep : (s : Bool) (k : Marks) (a : Part) (x : Part) → Contains k.asleep x → Contains (left_by_form s k a).asleep x
+over_asleep true k a x c = c
+over_asleep false k a x c = c
+
+-- a stale instance is left over
+pub stale_left : (f : Ledger) (w v : Watched) (b : Ledger) (e : Instance) (a : Part) → IsGoing f w b → (IsFresh f.problem b.problem e → ⊥) → v ≡ record { marks = left_over w.marks e a; forms = w.forms } → Contains (heads e) a → IsPassed f (e ∷ []) w b v b
+stale_left f w v b e a going stale is own = subst (λ (x : Watched). IsPassed f (e ∷ []) w b x b) (sym is) (record {
+  passed = met_stale (open_on f.tally) f.problem w.marks (left_over w.marks e a) b e a going.follows stale (over_grows (goes_by_form (reach_of (rule_at e))) w.marks a) own (over_counts (goes_by_form (reach_of (rule_at e))) w.marks a);
+  forms = going.forms;
+})
+
 -- an instance after its turn: k is what was marked when it was applied, and m with a part of it
-module _ (f : Sparse) (w : ℕ) (n k m : Marks) (b c : Ledger) (e : Instance) (o : Outcome) (a : Part) (h : Follows f b) (fresh : IsFresh f b.problem e) (on : enabled_on b.problem e ≡ true) (answered : o ≢ NoMemory)
-    (allows : Allows b (proposal_of b.problem w e) o) (left : c ≡ left_by b (proposal_of b.problem w e) o) (noted : AreNoted b.problem c.problem n.noted k.noted) (asleep : k.asleep ≡ n.asleep) (own : Contains (heads e) a) where
+module _ (opens : Open) (f : Sparse) (w : ℕ) (n k m : Marks) (b c : Ledger) (e : Instance) (o : Outcome) (a : Part) (h : Follows opens f b) (fresh : IsFresh f b.problem e) (on : enabled_on b.problem e ≡ true) (answered : o ≢ NoMemory)
+    (allows : Allows b (proposal_of b.problem w e) o) (left : c ≡ left_by b (proposal_of b.problem w e) o) (noted : AreNoted b.problem c.problem n.noted k.noted) (stirred : AreStirred b.problem c.problem n.stirred k.stirred)
+    (asleep : k.asleep ≡ n.asleep) (own : Contains (heads e) a) where
   sleeps_still : (x : Part) → Contains n.asleep x → Contains k.asleep x
   sleeps_still x d = subst (λ (xs : List Part). Contains xs x) (sym asleep) d
 
-  pub met_marked : m ≡ marked k e o a → Passed f (e ∷ []) n b m c
-  met_marked is = subst (λ (x : Marks). Passed f (e ∷ []) n b x c) (sym is) (by (is_refusal o) (rests_on_reading (rule_at e)) refl refl)
+  -- it is left over
+  met_left : (s : Bool) → goes_by_form (reach_of (rule_at e)) ≡ s → Passed opens f (e ∷ []) n b (left_by_form s k a) c
+  met_left s is = met opens f w n (left_by_form s k a) b c e o a h fresh on answered allows left (over_noted b.problem c.problem n.noted s k a noted) (over_stirred b.problem c.problem n.stirred s k a stirred)
+      (λ x d. over_asleep s k a x (sleeps_still x d)) own (subst (λ (t : Bool). Contains (if t then (left_by_form s k a).stirred else (left_by_form s k a).noted) a) (sym is) (over_counts s k a))
+
+  pub met_marked : m ≡ marked k e o a → Passed opens f (e ∷ []) n b m c
+  met_marked is = subst (λ (x : Marks). Passed opens f (e ∷ []) n b x c) (sym is) (by (is_refusal o) (rests_on_reading (rule_at e)) refl refl)
     where
-      by : (s t : Bool) → is_refusal o ≡ s → rests_on_reading (rule_at e) ≡ t → Passed f (e ∷ []) n b (if s && t then record { noted = k.noted; asleep = k.asleep ++ a ∷ [] } else record { noted = k.noted ++ a ∷ []; asleep = k.asleep }) c
-      by true true refused rests = met_asleep f w n (record { noted = k.noted; asleep = k.asleep ++ a ∷ [] }) b c e o a h fresh on refused rests allows left
-          (record { noted = noted.kept; asleep = λ x d. (more_in k.asleep a).0 x (sleeps_still x d) }) own (more_in k.asleep a).1
-      by true false refused rests = met f w n (record { noted = k.noted ++ a ∷ []; asleep = k.asleep }) b c e o a h fresh on answered allows left (noted_more b.problem c.problem n.noted k.noted a noted) sleeps_still own (more_in k.noted a).1
-      by false t refused rests = met f w n (record { noted = k.noted ++ a ∷ []; asleep = k.asleep }) b c e o a h fresh on answered allows left (noted_more b.problem c.problem n.noted k.noted a noted) sleeps_still own (more_in k.noted a).1
+      by : (s t : Bool) → is_refusal o ≡ s → rests_on_reading (rule_at e) ≡ t → Passed opens f (e ∷ []) n b (if s && t then record k { asleep = k.asleep ++ a ∷ [] } else left_over k e a) c
+      by true true refused rests = met_asleep opens f w n (record k { asleep = k.asleep ++ a ∷ [] }) b c e o a h fresh on refused rests allows left
+          (record { noted = noted.kept; stirred = stirred.kept; asleep = λ x d. (more_in k.asleep a).0 x (sleeps_still x d) }) own (more_in k.asleep a).1
+      by true false refused rests = met_left (goes_by_form (reach_of (rule_at e))) refl
+      by false t refused rests = met_left (goes_by_form (reach_of (rule_at e))) refl
 
 -- ---- before the first round
 sparse_of : (b : Ledger) → Stands b → IsSparse b.problem
 sparse_of b s = subst IsSparse (sym s.problem) (sparse_replay b.numbers b.start b.history s.sound s.replays)
 
-pub ready_first : (b : Ledger) (s : Stamped) (n : Around) (asleep : List Part) → Stands b → ((a : Part) → changes_of b.problem a ≤ length b.history) → b.limit < 2 ^ 64 → s ≡ stamps_of b.problem → n ≡ all_around b.problem → IsReady b s n asleep
-ready_first b s n asleep h counted short es en = subst (λ (x : Stamped). IsReady b x n asleep) (sym es) (subst (λ (m : Around). IsReady b (stamps_of b.problem) m asleep) (sym en) (record {
+pub ready_first : (b : Ledger) (s : Stamped) (n : Around) (w : Watched) → Stands b → ((a : Part) → changes_of b.problem a ≤ length b.history) → b.limit < 2 ^ 64 → s ≡ stamps_of b.problem → n ≡ all_around b.problem → w.forms ≡ forms_of b.problem → IsReady b s n w
+ready_first b s n w h counted short es en ew = record {
   follows = follows_start b counted short (sparse_of b h);
-  stamps = stamped b.problem;
-  sorted = all_sorted b.problem;
-  complete = λ e on. inl (all_each b.problem e on);
-}))
+  stamps = subst (λ (x : Stamped). AreStampsOf x b.problem) (sym es) (stamped b.problem);
+  forms = subst (λ (x : Formed). AreFormsOf x b.problem) (sym ew) (formed b.problem);
+  sorted = subst AreSorted (sym en) (all_sorted b.problem);
+  complete = subst (λ (m : Around). IsComplete b.numbers (open_on b.tally) b.problem m w.marks.asleep) (sym en) (λ e on free. inl (all_each (open_on b.tally) b.problem e on free));
+}
+
+-- as a round begins
+pub ready_begun : (b : Ledger) (s : Stamped) (n : Around) (w v : Watched) → IsReady b s n w → v ≡ record { marks = record { noted = []; stirred = []; asleep = w.marks.asleep }; forms = w.forms } → IsReady b s n v
+ready_begun b s n w v ready is = record {
+  follows = ready.follows;
+  stamps = ready.stamps;
+  forms = subst (λ (x : Watched). AreFormsOf x.forms b.problem) (sym is) ready.forms;
+  sorted = ready.sorted;
+  complete = subst (λ (x : Watched). IsComplete b.numbers (open_on b.tally) b.problem n x.marks.asleep) (sym is) ready.complete;
+}
 
 -- ---- from one round to the next
-module _ (b c : Ledger) (s : Stamped) (n : Around) (k m : Marks) (ready : IsReady b s n k.asleep) (h : Passed b.problem (visited b.problem n) k b m c) where
-  pub round_marked : c.verdict ≡ None → length c.history < c.limit → AreMarked c m
-  round_marked none room = passed_marked b c n k m ready.sorted ready.complete h none room
+module _ (b c : Ledger) (s : Stamped) (n : Around) (w v : Watched) (ready : IsReady b s n w) (h : IsPassed b (visited (open_on b.tally) b.problem n) w b v c) where
+  pub round_committed : Committed b (round_list b) c
+  round_committed = passed_round b c n w.marks v.marks ready.sorted ready.complete h.passed
 
-  pub ready_next : (t : Stamped) (l : Around) → t ≡ restamped s c.problem m.noted → AreSorted l → HoldsAround c.problem m.noted l → c.verdict ≡ None → length c.history < c.limit → IsReady c t l m.asleep
+  pub round_marked : c.verdict ≡ None → length c.history < c.limit → AreMarked c v.marks
+  round_marked none room = passed_marked b c n w.marks v.marks ready.sorted ready.complete h.passed none room
+
+  pub ready_next : (t : Stamped) (l : Around) → t ≡ restamped s c.problem v.marks.noted → AreSorted l → HoldsAround c.problem v.marks l → c.verdict ≡ None → length c.history < c.limit → IsReady c t l v
   ready_next t l e sorted holds none room = record {
-    follows = follows_next b.problem c h.follows;
-    stamps = subst (λ (x : Stamped). AreStampsOf x c.problem) (sym e) (restamped_right b.problem c.problem s m.noted ready.stamps ready.follows.sparse h.follows.sparse h.follows.size h.moved);
+    follows = follows_next (open_on b.tally) b.problem c h.passed.follows;
+    stamps = subst (λ (x : Stamped). AreStampsOf x c.problem) (sym e) (restamped_right b.problem c.problem s v.marks.noted ready.stamps ready.follows.sparse h.passed.follows.sparse h.passed.follows.size h.passed.moved);
+    forms = h.forms;
     sorted = sorted;
-    complete = marked_complete c.numbers c.problem m l h.follows.sparse holds (round_marked none room);
+    complete = marked_complete c.numbers (open_on c.tally) c.problem v.marks l h.passed.follows.sparse holds (round_marked none room);
   }
 
--- each enabled instance reads a part that is noted, or one of an instance that sleeps
-pub marked_reached : (b : Ledger) (m : Marks) → AreMarked b m → AreReached b.problem (m.noted ++ m.asleep)
-marked_reached b m h e on = by (h e on)
+-- each enabled instance reads a part that is marked
+pub marked_reached : (b : Ledger) (m : Marks) → AreMarked b m → AreReached (open_on b.tally) b.problem (all_marked m)
+marked_reached b m h e on free = by (h e on free)
   where
-    by : IsMarked b.numbers b.problem m e → IsNoted b.problem (m.noted ++ m.asleep) e
-    by (inl (a, r, c)) = (a, r, Contains-append_left m.noted m.asleep a c)
-    by (inr ((a, r, c), rests)) = (a, r, Contains-append_right m.noted m.asleep a c)
+    among : (s : Bool) (a : Part) → Contains (if s then m.stirred else m.noted) a → Contains (all_marked m) a
+    among true a c = Contains-append_left (m.noted ++ m.stirred) m.asleep a (Contains-append_right m.noted m.stirred a c)
+    among false a c = Contains-append_left (m.noted ++ m.stirred) m.asleep a (Contains-append_left m.noted m.stirred a c)
+
+    by : IsMarked b.numbers b.problem m e → IsNoted b.problem (all_marked m) e
+    by (inl (a, r, c)) = (a, r, among (goes_by_form (reach_of (rule_at e))) a c)
+    by (inr k) = let told = k.told in (told.0, told.1, Contains-append_right (m.noted ++ m.stirred) m.asleep told.0 told.2)
 
 -- a round that applied something
 pub more_applied : (b c : Ledger) → Committed b (round_list b) c → length c.history ≢ length b.history → length b.history < length c.history
 more_applied b c h other = let g = committed_grows b c (round_list b) h in omega (arith, g, other)
 
 -- a round that applied nothing
-pub at_fixpoint : (b c : Ledger) (n : ℕ) → b.verdict ≡ None → length b.history < b.limit → Committed b (round_list b) c → c.verdict ≡ None → length c.history ≡ length b.history → n ≡ skipped_on c.problem → IsAtFixpoint c n
+pub at_fixpoint : (b c : Ledger) (n : ℕ) → b.verdict ≡ None → length b.history < b.limit → Committed b (round_list b) c → c.verdict ≡ None → length c.history ≡ length b.history → n ≡ skipped_on (open_on c.tally) c.problem → IsAtFixpoint c n
 at_fixpoint b c n before room h none long e =
     let s = round_stuck b c before room h none long in
-    let both : (length c.history < c.limit) × Stuck c.numbers c.problem = subst (λ (y : Ledger). (length y.history < y.limit) × Stuck y.numbers y.problem) (sym s.0) (room, s.1) in
+    let both : (length c.history < c.limit) × Stuck c.numbers (open_on c.tally) c.problem = subst (λ (y : Ledger). (length y.history < y.limit) × Stuck y.numbers (open_on y.tally) y.problem) (sym s.0) (room, s.1) in
     (both.0, both.1, e)
 
 -- ---- a book that is full
-pub full_undecided : (b : Ledger) → enabled_verdicts b.problem ≡ [] → b.limit ≤ length b.history → length b.history ≤ b.limit → Ordered b (Some LimitReached) b × EndsWith (Some LimitReached) b
+pub full_undecided : (b : Ledger) → enabled_verdicts (open_on b.tally) b.problem ≡ [] → b.limit ≤ length b.history → length b.history ≤ b.limit → Ordered b (Some LimitReached) b × EndsWith (Some LimitReached) b
 full_undecided b none full within =
-    (run_full b b (Some LimitReached) full (subst (λ (vs : List Instance). Closes b vs (Some LimitReached) b) (sym none) (refl, refl)), (omega (arith, full, within), undecided_none b.problem none))
+    (run_full b b (Some LimitReached) full (subst (λ (vs : List Instance). Closes b vs (Some LimitReached) b) (sym none) (refl, refl)), (omega (arith, full, within), undecided_none (open_on b.tally) b.problem none))
 
 -- the first of what passes passes
 first_passes : (P : Instance → Bool) (es : List Instance) (v : Instance) (rest : List Instance) → filter P es ≡ v ∷ rest → (P v ≡ true) × Contains es v
@@ -134,18 +201,18 @@ first_passes P (e ∷ es) v rest h = by (P e) refl h (first_passes P es v rest)
         by_more : Contains es v → Contains (e ∷ es) v
         by_more (i, l, f) = (suc i, omega (arith, l), f)
 
-verdict_there : (p : Sparse) (v : Instance) → Contains (all_of p verdict_order) v → IsVerdict v
-verdict_there p v c =
-    let r = comes_from (λ (rule : Rule). instances_at p rule (all_ids p rule)) verdict_order v c in
-    let k = comes_from (instances_from p r.0) (all_ids p r.0) v r.2 in
-    verdict_from p r.0 k.0 v r.1 k.2
+verdict_there : (opens : Open) (p : Sparse) (v : Instance) → Contains (all_of opens p verdict_order) v → IsVerdict v
+verdict_there opens p v c =
+    let r = comes_from (λ (rule : Rule). instances_at opens p rule (all_ids p rule)) verdict_order v c in
+    let k = comes_from (instances_from opens p r.0) (all_ids p r.0) v r.2 in
+    verdict_from opens p r.0 k.0 v r.1 k.2
 
-pub full_enabled : (b : Ledger) (v : Instance) → IsFirst (enabled_verdicts b.problem) (Some v) → enabled_on b.problem v ≡ true
-full_enabled b v h = (first_passes (enabled_on b.problem) (all_of b.problem verdict_order) v h.0 h.1).0
+pub full_enabled : (b : Ledger) (v : Instance) → IsFirst (enabled_verdicts (open_on b.tally) b.problem) (Some v) → enabled_on b.problem v ≡ true
+full_enabled b v h = (first_passes (enabled_on b.problem) (all_of (open_on b.tally) b.problem verdict_order) v h.0 h.1).0
 
-pub full_decided : (b c : Ledger) (w : ℕ) (v : Instance) (o : Outcome) → b.verdict ≡ None → b.limit ≤ length b.history → IsFirst (enabled_verdicts b.problem) (Some v) → o ≢ NoMemory
+pub full_decided : (b c : Ledger) (w : ℕ) (v : Instance) (o : Outcome) → b.verdict ≡ None → b.limit ≤ length b.history → IsFirst (enabled_verdicts (open_on b.tally) b.problem) (Some v) → o ≢ NoMemory
     → Allows b (proposal_of b.problem w v) o → c ≡ left_by b (proposal_of b.problem w v) o → Ordered b None c × (c.verdict ≢ None) × IsSameBook b c
-full_decided b c w v o none full h mem a left = by (verdict_there b.problem v (first_passes (enabled_on b.problem) (all_of b.problem verdict_order) v h.0 h.1).1)
+full_decided b c w v o none full h mem a left = by (verdict_there (open_on b.tally) b.problem v (first_passes (enabled_on b.problem) (all_of (open_on b.tally) b.problem verdict_order) v h.0 h.1).1)
   where
     by : IsVerdict v → Ordered b None c × (c.verdict ≢ None) × IsSameBook b c
     by (x, same) =
@@ -174,16 +241,26 @@ flat_both : {X : Type 0} (g : X → List Instance) (xs ys : List X) → flat_map
 flat_both g [] ys = refl
 flat_both g (x ∷ xs) ys = ap (λ (es : List Instance). g x ++ es) (flat_both g xs ys) ∙ sym (append_assoc (g x) (flat_map g xs) (flat_map g ys))
 
+-- one pass after another
+pub both_passed : (a : Ledger) (es fs : List Instance) (w v u : Watched) (b c d : Ledger) → IsPassed a es w b v c → IsPassed a fs v c u d → IsPassed a (es ++ fs) w b u d
+both_passed a es fs w v u b c d h k = record { passed = passed_on (open_on a.tally) a.problem es fs w.marks v.marks u.marks b c d h.passed k.passed; forms = k.forms }
+
+pub none_passed : (a : Ledger) (w : Watched) (b : Ledger) → IsGoing a w b → IsPassed a [] w b w b
+none_passed a w b h = record { passed = passed_none (open_on a.tally) a.problem w.marks b h.follows; forms = h.forms }
+
+pub goes_on : (a : Ledger) (es : List Instance) (w v : Watched) (b c : Ledger) → IsPassed a es w b v c → IsGoing a v c
+goes_on a es w v b c h = record { follows = h.passed.follows; forms = h.forms }
+
 -- what comes of one of a list more
-pub one_more : {X : Type 0} (f : Sparse) (g : X → List Instance) (xs : List X) (i : ℕ) (x : X) (n m l : Marks) (b c d : Ledger) → i < length xs → Passed f (flat_map g (take i xs)) n b m c → Passed f (g (get_or xs i x)) m c l d
-    → Passed f (flat_map g (take (i + 1) xs)) n b l d
-one_more f g xs i x n m l b c d inside h k =
+pub one_more : {X : Type 0} (a : Ledger) (g : X → List Instance) (xs : List X) (i : ℕ) (x : X) (w v u : Watched) (b c d : Ledger) → i < length xs → IsPassed a (flat_map g (take i xs)) w b v c → IsPassed a (g (get_or xs i x)) v c u d
+    → IsPassed a (flat_map g (take (i + 1) xs)) w b u d
+one_more a g xs i x w v u b c d inside h k =
     let more : flat_map g (take (i + 1) xs) ≡ flat_map g (take i xs) ++ g (get_or xs i x) =
     ap (flat_map g) (take_more xs i x inside) ∙ flat_both g (take i xs) (get_or xs i x ∷ []) ∙ ap (λ (es : List Instance). flat_map g (take i xs) ++ es) (append-nil (g (get_or xs i x))) in
-    subst (λ (es : List Instance). Passed f es n b l d) (sym more) (passed_on f (flat_map g (take i xs)) (g (get_or xs i x)) n m l b c d h k)
+    subst (λ (es : List Instance). IsPassed a es w b u d) (sym more) (both_passed a (flat_map g (take i xs)) (g (get_or xs i x)) w v u b c d h k)
 
-pub one_instance_more : (f : Sparse) (es : List Instance) (i : ℕ) (e : Instance) (n m l : Marks) (b c d : Ledger) → i < length es → Passed f (take i es) n b m c → Passed f (get_or es i e ∷ []) m c l d → Passed f (take (i + 1) es) n b l d
-one_instance_more f es i e n m l b c d inside h k = subst (λ (fs : List Instance). Passed f fs n b l d) (sym (take_more es i e inside)) (passed_on f (take i es) (get_or es i e ∷ []) n m l b c d h k)
+pub one_instance_more : (a : Ledger) (es : List Instance) (i : ℕ) (e : Instance) (w v u : Watched) (b c d : Ledger) → i < length es → IsPassed a (take i es) w b v c → IsPassed a (get_or es i e ∷ []) v c u d → IsPassed a (take (i + 1) es) w b u d
+one_instance_more a es i e w v u b c d inside h k = subst (λ (fs : List Instance). IsPassed a fs w b u d) (sym (take_more es i e inside)) (both_passed a (take i es) (get_or es i e ∷ []) w v u b c d h k)
 
 -- a list that is not empty has a first
 pub first_there : (es : List Instance) (d : Instance) → 0 < length es → IsFirst es (Some (get_or es 0 d))

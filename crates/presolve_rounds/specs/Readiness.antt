@@ -1,6 +1,5 @@
 -- What a round begins with.
-use Rattle.std.specs.Prelude.{◌≡◌, true, List}
-use Rattle.problem_model.specs.declared.part.Part.{Part}
+use Rattle.std.specs.Prelude.{◌≡◌, true}
 use Rattle.presolve_model.specs.declared.instance.Instance.{Instance}
 use Rattle.presolve_model.specs.Enabled.{enabled_on}
 use Rattle.presolve_model.specs.Instances.{is_open}

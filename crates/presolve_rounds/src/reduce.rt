@@ -28,7 +28,8 @@ fn opened(alloc: Global, program: &Program, options: &Options) -> Result<Book, A
     ensures new { IfOk result (λ book. book ≡ new_book options.now book.start) }
 {
     let problem = Problem::from_program(alloc, program)?;
-    Ok(Book::open(alloc, problem, options.numbers, options.limit))
+    let book = Book::open(alloc, problem, options.numbers, options.limit)?;
+    Ok(book)
 }
 
 /// What a program was reduced to.

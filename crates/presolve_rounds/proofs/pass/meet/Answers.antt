@@ -1,9 +1,16 @@
-use Rattle.std.proofs.Common.{length}
+use Rattle.std.proofs.Common.{length, ap, subst, sym}
+use Rattle.presolve_model.specs.Tallies.{open_on}
+use Rattle.round_marks.specs.Forming.{AreFormsOf}
+use Rattle.round_marks.specs.Marking.{Watched}
 use Rattle.presolve_rounds.proofs.Running.{met_marked}
 use Rattle.presolve_rounds.proofs.pass.meet.Goals as goal
 
 pub returns : goal.returns
 returns c =
     let w = length c.args.book.now.history in
-    met_marked c.args.frozen.now.value w c.args.marks.now c.apply-outcome.new.self c.mark.new.self c.args.book.now c.apply-outcome.new.book c.args.instance c.apply-outcome.result c.head.result
-    c.requires.follows c.requires.fresh c.requires.enabled c.in_default.not-NoMemory (c.apply-outcome.ensures.outcome w) (c.apply-outcome.ensures.left w) (c.apply-outcome.ensures.noted c.in_default.not-NoMemory) c.apply-outcome.ensures.asleep c.head.ensures c.in_ok-mark.ensures
+    record {
+      passed = met_marked (open_on c.args.frozen.now.value.tally) c.args.frozen.now.value.problem w c.args.watch.now.marks c.apply.new.self.marks c.mark.new.self.marks c.args.book.now c.apply.new.book c.args.instance c.in_ok-outcome.outcome c.head.result
+          c.requires.going.follows c.requires.fresh c.requires.enabled c.in_ok-outcome.ensures.answered (c.in_ok-outcome.ensures.outcome w) (c.in_ok-outcome.ensures.left w) c.in_ok-outcome.ensures.noted c.in_ok-outcome.ensures.stirred c.in_ok-outcome.ensures.asleep
+          c.head.ensures (ap (λ (x : Watched). x.marks) c.in_ok-mark.ensures);
+      forms = subst (λ (x : Watched). AreFormsOf x.forms c.apply.new.book.problem) (sym c.in_ok-mark.ensures) c.in_ok-outcome.ensures.forms;
+    }

@@ -1,19 +1,25 @@
 use Rattle.std.proofs.Common.{◌≡◌, ◌++◌, List, ap, ◌∙◌, subst}
 use Rattle.std.specs.List.{filter}
-use Rattle.problem_model.specs.Sparse.{Sparse}
 use Rattle.presolve_model.specs.declared.instance.Instance.{Instance}
 use Rattle.presolve_model.specs.Enabled.{enabled_on}
 use Rattle.presolve_model.specs.Instances.{instances_from}
-use Rattle.round_laws.specs.Passing.{Passed}
+use Rattle.presolve_model.specs.Ledger.{Ledger}
+use Rattle.presolve_model.specs.Tallies.{open_on}
 use Rattle.round_laws.proofs.Thinning.{passed_found}
+use Rattle.presolve_rounds.specs.Walking.{IsPassed}
 use Rattle.presolve_rounds.proofs.pass.visit_at.Goals as goal
 
 pub returns : goal.returns
 returns c =
-    let p : Sparse = c.args.book.now.problem in
-    let found : c.as_slice.result.now ≡ filter (enabled_on p) (instances_from p c.args.rule c.args.id) =
+    let a : Ledger = c.args.frozen.now.value in
+    let b : Ledger = c.args.book.now in
+    let found : c.as_slice.result.now ≡ filter (enabled_on b.problem) (instances_from (open_on b.tally) b.problem c.args.rule c.args.id) =
     c.as_slice.ensures.value ∙ c.in_ok-add_enabled.ensures
-    ∙ ap (λ (es : List Instance). es ++ filter (enabled_on c.problem.result.now) (instances_from c.problem.result.now c.args.rule c.args.id)) c.new-found.ensures.items
-    ∙ ap (λ (q : Sparse). filter (enabled_on q) (instances_from q c.args.rule c.args.id)) c.problem.ensures in
-    passed_found c.args.frozen.now.value c.args.rule c.args.id c.args.marks.now c.visit_found.new.marks c.args.book.now c.visit_found.new.book c.requires.follows
-    (subst (λ (es : List Instance). Passed c.args.frozen.now.value es c.args.marks.now c.args.book.now c.visit_found.new.marks c.visit_found.new.book) found c.in_ok-visit_found.ensures)
+    ∙ ap (λ (es : List Instance). es ++ filter (enabled_on c.problem.result.now) (instances_from (open_on c.tally.result.now) c.problem.result.now c.args.rule c.args.id)) c.new-found.ensures.items
+    ∙ (λ t. filter (enabled_on (c.problem.ensures t)) (instances_from (open_on (c.tally.ensures t)) (c.problem.ensures t) c.args.rule c.args.id)) in
+    let h : IsPassed a (filter (enabled_on b.problem) (instances_from (open_on b.tally) b.problem c.args.rule c.args.id)) c.args.watch.now b c.visit_found.new.watch c.visit_found.new.book =
+    subst (λ (es : List Instance). IsPassed a es c.args.watch.now b c.visit_found.new.watch c.visit_found.new.book) found c.in_ok-visit_found.ensures in
+    record {
+      passed = passed_found (open_on a.tally) a.problem c.args.rule c.args.id c.args.watch.now.marks c.visit_found.new.watch.marks b c.visit_found.new.book c.requires.going.follows h.passed;
+      forms = h.forms;
+    }

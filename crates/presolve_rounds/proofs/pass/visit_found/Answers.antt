@@ -1,14 +1,14 @@
-use Rattle.round_laws.proofs.Tracking.{passed_none}
-use Rattle.presolve_rounds.proofs.Running.{one_instance_more}
+use Rattle.std.proofs.Common.{take}
+use Rattle.presolve_rounds.proofs.Running.{goes_on, none_passed, one_instance_more}
 use Rattle.presolve_rounds.proofs.pass.visit_found.Goals as goal
 
 pub loop-instance-init : goal.loop-instance-init
-loop-instance-init c = passed_none c.args.frozen.now.value c.args.marks.now c.args.book.now c.requires.follows
+loop-instance-init c = none_passed c.args.frozen.now.value c.args.watch.now c.args.book.now c.requires.going
 
-pub visit-requires-clause-follows : goal.visit-requires-clause-follows
-visit-requires-clause-follows c = c.loop-instance.invariant.follows
+pub visit-requires-clause-going : goal.visit-requires-clause-going
+visit-requires-clause-going c = goes_on c.args.frozen.now.value (take c.loop-instance.instance-index c.args.found.now) c.args.watch.now c.loop-instance.watch c.args.book.now c.loop-instance.book c.loop-instance.invariant
 
 pub loop-instance-preserved : goal.loop-instance-preserved
 loop-instance-preserved c =
-    one_instance_more c.args.frozen.now.value c.args.found.now c.loop-instance.instance-index _ c.args.marks.now c.loop-instance.marks c.visit.new.marks c.args.book.now c.loop-instance.book c.visit.new.book
+    one_instance_more c.args.frozen.now.value c.args.found.now c.loop-instance.instance-index _ c.args.watch.now c.loop-instance.watch c.visit.new.watch c.args.book.now c.loop-instance.book c.visit.new.book
     c.loop-instance-test.true c.loop-instance.invariant c.in_ok-visit.ensures

@@ -1,8 +1,9 @@
 use Rattle.std.proofs.Common.{take}
+use Rattle.presolve_model.specs.Tallies.{open_on}
 use Rattle.place_laws.specs.Choosing.{instances_of}
-use Rattle.round_laws.specs.Passing.{Passed}
+use Rattle.presolve_rounds.specs.Walking.{IsPassed}
 use Rattle.presolve_rounds.proofs.pass.visit_rules.Given as goal
 
 -- those so far
 abbrev pub invariant-loop-rule : goal.invariant-loop-rule
-invariant-loop-rule l = Passed l.frozen.value (instances_of l.frozen.value l.ids (take l.rule-index l.rules)) l.initial.marks l.initial.book l.marks l.book
+invariant-loop-rule l = IsPassed l.frozen.value (instances_of (open_on l.frozen.value.tally) l.frozen.value.problem l.ids (take l.rule-index l.rules)) l.initial.watch l.initial.book l.watch l.book

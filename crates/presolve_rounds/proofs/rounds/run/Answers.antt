@@ -1,8 +1,10 @@
-use Rattle.std.proofs.Common.{◌≡◌, ◌<◌, ◌++◌, length, None, Some, sym, refl, ap, ◌∙◌, subst, arith}
+use Rattle.std.proofs.Common.{◌≡◌, ◌<◌, length, None, Some, sym, refl, ap, ◌∙◌, subst, arith}
 use Rattle.presolve_model.specs.Stuck.{skipped_on}
 use Rattle.place_laws.specs.Choosing.{all_around}
 use Rattle.run_laws.proofs.Runs.{run_more, run_stops}
-use Rattle.round_marks.specs.Marking.{AreReached}
+use Rattle.round_marks.specs.Forming.{forms_of}
+use Rattle.round_marks.specs.Marking.{all_marked, AreReached, Watched}
+use Rattle.presolve_model.specs.Tallies.{Counts, open_on}
 use Rattle.round_marks.specs.Stamping.{stamps_of}
 use Rattle.presolve_rounds.proofs.Running.{at_fixpoint, marked_reached, more_applied, none_of, ready_first, same_twice, some_of}
 use Rattle.presolve_rounds.proofs.rounds.run.Goals as goal
@@ -14,8 +16,8 @@ loop-book-init c = record {
   same = record { start = refl; numbers = refl; limit = refl };
   limit = c.limit-limit.ensures;
   undecided = c.requires.undecided;
-  ready = λ room. ready_first c.args.book.now c.in_ok-stamps.stamps c.in_ok-ids.ids _ c.stands.ensures.stands c.requires.counted (omega (arith, c.limit-limit.ensures, c.limit-limit.type_inv))
-      (c.in_ok-stamps.ensures ∙ ap stamps_of c.problem.ensures) (c.in_ok-ids.ensures ∙ ap all_around c.problem-2.ensures);
+  ready = λ room. ready_first c.args.book.now c.in_ok-stamps.stamps c.in_ok-ids.ids c.in_ok-watch.watch c.stands.ensures.stands c.requires.counted (omega (arith, c.limit-limit.ensures, c.limit-limit.type_inv))
+      (c.in_ok-stamps.ensures ∙ ap stamps_of c.problem.ensures) (c.in_ok-ids.ensures ∙ ap all_around c.problem-2.ensures) (ap (λ (x : Watched). x.forms) c.in_ok-watch.ensures ∙ ap forms_of c.problem-3.ensures);
   ordered = λ e d h. h;
 }
 
@@ -47,7 +49,7 @@ returns-then-applied-clause-end c =
     let d = c.round.new.book in
     at_fixpoint b d c.in_ok-skipped.skipped c.loop-book.invariant.undecided (omega (arith, c.loop-book-test.true, c.applied.ensures, c.loop-book.invariant.limit)) c.in_ok-round.ensures.committed
     (none_of c.verdict.result d.verdict c.verdict.ensures c.if-is_some.ensures) (sym c.applied-in-loop-book.ensures ∙ c.if-applied.true ∙ c.applied-applied.ensures)
-    (c.in_ok-skipped.ensures ∙ ap skipped_on c.problem-then-applied.ensures)
+    (c.in_ok-skipped.ensures ∙ (λ t. skipped_on (open_on (c.tally.ensures t)) (c.problem-then-applied.ensures t)))
 
 pub returns-then-is_some-clause-ordered : goal.returns-then-is_some-clause-ordered
 returns-then-is_some-clause-ordered c =
@@ -63,8 +65,9 @@ skipped-requires c =
     let long : length d.history ≡ length b.history = sym c.applied-in-loop-book.ensures ∙ c.if-applied.true ∙ c.applied-applied.ensures in
     let room : length d.history < d.limit = omega (arith, long, c.loop-book-test.true, c.applied.ensures, c.loop-book.invariant.limit, c.in_ok-round.ensures.book.limit) in
     let marked = c.in_ok-round.ensures.marked (none_of c.verdict.result d.verdict c.verdict.ensures c.if-is_some.ensures) room in
-    let parts : c.as_slice.result.now ≡ c.round.new.marks.noted ++ c.round.new.marks.asleep = c.as_slice.ensures.value ∙ c.in_ok-parts.ensures in
-    record { reached = subst (λ (p : Sparse). AreReached p c.as_slice.result.now) (sym c.problem-then-applied.ensures) (subst (AreReached d.problem) (sym parts) (marked_reached d c.round.new.marks marked)) }
+    let parts : c.as_slice.result.now ≡ all_marked c.round.new.watch.marks = c.as_slice.ensures.value ∙ c.in_ok-parts.ensures in
+    record { reached = subst (λ (t : Counts). AreReached (open_on t) c.problem-then-applied.result.now c.as_slice.result.now) (sym c.tally.ensures)
+      (subst (λ (p : Sparse). AreReached (open_on d.tally) p c.as_slice.result.now) (sym c.problem-then-applied.ensures) (subst (AreReached (open_on d.tally) d.problem) (sym parts) (marked_reached d c.round.new.watch.marks marked))) }
 
 pub returns-then-applied-clause-ordered : goal.returns-then-applied-clause-ordered
 returns-then-applied-clause-ordered c =
@@ -72,4 +75,4 @@ returns-then-applied-clause-ordered c =
     let d = c.round.new.book in
     let long : length d.history ≡ length b.history = sym c.applied-in-loop-book.ensures ∙ c.if-applied.true ∙ c.applied-applied.ensures in
     c.loop-book.invariant.ordered (Some (Fixpoint c.in_ok-skipped.skipped)) d (run_stops b d (Some (Fixpoint c.in_ok-skipped.skipped)) (omega (arith, c.loop-book-test.true, c.applied.ensures, c.loop-book.invariant.limit)) c.in_ok-round.ensures.committed
-    (none_of c.verdict.result d.verdict c.verdict.ensures c.if-is_some.ensures, long, c.in_ok-skipped.ensures ∙ ap skipped_on c.problem-then-applied.ensures))
+    (none_of c.verdict.result d.verdict c.verdict.ensures c.if-is_some.ensures, long, c.in_ok-skipped.ensures ∙ (λ t. skipped_on (open_on (c.tally.ensures t)) (c.problem-then-applied.ensures t))))

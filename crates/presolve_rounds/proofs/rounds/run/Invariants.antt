@@ -12,7 +12,7 @@ invariant-loop-book l = record {
   same : IsSameBook l.initial.book l.book;
   limit : l.limit ≡ l.book.limit;
   undecided : l.book.verdict ≡ None;
-  ready : length l.book.history < l.book.limit → IsReady l.book l.stamps l.ids l.marks.asleep;
+  ready : length l.book.history < l.book.limit → IsReady l.book l.stamps l.ids l.watch;
   ordered : (e : Option End) (c : Ledger) → Ordered l.book e c → Ordered l.initial.book e c;
 }
 
