@@ -16,9 +16,11 @@ use Rattle.presolve_model.specs.declared.instance.Reduction.{Reduction}
 use Rattle.presolve_model.specs.declared.instance.Reduction.TheVariants.{TightenedBound, TightenedCoefficient}
 use Rattle.presolve_model.specs.declared.instance.Rule.{Rule}
 use Rattle.presolve_model.specs.declared.instance.Rule.TheVariants as rule
+use Rattle.presolve_model.specs.declared.instance.Verdict.{Verdict}
+use Rattle.presolve_model.specs.declared.instance.Verdict.TheVariants.{CrossedBounds, CrossedSides, OutOfReach, Ray}
 use Rattle.presolve_model.specs.Changes.{changed}
 use Rattle.presolve_model.specs.Enabled.{enabled_on, reads}
-use Rattle.presolve_model.specs.Instances.{goes_by_form, instances_from, reach_of, rule_at, rule_of, shares_reading}
+use Rattle.presolve_model.specs.Instances.{goes_by_form, instances_from, reach_of, rule_at, rule_of, shares_reading, verdict_rule}
 use Rattle.presolve_model.specs.Tallies.{Open}
 use Rattle.presolve_model.proofs.Lists.{each_mapped}
 use Rattle.presolve_model.proofs.Tightened.{coefficient_read, coefficient_rises, tightened_read, tightened_rise}
@@ -43,3 +45,9 @@ pub one_rises : (p : Sparse) (r : Reduction) → IsSparse p → shares_reading (
 one_rises p (TightenedBound i j side) s t on = (part.Bounds j, tightened_read p i j side on, tightened_rise p i j side s on)
 one_rises p (TightenedCoefficient i j) s t on = (part.Row i, coefficient_read p i j, coefficient_rises p i j s on)
 one_rises p r s t on = absurd (true≢false (sym t))
+
+pub verdicts_share_none : (v : Verdict) → shares_reading (verdict_rule v) ≡ true → ⊥
+verdicts_share_none (CrossedBounds j) t = true≢false (sym t)
+verdicts_share_none (CrossedSides i) t = true≢false (sym t)
+verdicts_share_none (OutOfReach i) t = true≢false (sym t)
+verdicts_share_none (Ray j) t = true≢false (sym t)
