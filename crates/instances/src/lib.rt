@@ -24,7 +24,7 @@ pub use enabled::{change, is_enabled};
 pub use finding::add_enabled;
 pub use listing::{
     goes_by_form, is_of_rows, reach_of, reduction_rules, rests_on_reading, says_no_point,
-    verdict_rules,
+    shares_reading, verdict_rules,
 };
 pub use parts::{head, parts_read};
 pub use proposal::Proposal;

@@ -1,9 +1,9 @@
-//! The rules: their order, which first ids they have and how far these are from what is read, whether their refusals rest on that, and what
-//! verdicts say. A line a rule.
+//! The rules: their order, which first ids they have and how far these are from what is read, whether their refusals rest on that, which
+//! share their reading, and what verdicts say. A line a rule.
 
 ghost use Rattle.std.specs.Prelude.{◌≡◌};
 ghost use Rattle.presolve_model.specs.declared.instance.Instance.TheVariants as at;
-ghost use Rattle.presolve_model.specs.Instances.{goes_by_form as by_form, is_of_rows as of_rows, reach_of as reach, rests_on_reading as rests, rule_at, rule_of};
+ghost use Rattle.presolve_model.specs.Instances.{goes_by_form as by_form, is_of_rows as of_rows, reach_of as reach, rests_on_reading as rests, rule_at, rule_of, shares_reading as shares};
 ghost use Rattle.presolve_model.specs.Meanings.{says_no_point as no_point};
 ghost use Rattle.presolve_model.specs.Order.{reduction_order, verdict_order};
 
@@ -146,6 +146,29 @@ pub fn rests_on_reading(instance: Instance) -> bool
     match instance {
         Instance::Reduction(reduction) => reduction_rests(reduction),
         Instance::Verdict(verdict) => verdict_rests(verdict),
+    }
+}
+
+/// Whether all instances of a rule with a first id read the same parts, so that the first one that is applied leaves the others stale.
+pub fn shares_reading(rule: Rule) -> bool
+    ensures { result ≡ shares rule }
+{
+    match rule {
+        Rule::TightenedBound | Rule::TightenedCoefficient => true,
+        Rule::CrossedBounds
+        | Rule::CrossedSides
+        | Rule::OutOfReach
+        | Rule::Ray
+        | Rule::EmptyRow
+        | Rule::SingletonRow
+        | Rule::FixedColumn
+        | Rule::RoundBounds
+        | Rule::RedundantRow
+        | Rule::RedundantSide
+        | Rule::ForcingRow
+        | Rule::FixedByCost
+        | Rule::DominatedColumn
+        | Rule::EmptyColumn => false,
     }
 }
 

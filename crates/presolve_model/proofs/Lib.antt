@@ -7,3 +7,4 @@ pub mod Tightened
 pub mod Listing
 pub mod Histories
 pub mod Forms
+pub mod Sharing

@@ -24,6 +24,12 @@ contains_map f [] x (k, l, e) = absurd (omega (arith, l))
 contains_map f (z ∷ xs) x (zero, l, e) = (zero, omega arith, ap f e)
 contains_map f (z ∷ xs) x (suc k, l, e) = let (i, m, d) = contains_map f xs x (k, omega (arith, l), e) in (suc i, omega (arith, m), d)
 
+-- each of those that a function gives
+pub each_mapped : {X Y : Type 0} (P : Y → Type 0) (f : X → Y) (xs : List X) (y : Y) → ((x : X) → P (f x)) → Contains (map f xs) y → P y
+each_mapped P f [] y h (k, l, e) = absurd (omega (arith, l))
+each_mapped P f (x ∷ xs) y h (zero, l, e) = subst P e (h x)
+each_mapped P f (x ∷ xs) y h (suc k, l, e) = each_mapped P f xs y h (k, omega (arith, l), e)
+
 -- a term with an id that terms have
 term_with : (ts : List Term) (i : ℕ) → has i ts ≡ true → (t : Term) × Contains ts t × (t.id ≡ i)
 term_with [] i h = absurd (true≢false (sym h))

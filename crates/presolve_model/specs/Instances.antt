@@ -94,6 +94,12 @@ rests_on_reading rule.FixedByCost = false
 rests_on_reading rule.DominatedColumn = false
 rests_on_reading rule.EmptyColumn = false
 
+-- whether all instances of a rule with a first id read the same parts, so that the first one that is applied leaves the others stale
+abbrev pub shares_reading : Rule → Bool
+shares_reading rule.TightenedBound = true
+shares_reading rule.TightenedCoefficient = true
+shares_reading other = false
+
 -- how many there are
 abbrev pub id_count : Sparse → Rule → ℕ
 id_count p r = if is_of_rows r then length p.matrix.rows else length p.matrix.columns

@@ -19,6 +19,7 @@ ghost use Rattle.problem_model.specs.declared.part.Read.{Read};
 ghost use Rattle.problem_model.specs.Flags.{flags_of};
 ghost use Rattle.problem_model.specs.Parts.{changes_of};
 ghost use Rattle.problem_model.specs.Problems.{IsSparse};
+ghost use Rattle.problem_model.specs.Raised.{risen};
 ghost use Rattle.problem_model.specs.Reading.{Agrees};
 ghost use Rattle.problem_model.specs.Showing.{shown};
 ghost use Rattle.problem_model.specs.Sparse.{Sparse};
@@ -31,7 +32,7 @@ ghost use Rattle.presolve_model.specs.declared.instance.Reduction.{Reduction};
 ghost use Rattle.presolve_model.specs.declared.instance.Verdict.{Verdict};
 ghost use Rattle.presolve_model.specs.Changes.{added, changed, ChangeFits, ChangeIsWritten};
 ghost use Rattle.presolve_model.specs.Enabled.{Enabled, enabled_on, reading_of, reads};
-ghost use Rattle.presolve_model.specs.Instances.{goes_by_form, is_open, reach_of, rests_on_reading, rule_at, rule_of, tallied};
+ghost use Rattle.presolve_model.specs.Instances.{goes_by_form, instances_from, is_open, reach_of, rests_on_reading, rule_at, rule_of, shares_reading, tallied};
 ghost use Rattle.presolve_model.specs.declared.instance.Rule.{Rule};
 ghost use Rattle.dual_laws.specs.Forms.{seen_at};
 ghost use Rattle.presolve_model.specs.Meanings.{Meant};
@@ -95,6 +96,14 @@ pub fn forms_decide()
     ensures parts { (p q : Sparse) (e : Instance) → goes_by_form (reach_of (rule_at e)) ≡ true → map (seen_at q) (reads p e) ≡ map (seen_at p) (reads p e) → reads q e ≡ reads p e }
     ensures enabled { (p q : Sparse) (e : Instance) → goes_by_form (reach_of (rule_at e)) ≡ true → map (seen_at q) (reads p e) ≡ map (seen_at p) (reads p e) → enabled_on q e ≡ enabled_on p e }
     ensures awake { (r : Rule) → rests_on_reading r ≡ true → goes_by_form (reach_of r) ≡ false }
+{}
+
+/// Where the instances of a rule with a first id share their reading, they read the same parts of each problem, and look at what these hold.
+/// One that is applied changes a part that it reads, which all the others read.
+pub fn rows_are_read_once()
+    ensures alike { (opens : Open) (p s : Sparse) (r : Rule) (k : ℕ) (x y : Instance) → shares_reading r ≡ true → Contains (instances_from opens p r k) x → Contains (instances_from opens p r k) y → reads s x ≡ reads s y }
+    ensures by_value { (opens : Open) (p : Sparse) (r : Rule) (k : ℕ) (x : Instance) → shares_reading r ≡ true → Contains (instances_from opens p r k) x → goes_by_form (reach_of (rule_at x)) ≡ false }
+    ensures rises { (p : Sparse) (r : Reduction) → IsSparse p → shares_reading (rule_of r) ≡ true → enabled_on p (at.Reduction r) ≡ true → (a : Part) × Contains (reads p (at.Reduction r)) a × (changes_of (changed r p) a ≡ risen (changes_of p a)) }
 {}
 
 /// A look at all first ids lists each enabled instance that is open with its reading, and as many reductions as are enabled and open.

@@ -70,18 +70,18 @@ stirred_more p q n m a h = record { kept = λ b c. (more_in m a).0 b (h.kept b c
     wider b (inr c) = inr ((more_in m a).0 b c)
 
 -- what is left over counts for the rule
-abbrev left_by_form : Bool → Marks → Part → Marks
+abbrev pub left_by_form : Bool → Marks → Part → Marks
 left_by_form s k a = if s then record k { stirred = k.stirred ++ a ∷ [] } else record k { noted = k.noted ++ a ∷ [] }
 
-over_counts : (s : Bool) (k : Marks) (a : Part) → Contains (if s then (left_by_form s k a).stirred else (left_by_form s k a).noted) a
+pub over_counts : (s : Bool) (k : Marks) (a : Part) → Contains (if s then (left_by_form s k a).stirred else (left_by_form s k a).noted) a
 over_counts true k a = (more_in k.stirred a).1
 over_counts false k a = (more_in k.noted a).1
 
-over_grows : (s : Bool) (k : Marks) (a : Part) → Grows k (left_by_form s k a)
+pub over_grows : (s : Bool) (k : Marks) (a : Part) → Grows k (left_by_form s k a)
 over_grows true k a = record { noted = λ x c. c; stirred = (more_in k.stirred a).0; asleep = λ x c. c }
 over_grows false k a = record { noted = (more_in k.noted a).0; stirred = λ x c. c; asleep = λ x c. c }
 
-over_noted : (p q : Sparse) (n : List Part) (s : Bool) (k : Marks) (a : Part) → AreNoted p q n k.noted → AreNoted p q n (left_by_form s k a).noted
+pub over_noted : (p q : Sparse) (n : List Part) (s : Bool) (k : Marks) (a : Part) → AreNoted p q n k.noted → AreNoted p q n (left_by_form s k a).noted
 over_noted p q n true k a h = h
 over_noted p q n false k a h = noted_more p q n k.noted a h
 

@@ -1,9 +1,15 @@
 -- A pass on the way: it began with the book a.
-use Rattle.std.specs.Prelude.{List}
+use Rattle.std.specs.Prelude.{◌≡◌, Bool, true, false, List}
+use Rattle.std.specs.List.{Contains}
 use Rattle.presolve_model.specs.declared.instance.Instance.{Instance}
+use Rattle.presolve_model.specs.declared.outcome.Outcome.{Outcome}
+use Rattle.presolve_model.specs.declared.outcome.Outcome.TheVariants.{Applied}
+use Rattle.presolve_model.specs.Enabled.{enabled_on}
+use Rattle.presolve_model.specs.Instances.{rule_at, shares_reading}
 use Rattle.presolve_model.specs.Ledger.{Ledger}
 use Rattle.presolve_model.specs.Tallies.{open_on}
-use Rattle.round_laws.specs.Passing.{Follows, Passed}
+use Rattle.place_laws.specs.Standing.{IsFresh}
+use Rattle.round_laws.specs.Passing.{Follows, Passed, ReadAlike}
 use Rattle.round_marks.specs.Forming.{AreFormsOf}
 use Rattle.round_marks.specs.Marking.{Watched}
 
@@ -16,3 +22,23 @@ pub record IsGoing (a : Ledger) (w : Watched) (b : Ledger) : Type 0 where
 pub record IsPassed (a : Ledger) (es : List Instance) (w : Watched) (b : Ledger) (v : Watched) (c : Ledger) : Type 0 where
   pub passed : Passed (open_on a.tally) a.problem es w.marks b v.marks c
   pub forms : AreFormsOf v.forms c.problem
+
+-- something was applied
+abbrev pub is_applied : Outcome → Bool
+is_applied (Applied k) = true
+is_applied other = false
+
+-- instances that are enabled, and share their reading
+pub record AreAlike (b : Ledger) (es : List Instance) : Type 0 where
+  pub enabled : (e : Instance) → Contains es e → enabled_on b.problem e ≡ true
+  pub sharing : (e : Instance) → Contains es e → shares_reading (rule_at e) ≡ true
+  pub alike : (e : Instance) → Contains es e → ReadAlike e es
+
+-- their parts stand as they stood on a
+abbrev pub AreFresh : Ledger → Ledger → List Instance → Type 0
+AreFresh a b es = (e : Instance) → Contains es e → IsFresh a.problem b.problem e
+
+-- one was met: where it was not applied the book stays, and where it was, those that share its reading are passed over as they are marked
+pub record IsMet (a : Ledger) (e : Instance) (v : Watched) (b c : Ledger) (applied : Bool) : Type 0 where
+  pub still : applied ≡ false → c ≡ b
+  pub stopped : applied ≡ true → (es : List Instance) → shares_reading (rule_at e) ≡ true → ReadAlike e es → IsPassed a es v c v c

@@ -2,9 +2,10 @@
 //!
 //! What a round lists is never held. An instance whose parts have not changed since the round began is enabled on the present problem
 //! exactly where it was when the round began, and is then applied at once. One that reads a part which has changed would be stale, and is
-//! left to the next round.
+//! left to the next round. Where the instances of a rule with a first id share their reading, its parts are looked at once for all of them, and
+//! the first one that is applied leaves the others stale.
 
-ghost use Rattle.std.specs.Prelude.{◌≡◌, true, ◌∷◌, [], OnOk};
+ghost use Rattle.std.specs.Prelude.{◌≡◌, true, false, ◌∷◌, [], IfOk, OnOk};
 ghost use Rattle.presolve_model.specs.Enabled.{enabled_on};
 ghost use Rattle.presolve_model.specs.Instances.{instances_from};
 ghost use Rattle.presolve_model.specs.Order.{reduction_order, verdict_order};
@@ -12,11 +13,14 @@ ghost use Rattle.presolve_model.specs.Scans.{instances_at};
 ghost use Rattle.presolve_model.specs.Tallies.{open_on};
 ghost use Rattle.place_laws.specs.Choosing.{ids_of, instances_of, visited};
 ghost use Rattle.place_laws.specs.Standing.{IsFresh};
+ghost use Rattle.round_laws.specs.Passing.{Follows};
 ghost use Rattle.round_marks.specs.Stamping.{AreStampsOf};
-ghost use Rattle.presolve_rounds.specs.Walking.{IsGoing, IsPassed};
+ghost use Rattle.presolve_rounds.specs.Walking.{AreAlike, AreFresh, is_applied as applies, IsGoing, IsMet, IsPassed};
 
-use instances::{add_enabled, head, is_enabled, parts_read, reduction_rules, verdict_rules};
-use presolve_model::{Instance, Rule};
+use instances::{
+    add_enabled, head, is_enabled, parts_read, reduction_rules, shares_reading, verdict_rules,
+};
+use presolve_model::{Instance, Outcome, Rule};
 use round_marks::around::Around;
 use round_marks::stamps::Stamps;
 use round_marks::watch::Watch;
@@ -24,23 +28,58 @@ use std::alloc::{AllocError, Global};
 use std::snapshot::Snapshot;
 use txn_book::Book;
 
+/// Whether an answer says that something was applied.
+fn is_applied(outcome: Outcome) -> bool
+    ensures { result ≡ applies outcome }
+{
+    match outcome {
+        Outcome::Applied { .. } => true,
+        Outcome::Closed { .. }
+        | Outcome::Full
+        | Outcome::Stale { .. }
+        | Outcome::Past
+        | Outcome::NotDecimal
+        | Outcome::NoMemory => false,
+    }
+}
+
 /// Applies an instance that is enabled, its parts as they stood when the round began, and notes what changes. Marks a part that it reads.
+/// Returns whether it was applied.
 fn meet(
     alloc: Global,
     book: &mut Book,
     frozen: &Snapshot<Book>,
     instance: Instance,
     watch: &mut Watch,
-) -> Result<(), AllocError>
+) -> Result<bool, AllocError>
     requires going { IsGoing frozen.now.value watch.old book.old }
     requires enabled { enabled_on book.old.problem instance ≡ true }
     requires fresh { IsFresh frozen.now.value.problem book.old.problem instance }
-    ensures { OnOk result (IsPassed frozen.now.value (instance ∷ []) watch.old book.old watch.new book.new) }
+    ensures passed { OnOk result (IsPassed frozen.now.value (instance ∷ []) watch.old book.old watch.new book.new) }
+    ensures met { IfOk result (λ applied. IsMet frozen.now.value instance watch.new book.old book.new applied) }
 {
     let _ = frozen;
     let outcome = watch.apply(alloc, book, instance)?;
     watch.mark(instance, outcome, head(instance))?;
-    Ok(())
+    Ok(is_applied(outcome))
+}
+
+/// Whether the parts that an instance reads stand as they stood when the round began.
+fn is_fresh(
+    alloc: Global,
+    book: &Book,
+    frozen: &Snapshot<Book>,
+    stamps: &Stamps,
+    instance: Instance,
+) -> Result<bool, AllocError>
+    requires follows { Follows (open_on frozen.now.value.tally) frozen.now.value.problem book.now }
+    requires stamps { AreStampsOf stamps.now frozen.now.value.problem }
+    ensures fresh { IfOk result (λ fresh. fresh ≡ true → IsFresh frozen.now.value.problem book.now.problem instance) }
+    ensures stale { IfOk result (λ fresh. fresh ≡ false → IsFresh frozen.now.value.problem book.now.problem instance → ⊥) }
+{
+    let _ = frozen;
+    let parts = parts_read(alloc, book.problem(), instance)?;
+    Ok(stamps.stand_for(book.problem(), parts.as_slice()))
 }
 
 /// An instance at its turn. Where it is stale a part of it is marked: it is left to the next round.
@@ -59,8 +98,7 @@ fn visit(
     if !is_enabled(book.problem(), instance) {
         return Ok(());
     }
-    let parts = parts_read(alloc, book.problem(), instance)?;
-    if !stamps.stand_for(book.problem(), parts.as_slice()) {
+    if !is_fresh(alloc, book, frozen, stamps, instance)? {
         watch.leave(instance, head(instance))?;
         return Ok(());
     }
@@ -87,6 +125,54 @@ fn visit_found(
     Ok(())
 }
 
+/// Instances in turn that share their reading, its parts as they stood when the round began: up to the first one that is applied, which leaves
+/// the others stale.
+fn meet_alike(
+    alloc: Global,
+    book: &mut Book,
+    frozen: &Snapshot<Book>,
+    found: &[Instance],
+    watch: &mut Watch,
+) -> Result<(), AllocError>
+    requires going { IsGoing frozen.now.value watch.old book.old }
+    requires alike { AreAlike book.old found.now }
+    requires fresh { AreFresh frozen.now.value book.old found.now }
+    ensures { OnOk result (IsPassed frozen.now.value found.now watch.old book.old watch.new book.new) }
+{
+    let mut rest = found;
+    while let [instance, after @ ..] = rest {
+        if meet(alloc, book, frozen, *instance, watch)? {
+            return Ok(());
+        }
+        rest = after;
+    }
+    Ok(())
+}
+
+/// Instances that share their reading, whose parts are looked at once.
+fn visit_alike(
+    alloc: Global,
+    book: &mut Book,
+    frozen: &Snapshot<Book>,
+    stamps: &Stamps,
+    found: &[Instance],
+    watch: &mut Watch,
+) -> Result<(), AllocError>
+    requires going { IsGoing frozen.now.value watch.old book.old }
+    requires stamps { AreStampsOf stamps.now frozen.now.value.problem }
+    requires alike { AreAlike book.old found.now }
+    ensures { OnOk result (IsPassed frozen.now.value found.now watch.old book.old watch.new book.new) }
+{
+    let [first, ..] = found else {
+        return Ok(());
+    };
+    if !is_fresh(alloc, book, frozen, stamps, *first)? {
+        watch.leave(*first, head(*first))?;
+        return Ok(());
+    }
+    meet_alike(alloc, book, frozen, found, watch)
+}
+
 /// The instances of a rule with a first id: those that are enabled and open now.
 fn visit_at(
     alloc: Global,
@@ -103,6 +189,10 @@ fn visit_at(
 {
     let mut found = Vec::new(alloc);
     add_enabled(alloc, book.problem(), book.tally(), rule, id, &mut found)?;
+    if shares_reading(rule) {
+        visit_alike(alloc, book, frozen, stamps, found.as_slice(), watch)?;
+        return Ok(());
+    }
     visit_found(alloc, book, frozen, stamps, found.as_slice(), watch)?;
     Ok(())
 }

@@ -40,7 +40,7 @@ use Rattle.problem_model.specs.Reading.{Agrees, DiffersAt}
 
 -- ---- what has changed since f stays so
 -- a part that the instance reads on f has changed more often on p
-abbrev HasMoved : Sparse → Sparse → List Part → Type 0
+abbrev pub HasMoved : Sparse → Sparse → List Part → Type 0
 HasMoved f p ps = (a : Part) × Contains ps a × (changes_of f a < changes_of p a)
 
 moved_or_same : (f p : Sparse) (ps : List Part) → ((a : Part) → IsLaterAt f p a) → HasMoved f p ps ⊎ (map (read_of p) ps ≡ map (read_of f) ps)
@@ -55,14 +55,14 @@ moved_or_same f p (a ∷ ps) later = by (later a) (moved_or_same f p ps later)
 fresh_by : (f p : Sparse) (e : Instance) → map (read_of p) (reads f e) ≡ map (read_of f) (reads f e) → IsFresh f p e
 fresh_by f p e g = map-map (λ (r : Read). read_of p r.part) (read_of f) (reads f e) ∙ g
 
-moved_differs : (f p : Sparse) (ps : List Part) → HasMoved f p ps → map (read_of p) ps ≡ map (read_of f) ps → ⊥
+pub moved_differs : (f p : Sparse) (ps : List Part) → HasMoved f p ps → map (read_of p) ps ≡ map (read_of f) ps → ⊥
 moved_differs f p [] (a, c, l) e = omega (arith, c.1)
 moved_differs f p (b ∷ ps) (a, (zero, l, h), m) e =
     let same : read_of p b ≡ read_of f b = let g = e in cc in
     let n : changes_of p a ≡ changes_of f a = sym (ap (changes_of p) h) ∙ ap (λ (r : Read). r.changes) same ∙ ap (changes_of f) h in omega (arith, m, n)
 moved_differs f p (b ∷ ps) (a, (suc k, l, h), m) e = moved_differs f p ps (a, (k, omega (arith, l), h), m) (let g = e in cc)
 
-moved_stale : (f p : Sparse) (e : Instance) → HasMoved f p (reads f e) → IsFresh f p e → ⊥
+pub moved_stale : (f p : Sparse) (e : Instance) → HasMoved f p (reads f e) → IsFresh f p e → ⊥
 moved_stale f p e h fresh = moved_differs f p (reads f e) h (fresh_parts f p e fresh)
 
 -- what is enabled on f and not on p reads a part that has changed

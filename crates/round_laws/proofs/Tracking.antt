@@ -51,13 +51,13 @@ module _ (n : Marks) (e : Instance) (es : List Instance) (b : Ledger) (t : Track
       by (inr among) = first (first_or_behind e es x among)
 
 -- ---- the problem changes, and what changes is noted
-abbrev ReadsNoted : List Part → List Part → Type 0
+abbrev pub ReadsNoted : List Part → List Part → Type 0
 ReadsNoted noted ps = (a : Part) × Contains ps a × Contains noted a
 
 behind : (a : Part) (ps noted : List Part) → ReadsNoted noted ps → ReadsNoted noted (a ∷ ps)
 behind a ps noted (x, (k, l, h), c) = (x, (suc k, omega (arith, l), h), c)
 
-parts_kept : (p q : Sparse) (n m : List Part) → AreNoted p q n m → (ps : List Part) → ReadsNoted m ps ⊎ (map (read_of p) ps ≡ map (read_of q) ps)
+pub parts_kept : (p q : Sparse) (n m : List Part) → AreNoted p q n m → (ps : List Part) → ReadsNoted m ps ⊎ (map (read_of p) ps ≡ map (read_of q) ps)
 parts_kept p q n m h [] = inr refl
 parts_kept p q n m h (a ∷ ps) = by (h.changed a) (parts_kept p q n m h ps)
   where
@@ -79,7 +79,7 @@ parts_seen p q n m h (a ∷ ps) = by (h.changed a) (parts_seen p q n m h ps)
 stirred_count : (m : Marks) (r : Reach) → goes_by_form r ≡ true → parts_for m r ≡ m.stirred
 stirred_count m r t = ap (λ (s : Bool). if s then m.stirred else m.noted) t
 
-noted_count : (m : Marks) (r : Reach) → goes_by_form r ≡ false → parts_for m r ≡ m.noted
+pub noted_count : (m : Marks) (r : Reach) → goes_by_form r ≡ false → parts_for m r ≡ m.noted
 noted_count m r t = ap (λ (s : Bool). if s then m.stirred else m.noted) t
 
 module _ (n m : Marks) (es : List Instance) (b c : Ledger) (h : AreNoted b.problem c.problem n.noted m.noted) (s : AreStirred b.problem c.problem n.stirred m.stirred) (alike : c.numbers ≡ b.numbers)
@@ -104,7 +104,8 @@ module _ (n m : Marks) (es : List Instance) (b c : Ledger) (h : AreNoted b.probl
   module _ (x : Instance) (by_form : goes_by_form (reach_of (rule_at x)) ≡ true) (same : map (seen_at b.problem) (reads c.problem x) ≡ map (seen_at c.problem) (reads c.problem x)) where
     still_sees : IsNoted b.problem (parts_for n (reach_of (rule_at x))) x → IsNoted c.problem (parts_for m (reach_of (rule_at x))) x
     still_sees (a, r, k) = (
-      a, subst (λ (ps : List Part). Contains ps a) (parts_by_form c.problem b.problem x by_form same) r,
+      a,
+      subst (λ (ps : List Part). Contains ps a) (parts_by_form c.problem b.problem x by_form same) r,
       subst (λ (ps : List Part). Contains ps a) (sym (stirred_count m (reach_of (rule_at x)) by_form)) (s.kept a (subst (λ (ps : List Part). Contains ps a) (stirred_count n (reach_of (rule_at x)) by_form) k)),
     )
 

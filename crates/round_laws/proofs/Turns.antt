@@ -156,7 +156,7 @@ noted_head p m e a h c = (a, Contains-append_left (heads e) (more e _) a h, c)
 
 module _ (opens : Open) (f : Sparse) (n m : Marks) (b : Ledger) (h : Follows opens f b) (kept : Grows n m) where
   -- the book stays
-  met_still : (e : Instance) → IsMarked b.numbers b.problem m e → ((v : ℕ) → Committed b (proposals f v (e ∷ [])) b) → Passed opens f (e ∷ []) n b m b
+  pub met_still : (e : Instance) → IsMarked b.numbers b.problem m e → ((v : ℕ) → Committed b (proposals f v (e ∷ [])) b) → Passed opens f (e ∷ []) n b m b
   met_still e marked k = record {
     book = same_book b;
     before = h;

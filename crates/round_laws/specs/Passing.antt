@@ -1,5 +1,5 @@
 -- A pass over instances in order, each looked at on the present problem when its turn comes.
-use Rattle.std.specs.Prelude.{◌≡◌, ◌⊎◌, ℕ, ◌<◌, ◌≤◌, ◌^◌, Bool, true, ◌&&◌, nat_eq, List, [], ◌∷◌, ◌++◌, length, None}
+use Rattle.std.specs.Prelude.{◌≡◌, ◌⊎◌, ℕ, ◌<◌, ◌≤◌, ◌^◌, Bool, true, false, ◌&&◌, nat_eq, List, [], ◌∷◌, ◌++◌, length, None}
 use Rattle.std.specs.List.{Contains}
 use Rattle.problem_model.specs.declared.part.Part.{Part}
 use Rattle.problem_model.specs.Parts.{changes_of}
@@ -7,8 +7,8 @@ use Rattle.problem_model.specs.Problems.{IsSparse}
 use Rattle.problem_model.specs.Sparse.{Sparse}
 use Rattle.edit_laws.specs.Sizes.{SameSize}
 use Rattle.presolve_model.specs.declared.instance.Instance.{Instance}
-use Rattle.presolve_model.specs.Enabled.{enabled_on}
-use Rattle.presolve_model.specs.Instances.{is_open}
+use Rattle.presolve_model.specs.Enabled.{enabled_on, reads}
+use Rattle.presolve_model.specs.Instances.{goes_by_form, is_open, reach_of, rule_at}
 use Rattle.presolve_model.specs.Tallies.{Open, open_on}
 use Rattle.presolve_model.specs.Ledger.{Ledger}
 use Rattle.presolve_model.specs.Ordered.{Committed}
@@ -50,6 +50,11 @@ pub record Passed (opens : Open) (f : Sparse) (es : List Instance) (n : Marks) (
   pub tracks : (rest : List Instance) → Tracks n (es ++ rest) b → Tracks m rest c
   pub moved : (a : Part) → (changes_of c.problem a ≡ changes_of b.problem a) ⊎ Contains m.noted a
   pub grows : Grows n m
+
+-- each of them reads what this one reads, on each problem, and looks at what these parts hold
+pub record ReadAlike (e : Instance) (es : List Instance) : Type 0 where
+  pub parts : (x : Instance) → Contains es x → (s : Sparse) → reads s x ≡ reads s e
+  pub by_value : (x : Instance) → Contains es x → goes_by_form (reach_of (rule_at x)) ≡ false
 
 -- the parts have changed as often as s says
 abbrev pub are_unchanged : (Part → ℕ) → Sparse → List Part → Bool

@@ -71,10 +71,10 @@ module _ (q : Sparse) where
   }
 
 -- a list that is not empty, by its first and what is behind it
-pub first_and_rest : (xs : List Part) (d : Part) → 1 ≤ length xs → get_or xs 0 d ∷ take (length xs - 1) (drop 1 xs) ≡ xs
+pub first_and_rest : {X : Type 0} (xs : List X) (d : X) → 1 ≤ length xs → get_or xs 0 d ∷ take (length xs - 1) (drop 1 xs) ≡ xs
 first_and_rest [] d l = absurd (omega (arith, l))
-first_and_rest (x ∷ xs) d l = ap (λ (ys : List Part). x ∷ ys) (let e : length (x ∷ xs) - 1 ≡ length xs = omega arith in ap (λ n. take n xs) e ∙ take_all xs)
+first_and_rest {X} (x ∷ xs) d l = ap (λ (ys : List X). x ∷ ys) (let e : length (x ∷ xs) - 1 ≡ length xs = omega arith in ap (λ n. take n xs) e ∙ take_all xs)
   where
-    take_all : (ys : List Part) → take (length ys) ys ≡ ys
+    take_all : (ys : List X) → take (length ys) ys ≡ ys
     take_all [] = refl
-    take_all (y ∷ ys) = ap (λ (zs : List Part). y ∷ zs) (take_all ys)
+    take_all (y ∷ ys) = ap (λ (zs : List X). y ∷ zs) (take_all ys)

@@ -1,4 +1,4 @@
-use Rattle.std.proofs.Common.{◌≡◌, ◌++◌, List, ap, ◌∙◌, subst}
+use Rattle.std.proofs.Common.{◌≡◌, ◌++◌, List, sym, ap, ◌∙◌, subst}
 use Rattle.std.specs.List.{filter}
 use Rattle.presolve_model.specs.declared.instance.Instance.{Instance}
 use Rattle.presolve_model.specs.Enabled.{enabled_on}
@@ -6,15 +6,40 @@ use Rattle.presolve_model.specs.Instances.{instances_from}
 use Rattle.presolve_model.specs.Ledger.{Ledger}
 use Rattle.presolve_model.specs.Tallies.{open_on}
 use Rattle.round_laws.proofs.Thinning.{passed_found}
-use Rattle.presolve_rounds.specs.Walking.{IsPassed}
+use Rattle.presolve_rounds.specs.Walking.{AreAlike, IsPassed}
+use Rattle.presolve_rounds.proofs.Sharing.{found_alike}
 use Rattle.presolve_rounds.proofs.pass.visit_at.Goals as goal
+
+pub visit_alike-requires-clause-alike : goal.visit_alike-requires-clause-alike
+visit_alike-requires-clause-alike c =
+    let b : Ledger = c.args.book.now in
+    let found : c.as_slice.result.now ≡ filter (enabled_on b.problem) (instances_from (open_on b.tally) b.problem c.args.rule c.args.id) =
+    c.as_slice.ensures.value ∙ c.in_ok-add_enabled.ensures
+    ∙ ap (λ (es : List Instance). es ++ filter (enabled_on c.problem.result.now) (instances_from (open_on c.tally.result.now) c.problem.result.now c.args.rule c.args.id)) c.new-found.ensures.items
+    ∙ (λ t. filter (enabled_on (c.problem.ensures t)) (instances_from (open_on (c.tally.ensures t)) (c.problem.ensures t) c.args.rule c.args.id)) in
+    subst (AreAlike b) (sym found) (found_alike b c.args.rule c.args.id (sym c.shares_reading.ensures ∙ c.if-shares_reading.true))
+
+pub returns-then-shares_reading : goal.returns-then-shares_reading
+returns-then-shares_reading c =
+    let a : Ledger = c.args.frozen.now.value in
+    let b : Ledger = c.args.book.now in
+    let found : c.as_slice.result.now ≡ filter (enabled_on b.problem) (instances_from (open_on b.tally) b.problem c.args.rule c.args.id) =
+    c.as_slice.ensures.value ∙ c.in_ok-add_enabled.ensures
+    ∙ ap (λ (es : List Instance). es ++ filter (enabled_on c.problem.result.now) (instances_from (open_on c.tally.result.now) c.problem.result.now c.args.rule c.args.id)) c.new-found.ensures.items
+    ∙ (λ t. filter (enabled_on (c.problem.ensures t)) (instances_from (open_on (c.tally.ensures t)) (c.problem.ensures t) c.args.rule c.args.id)) in
+    let h : IsPassed a (filter (enabled_on b.problem) (instances_from (open_on b.tally) b.problem c.args.rule c.args.id)) c.args.watch.now b c.visit_alike.new.watch c.visit_alike.new.book =
+    subst (λ (es : List Instance). IsPassed a es c.args.watch.now b c.visit_alike.new.watch c.visit_alike.new.book) found c.in_ok-visit_alike.ensures in
+    record {
+      passed = passed_found (open_on a.tally) a.problem c.args.rule c.args.id c.args.watch.now.marks c.visit_alike.new.watch.marks b c.visit_alike.new.book c.requires.going.follows h.passed;
+      forms = h.forms;
+    }
 
 pub returns : goal.returns
 returns c =
     let a : Ledger = c.args.frozen.now.value in
     let b : Ledger = c.args.book.now in
-    let found : c.as_slice.result.now ≡ filter (enabled_on b.problem) (instances_from (open_on b.tally) b.problem c.args.rule c.args.id) =
-    c.as_slice.ensures.value ∙ c.in_ok-add_enabled.ensures
+    let found : c.as_slice-2.result.now ≡ filter (enabled_on b.problem) (instances_from (open_on b.tally) b.problem c.args.rule c.args.id) =
+    c.as_slice-2.ensures.value ∙ c.in_ok-add_enabled.ensures
     ∙ ap (λ (es : List Instance). es ++ filter (enabled_on c.problem.result.now) (instances_from (open_on c.tally.result.now) c.problem.result.now c.args.rule c.args.id)) c.new-found.ensures.items
     ∙ (λ t. filter (enabled_on (c.problem.ensures t)) (instances_from (open_on (c.tally.ensures t)) (c.problem.ensures t) c.args.rule c.args.id)) in
     let h : IsPassed a (filter (enabled_on b.problem) (instances_from (open_on b.tally) b.problem c.args.rule c.args.id)) c.args.watch.now b c.visit_found.new.watch c.visit_found.new.book =

@@ -66,8 +66,10 @@ skipped-requires c =
     let room : length d.history < d.limit = omega (arith, long, c.loop-book-test.true, c.applied.ensures, c.loop-book.invariant.limit, c.in_ok-round.ensures.book.limit) in
     let marked = c.in_ok-round.ensures.marked (none_of c.verdict.result d.verdict c.verdict.ensures c.if-is_some.ensures) room in
     let parts : c.as_slice.result.now ≡ all_marked c.round.new.watch.marks = c.as_slice.ensures.value ∙ c.in_ok-parts.ensures in
-    record { reached = subst (λ (t : Counts). AreReached (open_on t) c.problem-then-applied.result.now c.as_slice.result.now) (sym c.tally.ensures)
-      (subst (λ (p : Sparse). AreReached (open_on d.tally) p c.as_slice.result.now) (sym c.problem-then-applied.ensures) (subst (AreReached (open_on d.tally) d.problem) (sym parts) (marked_reached d c.round.new.watch.marks marked))) }
+    record {
+      reached = subst (λ (t : Counts). AreReached (open_on t) c.problem-then-applied.result.now c.as_slice.result.now) (sym c.tally.ensures)
+          (subst (λ (p : Sparse). AreReached (open_on d.tally) p c.as_slice.result.now) (sym c.problem-then-applied.ensures) (subst (AreReached (open_on d.tally) d.problem) (sym parts) (marked_reached d c.round.new.watch.marks marked)));
+    }
 
 pub returns-then-applied-clause-ordered : goal.returns-then-applied-clause-ordered
 returns-then-applied-clause-ordered c =
