@@ -1,18 +1,20 @@
 -- What the looks at a row say of the rules.
-use Rattle.std.proofs.Common.{◌≡◌, ℕ, Bool, true, false, not, ◌&&◌, nat_eq, List, [], ◌∷◌, length, map, refl, sym, ap, ◌∙◌, arith}
+use Rattle.std.proofs.Common.{◌≡◌, ℕ, Bool, true, false, not, ◌&&◌, ◌||◌, nat_eq, Option, Some, None, is_none, Result, Ok, Err, true≢false, List, [], ◌∷◌, length, map, refl, sym, ap, ◌∙◌, arith}
 use Rattle.std.proofs.lemmas.Bool.{ne_eqb}
 use Rattle.lp_model.specs.declared.terms.Term.{Term}
-use Rattle.lp_model.specs.EndTests.{is_in_order}
+use Rattle.lp_model.specs.EndTests.{is_crossed, is_in_order}
 use Rattle.problem_model.specs.Problems.{row_at, row_entries, sides_at}
 use Rattle.problem_model.specs.Sparse.{Sparse}
 use Rattle.activities.specs.Spans.{span_of, spans_of}
-use Rattle.activity_laws.specs.Rows.{RowTest, all_in_order, has_some, on_row, row_found}
+use Rattle.activity_laws.specs.Rows.{RowTest, all_in_order, has_some, keeps_lower, on_both, on_row, row_found}
 use Rattle.activity_laws.specs.RedundantRow as redundant_row
 use Rattle.activity_laws.specs.RedundantSide as redundant_side
 use Rattle.activity_laws.specs.ForcingRow as forcing_row
 use Rattle.activity_laws.specs.OutOfReach as out_of_reach
 use Rattle.activity_laws.proofs.Rows.{tested}
-use Rattle.activity_rules.specs.Looks.{is_uncrossed}
+use Rattle.activity_rules.specs.Looks.{has_room, is_uncrossed, on_one}
+use Rattle.fractions.specs.declared.Past.{Past}
+use Rattle.rational.specs.Number.{Number}
 
 -- the tests in another order
 regroup : (a b c d : Bool) → (a && (b && (c && d))) ≡ ((a && (b && c)) && d)
@@ -24,17 +26,98 @@ regroup true true c d = refl
 pub split : (test : RowTest) (p : Sparse) (i : ℕ) → on_row test (row_found p i) ≡ (is_uncrossed p i && test (sides_at p i).lower (sides_at p i).upper (spans_of p i))
 split test p i = tested test p i ∙ regroup (row_at p i).live (is_in_order (sides_at p i).lower (sides_at p i).upper) (all_in_order (spans_of p i)) (test (sides_at p i).lower (sides_at p i).upper (spans_of p i))
 
-pub redundant_row_is : (p : Sparse) (i : ℕ) → redundant_row.enabled p i ≡ (is_uncrossed p i && redundant_row.is_redundant_row (sides_at p i).lower (sides_at p i).upper (spans_of p i))
-redundant_row_is = split redundant_row.is_redundant_row
+-- the same with the crossed ends looked at last
+later : (a x d : Bool) → ((a && x) && d) ≡ (a && (d && (a && x)))
+later false x d = refl
+later true false false = refl
+later true false true = refl
+later true true false = refl
+later true true true = refl
 
-pub redundant_side_is : (p : Sparse) (i : ℕ) → redundant_side.enabled p i ≡ (is_uncrossed p i && redundant_side.has_redundant_side (sides_at p i).lower (sides_at p i).upper (spans_of p i))
-redundant_side_is = split redundant_side.has_redundant_side
+pub tested_first : (test : RowTest) (p : Sparse) (i : ℕ) → on_row test (row_found p i) ≡ ((row_at p i).live && (test (sides_at p i).lower (sides_at p i).upper (spans_of p i) && is_uncrossed p i))
+tested_first test p i = split test p i
+    ∙ later (row_at p i).live (is_in_order (sides_at p i).lower (sides_at p i).upper && all_in_order (spans_of p i)) (test (sides_at p i).lower (sides_at p i).upper (spans_of p i))
 
-pub forcing_row_is : (p : Sparse) (i : ℕ) → forcing_row.enabled p i ≡ (is_uncrossed p i && forcing_row.is_forcing_row (sides_at p i).lower (sides_at p i).upper (spans_of p i))
-forcing_row_is = split forcing_row.is_forcing_row
+pub redundant_row_is : (p : Sparse) (i : ℕ) → redundant_row.enabled p i ≡ ((row_at p i).live && (redundant_row.is_redundant_row (sides_at p i).lower (sides_at p i).upper (spans_of p i) && is_uncrossed p i))
+redundant_row_is = tested_first redundant_row.is_redundant_row
 
-pub out_of_reach_is : (p : Sparse) (i : ℕ) → out_of_reach.enabled p i ≡ (is_uncrossed p i && out_of_reach.is_out_of_reach (sides_at p i).lower (sides_at p i).upper (spans_of p i))
-out_of_reach_is = split out_of_reach.is_out_of_reach
+pub redundant_side_is : (p : Sparse) (i : ℕ) → redundant_side.enabled p i ≡ ((row_at p i).live && (redundant_side.has_redundant_side (sides_at p i).lower (sides_at p i).upper (spans_of p i) && is_uncrossed p i))
+redundant_side_is = tested_first redundant_side.has_redundant_side
+
+pub forcing_row_is : (p : Sparse) (i : ℕ) → forcing_row.enabled p i ≡ ((row_at p i).live && (forcing_row.is_forcing_row (sides_at p i).lower (sides_at p i).upper (spans_of p i) && is_uncrossed p i))
+forcing_row_is = tested_first forcing_row.is_forcing_row
+
+pub out_of_reach_is : (p : Sparse) (i : ℕ) → out_of_reach.enabled p i ≡ ((row_at p i).live && (out_of_reach.is_out_of_reach (sides_at p i).lower (sides_at p i).upper (spans_of p i) && is_uncrossed p i))
+out_of_reach_is = tested_first out_of_reach.is_out_of_reach
+
+-- ---- one activity looked at before the other
+-- a test of the least one or of the greatest
+pub either_first : (f g : Option Number → Bool) (a b : Result (Option Number) Past) → on_both (λ x y. f x || g y) a b ≡ ((on_one f a && has_room b) || (on_one g b && has_room a))
+either_first f g (Ok x) (Ok y) = by (f x) (g y)
+  where
+    by : (s t : Bool) → (s || t) ≡ ((s && true) || (t && true))
+    by true t = refl
+    by false true = refl
+    by false false = refl
+either_first f g (Ok x) (Err e) = by (f x)
+  where
+    by : (s : Bool) → false ≡ ((s && false) || false)
+    by true = refl
+    by false = refl
+either_first f g (Err e) (Ok y) = by (g y)
+  where
+    by : (t : Bool) → false ≡ (false || (t && false))
+    by true = refl
+    by false = refl
+either_first f g (Err e) (Err h) = refl
+
+-- the other way round
+pub either_last : (f g : Option Number → Bool) (a b : Result (Option Number) Past) → on_both (λ x y. g y || f x) a b ≡ ((on_one g b && has_room a) || (on_one f a && has_room b))
+either_last f g (Ok x) (Ok y) = by (g y) (f x)
+  where
+    by : (s t : Bool) → (s || t) ≡ ((s && true) || (t && true))
+    by true t = refl
+    by false true = refl
+    by false false = refl
+either_last f g (Ok x) (Err e) = by (f x)
+  where
+    by : (t : Bool) → false ≡ (false || (t && false))
+    by true = refl
+    by false = refl
+either_last f g (Err e) (Ok y) = by (g y)
+  where
+    by : (s : Bool) → false ≡ ((s && false) || false)
+    by true = refl
+    by false = refl
+either_last f g (Err e) (Err h) = refl
+
+-- a side that is not there is kept by what has room, and reached by nothing
+pub none_kept : (l : Option Number) (a : Result (Option Number) Past) → is_none l ≡ true → on_one (λ v. keeps_lower l v) a ≡ has_room a
+none_kept None (Ok v) h = refl
+none_kept None (Err e) h = refl
+none_kept (Some l) a h = absurd (true≢false (sym h))
+
+pub none_reached : (l : Option Number) (a : Result (Option Number) Past) → is_none l ≡ true → on_one (λ v. forcing_row.is_reached l v) a ≡ false
+none_reached None (Ok v) h = refl
+none_reached None (Err e) h = refl
+none_reached (Some l) a h = absurd (true≢false (sym h))
+
+-- of the least one and of the greatest
+pub both_first : (f g : Option Number → Bool) (a b : Result (Option Number) Past) → on_both (λ x y. f x && g y) a b ≡ (on_one g b && on_one f a)
+both_first f g (Ok x) (Ok y) = by (f x) (g y)
+  where
+    by : (s t : Bool) → (s && t) ≡ (t && s)
+    by true true = refl
+    by true false = refl
+    by false true = refl
+    by false false = refl
+both_first f g (Ok x) (Err e) = refl
+both_first f g (Err e) (Ok y) = by (g y)
+  where
+    by : (t : Bool) → false ≡ (t && false)
+    by true = refl
+    by false = refl
+both_first f g (Err e) (Err h) = refl
 
 -- a row has an entry where it has some terms
 some_of : (p : Sparse) (ts : List Term) → has_some (map (span_of p) ts) ≡ not (nat_eq (length ts) 0)
@@ -43,3 +126,18 @@ some_of p (t ∷ ts) = sym (ap not (ne_eqb (length (t ∷ ts)) 0 (λ e. absurd (
 
 pub has_some_is : (p : Sparse) (i : ℕ) → has_some (spans_of p i) ≡ not (nat_eq (length (row_entries p i)) 0)
 has_some_is p i = some_of p (row_entries p i)
+
+-- nothing is above no upper side, nor below no lower one
+above_none : (v : Option Number) → is_crossed v None ≡ false
+above_none None = refl
+above_none (Some l) = refl
+
+pub none_above : (u : Option Number) (a : Result (Option Number) Past) → is_none u ≡ true → on_one (λ v. is_crossed v u) a ≡ false
+none_above None (Ok v) h = above_none v
+none_above None (Err e) h = refl
+none_above (Some u) a h = absurd (true≢false (sym h))
+
+pub none_below : (l : Option Number) (a : Result (Option Number) Past) → is_none l ≡ true → on_one (λ v. is_crossed l v) a ≡ false
+none_below None (Ok v) h = refl
+none_below None (Err e) h = refl
+none_below (Some l) a h = absurd (true≢false (sym h))

@@ -7,7 +7,9 @@ ghost use Rattle.problem_model.specs.declared.edit.Edit.TheVariants as edit;
 ghost use Rattle.rule_words.specs.Answers.{Changes};
 ghost use Rattle.activities.specs.Spans.{spans_of};
 ghost use Rattle.activities.specs.declared.span.Extreme.TheVariants.{Greatest, Least};
+ghost use Rattle.activities.specs.RowSums.{activity};
 ghost use Rattle.activity_laws.specs.Rows.{on_activities};
+ghost use Rattle.activity_rules.specs.Looks.{on_one};
 ghost use Rattle.activity_laws.specs.ForcingRow.{at_lower, enabled, edits, edits_by, end_of as end_with, fixed_at_end as fixed_with, is_reached as side_is_reached, record_by, record_of, Computes};
 ghost use Rattle.undo_records.specs.declared.side.Side.TheVariants.{Lower, Upper};
 ghost use Rattle.undo_records.specs.declared.undo.Undo.TheVariants as undone;
@@ -34,19 +36,45 @@ fn is_reached(side: &Ext, activity: &Ext) -> bool
     }
 }
 
-/// Whether the greatest activity of a row is its lower side, or the least its upper side.
+/// Whether a row's greatest activity has room, and is a lower side. It is not made where there is no such side.
+#[tactic(auto, using(crate::proofs::Looks::none_reached))]
+fn greatest_reaches(problem: &Problem, row: u32, lower: &Ext) -> bool
+    requires { (row_at problem.now row).live ≡ true }
+    ensures { result ≡ on_one (λ v. side_is_reached lower.now v) (activity Greatest (spans_of problem.now row)) }
+{
+    if lower.is_none() {
+        return false;
+    }
+    match greatest(problem, row, None) {
+        Ok(value) => is_reached(lower, &value),
+        Err(_) => false,
+    }
+}
+
+/// Whether a row's least activity has room, and is an upper side. It is not made where there is no such side.
+#[tactic(auto, using(crate::proofs::Looks::none_reached))]
+fn least_reaches(problem: &Problem, row: u32, upper: &Ext) -> bool
+    requires { (row_at problem.now row).live ≡ true }
+    ensures { result ≡ on_one (λ v. side_is_reached upper.now v) (activity Least (spans_of problem.now row)) }
+{
+    if upper.is_none() {
+        return false;
+    }
+    match least(problem, row, None) {
+        Ok(value) => is_reached(upper, &value),
+        Err(_) => false,
+    }
+}
+
+/// Whether the greatest activity of a row is its lower side, or the least its upper side, and neither is past.
+#[tactic(auto, using(crate::proofs::Looks::either_last))]
 fn only_reaches(problem: &Problem, row: u32) -> bool
     requires { (row_at problem.now row).live ≡ true }
     ensures { result ≡ on_activities (λ least greatest. side_is_reached (sides_at problem.now row).lower greatest || side_is_reached (sides_at problem.now row).upper least) (spans_of problem.now row) }
 {
     let sides = problem.sides(row);
-    let Ok(least) = least(problem, row, None) else {
-        return false;
-    };
-    let Ok(greatest) = greatest(problem, row, None) else {
-        return false;
-    };
-    is_reached(&sides.lower, &greatest) || is_reached(&sides.upper, &least)
+    (greatest_reaches(problem, row, &sides.lower) && least(problem, row, None).is_ok())
+        || (least_reaches(problem, row, &sides.upper) && greatest(problem, row, None).is_ok())
 }
 
 /// Whether a row has an entry, nothing of it is crossed, and it only just reaches one of its sides.
@@ -54,7 +82,10 @@ fn only_reaches(problem: &Problem, row: u32) -> bool
 pub fn is_enabled(problem: &Problem, row: u32) -> bool
     ensures { result ≡ enabled problem.now row }
 {
-    is_uncrossed(problem, row) && has_entries(problem, row) && only_reaches(problem, row)
+    problem.is_row_live(row)
+        && has_entries(problem, row)
+        && only_reaches(problem, row)
+        && is_uncrossed(problem, row)
 }
 
 /// Whether neither activity of a row is past, and the greatest is its lower side.

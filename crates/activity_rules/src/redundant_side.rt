@@ -49,10 +49,11 @@ fn keeps_one_side(problem: &Problem, row: u32) -> bool
 pub fn is_enabled(problem: &Problem, row: u32) -> bool
     ensures { result ≡ enabled problem.now row }
 {
-    is_uncrossed(problem, row)
+    problem.is_row_live(row)
         && has_entries(problem, row)
         && has_both_sides(problem, row)
         && keeps_one_side(problem, row)
+        && is_uncrossed(problem, row)
 }
 
 /// Whether neither activity of a row is past, and the least keeps its lower side.
