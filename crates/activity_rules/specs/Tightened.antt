@@ -1,5 +1,5 @@
 -- The bounds that a row implies, by its entries with the bounds of their columns.
-use Rattle.std.specs.Prelude.{ℕ, Bool, ◌&&◌, List, [], ◌∷◌, ◌++◌, if◌then◌else◌}
+use Rattle.std.specs.Prelude.{ℕ, Bool, true, false, ◌&&◌, ◌||◌, Option, Some, None, List, [], ◌∷◌, ◌++◌, if◌then◌else◌}
 use Rattle.std.specs.List.{flat_map}
 use Rattle.undo_records.specs.declared.side.Side.{Side}
 use Rattle.undo_records.specs.declared.side.Side.TheVariants.{Lower, Upper}
@@ -7,7 +7,11 @@ use Rattle.problem_model.specs.declared.line.Sides.{Sides}
 use Rattle.problem_model.specs.Problems.{bounds_at}
 use Rattle.problem_model.specs.Sparse.{Sparse}
 use Rattle.activities.specs.declared.span.Span.{Span}
-use Rattle.activities.specs.Spans.{spans_of}
+use Rattle.rational.specs.Number.{Number}
+use Rattle.activities.specs.declared.span.Extreme.{Extreme}
+use Rattle.activities.specs.declared.span.Extreme.TheVariants.{Least, Greatest}
+use Rattle.activities.specs.RowSums.{all_finite}
+use Rattle.activities.specs.Spans.{ends_at, spans_of}
 use Rattle.activity_laws.specs.TightenedBound.{has_two, implied, is_better, new_bound, old_bound}
 use Rattle.activity_rules.specs.Looks.{is_uncrossed}
 
@@ -34,3 +38,18 @@ found_at b ss s = bound_if (is_tight b ss s Lower) s.id Lower ++ bound_if (is_ti
 -- and those of several entries
 abbrev pub found_among : Sides → List Span → List Span → List (ℕ × Side)
 found_among b ss ts = flat_map (found_at b ss) ts
+
+-- at most one of these ends is infinite
+abbrev pub at_most_one_infinite : List (Option Number) → Bool
+at_most_one_infinite [] = true
+at_most_one_infinite (None ∷ es) = all_finite es
+at_most_one_infinite (Some q ∷ es) = at_most_one_infinite es
+
+-- a side is finite, and a rest that goes with it may be
+abbrev pub may_tell : Extreme → Option Number → List Span → Bool
+may_tell extreme None ss = false
+may_tell extreme (Some b) ss = at_most_one_infinite (ends_at extreme ss)
+
+-- this holds of the lower side, or of the upper one
+abbrev pub may_tighten : Sides → List Span → Bool
+may_tighten b ss = may_tell Greatest b.lower ss || may_tell Least b.upper ss

@@ -3,6 +3,7 @@
 #![tactic(auto)]
 
 pub mod forcing_row;
+mod infinite_ends;
 pub mod out_of_reach;
 pub mod redundant_row;
 pub mod redundant_side;

@@ -11,6 +11,7 @@ ghost use Rattle.activities.specs.Spans.{span_at, spans_of};
 ghost use Rattle.activity_laws.specs.TightenedBound.{bound_set, bounds_of, enabled, edits, has_two, implied, new_bound as new_by, old_bound as old_by, record_of, Computes};
 ghost use Rattle.activity_rules.specs.Tightened.{bound_if, found_among, found_at, gets_better as bound_gets_better, is_looked_at as row_is_looked_at, is_tight as is_tight_by};
 
+use crate::infinite_ends::may_tighten;
 use crate::row_bounds::{is_better, left_over, old_bound, source};
 use crate::rows::is_uncrossed;
 use activities::{Extreme, RowSums, Span, greatest, least};
@@ -251,7 +252,7 @@ fn add_all(sums: &RowSums, sides: &Sides, found: &mut Vec<(u32, Side)>) -> Resul
 }
 
 /// Adds all bounds of the columns of a row that can be tightened by it, in the order of its entries, the lower one first. The row is summed
-/// once.
+/// once, and not at all where its infinite ends alone say that it has none.
 ///
 /// # Errors
 /// Memory ran out.
@@ -267,6 +268,9 @@ pub fn add_tightened(
         return Ok(());
     }
     problem.is_sparse();
+    if !may_tighten(problem, row) {
+        return Ok(());
+    }
     let sides = problem.sides(row);
     let sums = RowSums::of_row(alloc, problem, row)?;
     add_all(&sums, &sides, found)?;

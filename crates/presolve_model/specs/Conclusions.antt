@@ -23,15 +23,19 @@ use Rattle.presolve_model.specs.Replay.{replay, Replays}
 use Rattle.presolve_model.specs.Ledger.{Ledger}
 use Rattle.presolve_model.specs.Ordered.{IsMadeInOrder, RunsTo}
 use Rattle.presolve_model.specs.Stuck.{IsUndecided, skipped_on, Stuck}
-use Rattle.presolve_model.specs.Tallies.{open_by}
+use Rattle.presolve_model.specs.Tallies.{Open, open_by}
 use Rattle.presolve_model.specs.Telling.{names_in}
 
--- The reductions of these records were applied, and p is what is left. At a fixpoint there is room for more, and none that the records
--- leave open can be applied: those that are enabled are counted, and each has a number that is past or can't be written. At the limit there
--- is no room, and no verdict is enabled.
+-- So many reductions were applied, and p is what is left. At a fixpoint there is room for more, and none that is open can be applied: those
+-- that are enabled are counted, and each has a number that is past or can't be written. At the limit there is no room, and no verdict is
+-- enabled.
+abbrev pub TellsEndBy : End → Options → ℕ → Open → Sparse → Type 0
+TellsEndBy (Fixpoint skipped) options applied opens p = (applied < options.limit) × Stuck options.numbers opens p × (skipped ≡ skipped_on opens p)
+TellsEndBy LimitReached options applied opens p = (applied ≡ options.limit) × IsUndecided p
+
+-- of these records, and of what they leave open
 abbrev pub TellsEnd : End → Options → List Undo → Sparse → Type 0
-TellsEnd (Fixpoint skipped) options us p = (length us < options.limit) × Stuck options.numbers (open_by us) p × (skipped ≡ skipped_on (open_by us) p)
-TellsEnd LimitReached options us p = (length us ≡ options.limit) × IsUndecided p
+TellsEnd ended options us p = TellsEndBy ended options (length us) (open_by us) p
 
 -- the names of those that are live, in the same order
 abbrev pub live_names : List Label → List (List ℕ)

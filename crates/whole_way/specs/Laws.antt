@@ -1,5 +1,5 @@
 -- The laws of the whole way.
-use Rattle.std.specs.Prelude.{ℕ, List, length}
+use Rattle.std.specs.Prelude.{ℕ, List, length, slice_index}
 use Rattle.rational.specs.Number.{Number}
 use Rattle.lp_model.specs.LinearProgram.{Feasible}
 use Rattle.lp_model.specs.Meaning.{meaning}
@@ -14,9 +14,11 @@ use Rattle.record_round_trip.specs.Ranges.{HasRange}
 use Rattle.problem_model.specs.Edits.{offset_set}
 use Rattle.problem_model.specs.Programs.{IsProblemOf}
 use Rattle.problem_model.specs.Sparse.{Sparse}
-use Rattle.presolve_model.specs.Conclusions.{Concluded, TellsEnd}
+use Rattle.presolve_model.specs.Accounts.{live_labels_from}
+use Rattle.presolve_model.specs.Conclusions.{Concluded, TellsEndBy}
 use Rattle.presolve_model.specs.declared.conclusion.End.{End}
 use Rattle.presolve_model.specs.declared.conclusion.Options.{Options}
+use Rattle.presolve_model.specs.Tallies.{Open, open_by}
 use Rattle.way_back.specs.ComingBack.{ComesBack, IsBest}
 use Rattle.whole_way.specs.Texts.{IsProgramText, IsRecordText, IsSolutionText, PostsolveWrites, PresolveWrites, TextsFit}
 
@@ -28,13 +30,22 @@ TextsComeBack = (options : Options) (program reduced : ProgramData) (told : Post
     → HasRange told
     → TextsFit reduced told (mps_text reduced) (record_text told)
 
+-- the original id of a column of the reduced program
+abbrev pub original_column : Postsolve → ℕ → ℕ
+original_column told j = slice_index (live_labels_from 0 told.columns) j
+
+-- a bound of the reduced program may be tightened where the records leave it open at its column's original id
+abbrev pub open_after : Postsolve → Open
+open_after told j side = open_by told.undos (original_column told j) side
+
 -- How the run ended is told of the problem of the program that is read, as it is of the problem that presolve left, if the records' offset was
--- added to the cost there: at a fixpoint no reduction can be applied there either, and as many are enabled.
+-- added to the cost there, and the records count for its columns: at a fixpoint no open reduction can be applied there either, and as many are
+-- enabled.
 abbrev pub EndsAreToldOfTexts : Type 0
 EndsAreToldOfTexts = (options : Options) (program read : ProgramData) (told : Postsolve) (ended : End) (p : Sparse)
     → Concluded options program read told ended
     → IsProblemOf read p
-    → TellsEnd ended options (length told.undos) (offset_set p (signed told.sense told.offset))
+    → TellsEndBy ended options (length told.undos) (open_after told) (offset_set p (signed told.sense told.offset))
 
 -- Presolve reduces a program, and writes the reduced program's text `out` and the text of records `undoing`. They are read as a program
 -- and records. The text `solution` is read as a point that is feasible for the program that was read, and postsolve writes as `result` what

@@ -11,7 +11,8 @@ pub fn texts_come_back()
 {}
 
 /// What `end fixpoint` and the count of skipped reductions say of the problem that presolve left, with original ids, they say of the reduced
-/// program as it is written, whose rows and columns have new ids; and so does `end limit`.
+/// program as it is written, whose rows and columns have new ids; and so does `end limit`. How often a bound was tightened is told there by
+/// the records too, at the original id of its column, which the labels tell.
 pub fn ends_are_told_of_texts()
     ensures { EndsAreToldOfTexts }
 {}
