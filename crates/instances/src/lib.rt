@@ -23,7 +23,7 @@ pub use chunk::Chunk;
 pub use enabled::{change, is_enabled};
 pub use finding::add_enabled;
 pub use listing::{
-    goes_by_form, is_of_rows, reach_of, reduction_rules, rests_on_reading, says_no_point,
+    is_of_rows, reach_of, reduction_rules, rests_on_reading, rule_of, says_no_point,
     shares_reading, verdict_rules,
 };
 pub use parts::{head, parts_read};

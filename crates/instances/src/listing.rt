@@ -3,7 +3,7 @@
 
 ghost use Rattle.std.specs.Prelude.{◌≡◌};
 ghost use Rattle.presolve_model.specs.declared.instance.Instance.TheVariants as at;
-ghost use Rattle.presolve_model.specs.Instances.{goes_by_form as by_form, is_of_rows as of_rows, reach_of as reach, rests_on_reading as rests, rule_at, rule_of, shares_reading as shares};
+ghost use Rattle.presolve_model.specs.Instances.{is_of_rows as of_rows, reach_of as reach, rests_on_reading as rests, rule_at, rule_of, shares_reading as shares};
 ghost use Rattle.presolve_model.specs.Meanings.{says_no_point as no_point};
 ghost use Rattle.presolve_model.specs.Order.{reduction_order, verdict_order};
 
@@ -71,41 +71,43 @@ pub fn is_of_rows(rule: Rule) -> bool
     }
 }
 
-fn reduction_goes_by_form(reduction: Reduction) -> bool
-    ensures { result ≡ by_form (reach (rule_of reduction)) }
+fn rule_of_reduction(reduction: Reduction) -> Rule
+    ensures { result ≡ rule_of reduction }
 {
     match reduction {
-        Reduction::FixedByCost { .. } | Reduction::DominatedColumn { .. } => true,
-        Reduction::EmptyRow { .. }
-        | Reduction::SingletonRow { .. }
-        | Reduction::FixedColumn { .. }
-        | Reduction::RoundBounds { .. }
-        | Reduction::RedundantRow { .. }
-        | Reduction::RedundantSide { .. }
-        | Reduction::ForcingRow { .. }
-        | Reduction::TightenedBound { .. }
-        | Reduction::TightenedCoefficient { .. }
-        | Reduction::EmptyColumn { .. } => false,
+        Reduction::EmptyRow { .. } => Rule::EmptyRow,
+        Reduction::SingletonRow { .. } => Rule::SingletonRow,
+        Reduction::FixedColumn { .. } => Rule::FixedColumn,
+        Reduction::RoundBounds { .. } => Rule::RoundBounds,
+        Reduction::RedundantRow { .. } => Rule::RedundantRow,
+        Reduction::RedundantSide { .. } => Rule::RedundantSide,
+        Reduction::ForcingRow { .. } => Rule::ForcingRow,
+        Reduction::TightenedBound { .. } => Rule::TightenedBound,
+        Reduction::TightenedCoefficient { .. } => Rule::TightenedCoefficient,
+        Reduction::FixedByCost { .. } => Rule::FixedByCost,
+        Reduction::DominatedColumn { .. } => Rule::DominatedColumn,
+        Reduction::EmptyColumn { .. } => Rule::EmptyColumn,
     }
 }
 
-fn verdict_goes_by_form(verdict: Verdict) -> bool
-    ensures { result ≡ by_form (reach (rule_at (at.Verdict verdict))) }
+fn rule_of_verdict(verdict: Verdict) -> Rule
+    ensures { result ≡ rule_at (at.Verdict verdict) }
 {
     match verdict {
-        Verdict::CrossedBounds { .. } | Verdict::CrossedSides { .. } | Verdict::OutOfReach { .. } =>
-            false,
-        Verdict::Ray { .. } => true,
+        Verdict::CrossedBounds { .. } => Rule::CrossedBounds,
+        Verdict::CrossedSides { .. } => Rule::CrossedSides,
+        Verdict::OutOfReach { .. } => Rule::OutOfReach,
+        Verdict::Ray { .. } => Rule::Ray,
     }
 }
 
-/// Whether an instance looks only at the form of ends.
-pub fn goes_by_form(instance: Instance) -> bool
-    ensures { result ≡ by_form (reach (rule_at instance)) }
+/// The rule of an instance.
+pub fn rule_of(instance: Instance) -> Rule
+    ensures { result ≡ rule_at instance }
 {
     match instance {
-        Instance::Reduction(reduction) => reduction_goes_by_form(reduction),
-        Instance::Verdict(verdict) => verdict_goes_by_form(verdict),
+        Instance::Reduction(reduction) => rule_of_reduction(reduction),
+        Instance::Verdict(verdict) => rule_of_verdict(verdict),
     }
 }
 

@@ -1,5 +1,5 @@
 -- What rounds mark: parts that are noted for the next one, and a part of each instance that sleeps.
-use Rattle.std.specs.Prelude.{◌≡◌, ◌⊎◌, Bool, true, false, List, if◌then◌else◌}
+use Rattle.std.specs.Prelude.{◌≡◌, ◌⊎◌, Bool, true, false, List}
 use Rattle.std.specs.List.{Contains}
 use Rattle.fractions.specs.declared.Numbers.{Numbers}
 use Rattle.problem_model.specs.declared.part.Part.{Part}
@@ -8,33 +8,46 @@ use Rattle.presolve_model.specs.declared.instance.Instance.{Instance}
 use Rattle.presolve_model.specs.declared.instance.Instance.TheVariants as at
 use Rattle.presolve_model.specs.declared.outcome.Outcome.{Outcome}
 use Rattle.presolve_model.specs.declared.outcome.Outcome.TheVariants.{Closed, Full, Stale, Past, NotDecimal, Applied, NoMemory}
-use Rattle.dual_laws.specs.Forms.{seen_at}
+use Rattle.dual_laws.specs.declared.form.Form.{Form}
+use Rattle.dual_laws.specs.Forms.{Lets, LetsByCost, LetsInPairs, seen_at}
 use Rattle.presolve_model.specs.declared.instance.Reach.{Reach}
+use Rattle.presolve_model.specs.declared.instance.Reach.TheVariants.{OwnRow, OwnColumn, RowsOfBounds, ColumnsOfSides, RowsOfBoth}
 use Rattle.presolve_model.specs.Changes.{ChangeFits, ChangeIsWritten}
 use Rattle.presolve_model.specs.Enabled.{reading_of, reads}
 use Rattle.presolve_model.specs.Instances.{goes_by_form, reach_of, rule_at}
 
--- what is noted: parts that have changed, and a part of each instance that is left over. What is stirred is the same for the rules that look
--- only at the form of ends: parts of which something else is seen
+-- what is noted: parts that have changed, and a part of each instance that is left over. The same for the rules that look only at the form of
+-- ends: stirred and roused, parts of which something is seen that lets such a rule apply, at columns or at rows, where it didn't before
 pub record Marks : Type 0 where
   pub noted : List Part
   pub stirred : List Part
+  pub roused : List Part
   pub asleep : List Part
 
 -- the parts that count for a reach
 abbrev pub parts_for : Marks → Reach → List Part
-parts_for n r = if goes_by_form r then n.stirred else n.noted
+parts_for n OwnRow = n.noted
+parts_for n OwnColumn = n.noted
+parts_for n RowsOfBounds = n.noted
+parts_for n ColumnsOfSides = n.stirred
+parts_for n RowsOfBoth = n.roused
 
 -- the one has what the other has
 pub record Grows (n m : Marks) : Type 0 where
   pub noted : (a : Part) → Contains n.noted a → Contains m.noted a
   pub stirred : (a : Part) → Contains n.stirred a → Contains m.stirred a
+  pub roused : (a : Part) → Contains n.roused a → Contains m.roused a
   pub asleep : (a : Part) → Contains n.asleep a → Contains m.asleep a
 
--- each part of which something else is seen in q than in p is stirred, and what was still is
-pub record AreStirred (p q : Sparse) (before after : List Part) : Type 0 where
+-- each part of which something is seen in q that lets more than in p is among these, and what was before still is
+pub record LetsNoMore (R : Form → Form → Type 0) (p q : Sparse) (before after : List Part) : Type 0 where
   pub kept : (a : Part) → Contains before a → Contains after a
-  pub changed : (a : Part) → (seen_at q a ≡ seen_at p a) ⊎ Contains after a
+  pub changed : (a : Part) → Lets R (seen_at q a) (seen_at p a) ⊎ Contains after a
+
+-- so it is with what is stirred and what is roused
+pub record AreStirred (p q : Sparse) (n m : Marks) : Type 0 where
+  pub stirred : LetsNoMore LetsByCost p q n.stirred m.stirred
+  pub roused : LetsNoMore LetsInPairs p q n.roused m.roused
 
 -- an instance reads a part that is noted
 abbrev pub IsNoted : Sparse → List Part → Instance → Type 0

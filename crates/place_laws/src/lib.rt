@@ -14,9 +14,9 @@ ghost use Rattle.presolve_model.specs.Tallies.{Open};
 ghost use Rattle.place_laws.specs.Choosing.{Around, HasEach, HoldsAround, IsComplete};
 ghost use Rattle.place_laws.specs.Marks.{IsMarked, IsNoted, Marks};
 
-/// Where each enabled instance that is open is marked, the rows and columns around what is noted and stirred are where each one is that does
+/// Where each enabled instance that is open is marked, the rows and columns to which what is marked leads are where each one is that does
 /// not sleep. Where each reads one of some parts that count for all rules, they are where each is.
 pub fn instances_are_near()
     ensures complete { (numbers : Numbers) (opens : Open) (p : Sparse) (m : Marks) (n : Around) → IsSparse p → HoldsAround p m n → ((e : Instance) → enabled_on p e ≡ true → is_open opens e ≡ true → IsMarked numbers p m e) → IsComplete numbers opens p n m.asleep }
-    ensures each { (opens : Open) (p : Sparse) (parts : List Part) (m : Marks) (n : Around) → IsSparse p → HoldsAround p m n → m.noted ≡ parts → m.stirred ≡ parts → ((e : Instance) → enabled_on p e ≡ true → is_open opens e ≡ true → IsNoted p parts e) → HasEach opens p n }
+    ensures each { (opens : Open) (p : Sparse) (parts : List Part) (m : Marks) (n : Around) → IsSparse p → HoldsAround p m n → m.noted ≡ parts → m.stirred ≡ parts → m.roused ≡ parts → ((e : Instance) → enabled_on p e ≡ true → is_open opens e ≡ true → IsNoted p parts e) → HasEach opens p n }
 {}

@@ -51,7 +51,7 @@ use Rattle.coef_laws.proofs.Changing as coefficients
 use Rattle.dual_laws.specs.DominatedColumn.{pairs_of}
 use Rattle.dual_laws.proofs.FixedByCost as fixed_by_cost
 use Rattle.dual_laws.proofs.DominatedColumn as dominated_column
-use Rattle.dual_laws.proofs.Forms.{dominated_more_rests, dominated_rests, fixed_by_cost_rests, ray_rests, RestsOnSeen, sides_named_rest}
+use Rattle.dual_laws.proofs.Forms.{dominated_more_rests, dominated_rests, fixed_by_cost_rests, ray_rests, RestsOnLines, RestsOnSeen, sides_named_rest}
 use Rattle.dual_laws.proofs.Ray as ray
 use Rattle.presolve_model.specs.declared.instance.Instance.{Instance}
 use Rattle.presolve_model.specs.declared.instance.Instance.TheVariants as at
@@ -63,7 +63,7 @@ use Rattle.presolve_model.specs.Changes.{ChangeFits, ChangeIsWritten}
 use Rattle.presolve_model.specs.Enabled.{enabled_on, reading_of}
 use Rattle.presolve_model.specs.declared.instance.Rule.{Rule}
 use Rattle.presolve_model.specs.declared.instance.Rule.TheVariants as rule
-use Rattle.presolve_model.specs.Instances.{goes_by_form, id_at, id_count, instances_from, is_open, reach_of, rests_on_reading, rule_at, rule_of, tallied}
+use Rattle.presolve_model.specs.Instances.{goes_by_form, id_at, id_count, instances_from, is_open, lets_by, reach_of, rests_on_reading, rule_at, rule_of, tallied}
 use Rattle.presolve_model.specs.Meanings.{Meant, says_no_point}
 use Rattle.presolve_model.specs.Order.{verdict_order, reduction_order}
 use Rattle.presolve_model.specs.Tables.{Computes, edits, holds, more, record_of}
@@ -249,10 +249,10 @@ verdicts_do_not_rest (CrossedSides i) t = true≢false (sym t)
 verdicts_do_not_rest (OutOfReach i) t = true≢false (sym t)
 verdicts_do_not_rest (Ray j) t = true≢false (sym t)
 
--- ---- where only the form of ends is looked at, what is read and the condition rest on what is seen
+-- ---- where only the form of ends is looked at, what is read rests on entries, and the condition on what is seen
 pub record RestsOnForms (e : Instance) : Type 0 where
-  pub more : RestsOnSeen (more e)
-  pub holds : RestsOnSeen (holds e)
+  pub more : RestsOnLines (more e)
+  pub holds : RestsOnSeen (lets_by (reach_of (rule_at e))) (holds e)
 
 pub forms_suffice : (e : Instance) → goes_by_form (reach_of (rule_at e)) ≡ true → RestsOnForms e
 forms_suffice (at.Verdict (CrossedBounds j)) t = absurd (true≢false (sym t))

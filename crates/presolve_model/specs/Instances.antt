@@ -1,10 +1,12 @@
 -- The instances of a rule with a first id that are open, and which rule and which first id an instance has.
-use Rattle.std.specs.Prelude.{ℕ, Bool, true, false, List, [], ◌∷◌, length, map, if◌then◌else◌}
+use Rattle.std.specs.Prelude.{◌≡◌, ℕ, Bool, true, false, List, [], ◌∷◌, length, map, if◌then◌else◌}
 use Rattle.std.specs.List.{filter}
 use Rattle.problem_model.specs.Problems.{row_entries}
 use Rattle.problem_model.specs.Sparse.{Sparse}
 use Rattle.activity_laws.specs.TightenedBound.{bounds_of}
 use Rattle.dual_laws.specs.DominatedColumn.{pairs_of}
+use Rattle.dual_laws.specs.declared.form.Form.{Form}
+use Rattle.dual_laws.specs.Forms.{LetsByCost, LetsInPairs}
 use Rattle.presolve_model.specs.declared.instance.Reduction.{Reduction}
 use Rattle.presolve_model.specs.declared.instance.Reduction.TheVariants.{EmptyRow, SingletonRow, FixedColumn, RoundBounds, RedundantRow, RedundantSide, ForcingRow, TightenedBound, TightenedCoefficient, FixedByCost, DominatedColumn, EmptyColumn}
 use Rattle.presolve_model.specs.declared.instance.Verdict.{Verdict}
@@ -74,6 +76,14 @@ goes_by_form OwnColumn = false
 goes_by_form RowsOfBounds = false
 goes_by_form ColumnsOfSides = true
 goes_by_form RowsOfBoth = true
+
+-- what of a form lets a rule apply that another one doesn't, for those that look only at forms
+abbrev pub lets_by : Reach → Form → Form → Type 0
+lets_by OwnRow f g = f ≡ g
+lets_by OwnColumn f g = f ≡ g
+lets_by RowsOfBounds f g = f ≡ g
+lets_by ColumnsOfSides f g = LetsByCost f g
+lets_by RowsOfBoth f g = LetsInPairs f g
 
 -- whether a refusal of a rule's instances, for a number that is past or can't be written, rests on what they read alone
 abbrev pub rests_on_reading : Rule → Bool

@@ -32,9 +32,9 @@ ghost use Rattle.presolve_model.specs.declared.instance.Reduction.{Reduction};
 ghost use Rattle.presolve_model.specs.declared.instance.Verdict.{Verdict};
 ghost use Rattle.presolve_model.specs.Changes.{added, changed, ChangeFits, ChangeIsWritten};
 ghost use Rattle.presolve_model.specs.Enabled.{Enabled, enabled_on, reading_of, reads};
-ghost use Rattle.presolve_model.specs.Instances.{goes_by_form, instances_from, is_open, reach_of, rests_on_reading, rule_at, rule_of, shares_reading, tallied};
+ghost use Rattle.presolve_model.specs.Instances.{goes_by_form, instances_from, is_open, lets_by, reach_of, rests_on_reading, rule_at, rule_of, shares_reading, tallied};
 ghost use Rattle.presolve_model.specs.declared.instance.Rule.{Rule};
-ghost use Rattle.dual_laws.specs.Forms.{seen_at};
+ghost use Rattle.dual_laws.specs.Forms.{EachLets, seen_at};
 ghost use Rattle.presolve_model.specs.Meanings.{Meant};
 ghost use Rattle.presolve_model.specs.Order.{reduction_order, verdict_order};
 ghost use Rattle.presolve_model.specs.Replay.{CanApply, replay, Replays};
@@ -90,11 +90,12 @@ pub fn refusals_rest_on_readings()
     ensures applied { (numbers : Numbers) (p q : Sparse) (r : Reduction) → rests_on_reading (rule_of r) ≡ true → reading_of q (at.Reduction r) ≡ reading_of p (at.Reduction r) → CanApply numbers q r → CanApply numbers p r }
 {}
 
-/// Of a rule that looks at the form of ends alone, an instance reads the same parts, and is enabled alike, where the same is seen of what it
-/// reads; and no refusal of such a rule rests on what is read alone.
+/// Of a rule that looks at the form of ends alone: where of each part that an instance reads the entries are the same on q as on p, and the
+/// form on q lets what it lets on p, it reads the same parts on q, and is enabled there if it is on p; and no refusal of such a rule rests on
+/// what is read alone.
 pub fn forms_decide()
-    ensures parts { (p q : Sparse) (e : Instance) → goes_by_form (reach_of (rule_at e)) ≡ true → map (seen_at q) (reads p e) ≡ map (seen_at p) (reads p e) → reads q e ≡ reads p e }
-    ensures enabled { (p q : Sparse) (e : Instance) → goes_by_form (reach_of (rule_at e)) ≡ true → map (seen_at q) (reads p e) ≡ map (seen_at p) (reads p e) → enabled_on q e ≡ enabled_on p e }
+    ensures parts { (p q : Sparse) (e : Instance) → goes_by_form (reach_of (rule_at e)) ≡ true → EachLets (lets_by (reach_of (rule_at e))) (map (seen_at p) (reads p e)) (map (seen_at q) (reads p e)) → reads q e ≡ reads p e }
+    ensures enabled { (p q : Sparse) (e : Instance) → goes_by_form (reach_of (rule_at e)) ≡ true → EachLets (lets_by (reach_of (rule_at e))) (map (seen_at p) (reads p e)) (map (seen_at q) (reads p e)) → enabled_on p e ≡ true → enabled_on q e ≡ true }
     ensures awake { (r : Rule) → rests_on_reading r ≡ true → goes_by_form (reach_of r) ≡ false }
 {}
 

@@ -24,12 +24,16 @@ use Rattle.presolve_model.specs.Order.{verdict_order}
 use Rattle.presolve_model.specs.Ordered.{Closes, Committed, enabled_verdicts, Ordered, round_list}
 use Rattle.presolve_model.specs.Scans.{all_ids, all_of, instances_at, proposal_of}
 use Rattle.presolve_model.specs.Stuck.{skipped_on, Stuck}
-use Rattle.presolve_model.specs.Instances.{goes_by_form, instances_from, reach_of, rests_on_reading, rule_at}
+use Rattle.presolve_model.specs.Instances.{instances_from, reach_of, rests_on_reading, rule_at}
 use Rattle.presolve_model.specs.Tables.{heads}
 use Rattle.presolve_model.proofs.Readings.{reading_agrees}
 use Rattle.history_laws.proofs.Keeping.{sparse_replay}
 use Rattle.place_laws.specs.Choosing.{all_around, AreSorted, Around, HoldsAround, IsComplete, visited}
-use Rattle.place_laws.specs.Marks.{AreStirred, Grows, IsMarked, IsNoted, is_refusal, Marks}
+use Rattle.dual_laws.specs.declared.form.Form.{Form}
+use Rattle.dual_laws.specs.Forms.{LetsByCost, LetsInPairs}
+use Rattle.presolve_model.specs.declared.instance.Reach.{Reach}
+use Rattle.presolve_model.specs.declared.instance.Reach.TheVariants.{OwnRow, OwnColumn, RowsOfBounds, ColumnsOfSides, RowsOfBoth}
+use Rattle.place_laws.specs.Marks.{AreStirred, Grows, IsMarked, IsNoted, is_refusal, LetsNoMore, Marks, parts_for}
 use Rattle.place_laws.specs.Standing.{IsFresh}
 use Rattle.round_laws.specs.Passing.{Follows, IsSameBook, Passed}
 use Rattle.place_laws.proofs.Choosing.{all_each, all_sorted, marked_complete}
@@ -40,7 +44,7 @@ use Rattle.place_laws.proofs.ShortLists.{comes_from}
 use Rattle.run_laws.proofs.Runs.{run_full}
 use Rattle.round_laws.proofs.Tracking.{passed_none, passed_on}
 use Rattle.round_laws.proofs.Turns.{follows_next, follows_start, met, met_asleep, met_stale}
-use Rattle.round_marks.specs.Marking.{all_marked, AreReached, left_over, marked, Watched}
+use Rattle.round_marks.specs.Marking.{all_marked, AreReached, left_by as left_for, left_over, marked, Watched}
 use Rattle.round_marks.specs.Forming.{AreFormsOf, Formed, forms_of}
 use Rattle.round_marks.proofs.Reforming.{formed}
 use Rattle.presolve_rounds.specs.Walking.{IsGoing, IsPassed}
@@ -62,64 +66,74 @@ noted_more p q n m a h = record { kept = λ b c. (more_in m a).0 b (h.kept b c);
     wider b (inl x) = inl x
     wider b (inr c) = inr ((more_in m a).0 b c)
 
-stirred_more : (p q : Sparse) (n m : List Part) (a : Part) → AreStirred p q n m → AreStirred p q n (m ++ a ∷ [])
-stirred_more p q n m a h = record { kept = λ b c. (more_in m a).0 b (h.kept b c); changed = λ b. wider b (h.changed b) }
-  where
-    wider : {A : Type 0} (b : Part) → A ⊎ Contains m b → A ⊎ Contains (m ++ a ∷ []) b
-    wider b (inl x) = inl x
-    wider b (inr c) = inr ((more_in m a).0 b c)
+module _ (R : Form → Form → Type 0) (p q : Sparse) (n m : List Part) (a : Part) where
+  lets_more : LetsNoMore R p q n m → LetsNoMore R p q n (m ++ a ∷ [])
+  lets_more h = record { kept = λ b c. (more_in m a).0 b (h.kept b c); changed = λ b. wider b (h.changed b) }
+    where
+      wider : {A : Type 0} (b : Part) → A ⊎ Contains m b → A ⊎ Contains (m ++ a ∷ []) b
+      wider b (inl x) = inl x
+      wider b (inr c) = inr ((more_in m a).0 b c)
 
--- what is left over counts for the rule
-abbrev pub left_by_form : Bool → Marks → Part → Marks
-left_by_form s k a = if s then record k { stirred = k.stirred ++ a ∷ [] } else record k { noted = k.noted ++ a ∷ [] }
+-- what is left over counts for its reach
+pub over_counts : (r : Reach) (k : Marks) (a : Part) → Contains (parts_for (left_for r k a) r) a
+over_counts OwnRow k a = (more_in k.noted a).1
+over_counts OwnColumn k a = (more_in k.noted a).1
+over_counts RowsOfBounds k a = (more_in k.noted a).1
+over_counts ColumnsOfSides k a = (more_in k.stirred a).1
+over_counts RowsOfBoth k a = (more_in k.roused a).1
 
-pub over_counts : (s : Bool) (k : Marks) (a : Part) → Contains (if s then (left_by_form s k a).stirred else (left_by_form s k a).noted) a
-over_counts true k a = (more_in k.stirred a).1
-over_counts false k a = (more_in k.noted a).1
+more_noted : (k : Marks) (a : Part) → Grows k (record k { noted = k.noted ++ a ∷ [] })
+more_noted k a = record { noted = (more_in k.noted a).0; stirred = λ x c. c; roused = λ x c. c; asleep = λ x c. c }
 
-pub over_grows : (s : Bool) (k : Marks) (a : Part) → Grows k (left_by_form s k a)
-over_grows true k a = record { noted = λ x c. c; stirred = (more_in k.stirred a).0; asleep = λ x c. c }
-over_grows false k a = record { noted = (more_in k.noted a).0; stirred = λ x c. c; asleep = λ x c. c }
+pub over_grows : (r : Reach) (k : Marks) (a : Part) → Grows k (left_for r k a)
+over_grows OwnRow k a = more_noted k a
+over_grows OwnColumn k a = more_noted k a
+over_grows RowsOfBounds k a = more_noted k a
+over_grows ColumnsOfSides k a = record { noted = λ x c. c; stirred = (more_in k.stirred a).0; roused = λ x c. c; asleep = λ x c. c }
+over_grows RowsOfBoth k a = record { noted = λ x c. c; stirred = λ x c. c; roused = (more_in k.roused a).0; asleep = λ x c. c }
 
-pub over_noted : (p q : Sparse) (n : List Part) (s : Bool) (k : Marks) (a : Part) → AreNoted p q n k.noted → AreNoted p q n (left_by_form s k a).noted
-over_noted p q n true k a h = h
-over_noted p q n false k a h = noted_more p q n k.noted a h
+pub over_noted : (p q : Sparse) (n : List Part) (r : Reach) (k : Marks) (a : Part) → AreNoted p q n k.noted → AreNoted p q n (left_for r k a).noted
+over_noted p q n OwnRow k a h = noted_more p q n k.noted a h
+over_noted p q n OwnColumn k a h = noted_more p q n k.noted a h
+over_noted p q n RowsOfBounds k a h = noted_more p q n k.noted a h
+over_noted p q n ColumnsOfSides k a h = h
+over_noted p q n RowsOfBoth k a h = h
 
-over_stirred : (p q : Sparse) (n : List Part) (s : Bool) (k : Marks) (a : Part) → AreStirred p q n k.stirred → AreStirred p q n (left_by_form s k a).stirred
-over_stirred p q n true k a h = stirred_more p q n k.stirred a h
-over_stirred p q n false k a h = h
-
-over_asleep : (s : Bool) (k : Marks) (a : Part) (x : Part) → Contains k.asleep x → Contains (left_by_form s k a).asleep x
-over_asleep true k a x c = c
-over_asleep false k a x c = c
+pub over_stirred : (p q : Sparse) (n : Marks) (r : Reach) (k : Marks) (a : Part) → AreStirred p q n k → AreStirred p q n (left_for r k a)
+over_stirred p q n OwnRow k a h = record { stirred = h.stirred; roused = h.roused }
+over_stirred p q n OwnColumn k a h = record { stirred = h.stirred; roused = h.roused }
+over_stirred p q n RowsOfBounds k a h = record { stirred = h.stirred; roused = h.roused }
+over_stirred p q n ColumnsOfSides k a h = record { stirred = lets_more LetsByCost p q n.stirred k.stirred a h.stirred; roused = h.roused }
+over_stirred p q n RowsOfBoth k a h = record { stirred = h.stirred; roused = lets_more LetsInPairs p q n.roused k.roused a h.roused }
 
 -- a stale instance is left over
 pub stale_left : (f : Ledger) (w v : Watched) (b : Ledger) (e : Instance) (a : Part) → IsGoing f w b → (IsFresh f.problem b.problem e → ⊥) → v ≡ record { marks = left_over w.marks e a; forms = w.forms } → Contains (heads e) a → IsPassed f (e ∷ []) w b v b
 stale_left f w v b e a going stale is own = subst (λ (x : Watched). IsPassed f (e ∷ []) w b x b) (sym is) (record {
-  passed = met_stale (open_on f.tally) f.problem w.marks (left_over w.marks e a) b e a going.follows stale (over_grows (goes_by_form (reach_of (rule_at e))) w.marks a) own (over_counts (goes_by_form (reach_of (rule_at e))) w.marks a);
+  passed = met_stale (open_on f.tally) f.problem w.marks (left_over w.marks e a) b e a going.follows stale (over_grows (reach_of (rule_at e)) w.marks a) own (over_counts (reach_of (rule_at e)) w.marks a);
   forms = going.forms;
 })
 
 -- an instance after its turn: k is what was marked when it was applied, and m with a part of it
 module _ (opens : Open) (f : Sparse) (w : ℕ) (n k m : Marks) (b c : Ledger) (e : Instance) (o : Outcome) (a : Part) (h : Follows opens f b) (fresh : IsFresh f b.problem e) (on : enabled_on b.problem e ≡ true) (answered : o ≢ NoMemory)
-    (allows : Allows b (proposal_of b.problem w e) o) (left : c ≡ left_by b (proposal_of b.problem w e) o) (noted : AreNoted b.problem c.problem n.noted k.noted) (stirred : AreStirred b.problem c.problem n.stirred k.stirred)
+    (allows : Allows b (proposal_of b.problem w e) o) (left : c ≡ left_by b (proposal_of b.problem w e) o) (noted : AreNoted b.problem c.problem n.noted k.noted) (stirred : AreStirred b.problem c.problem n k)
     (asleep : k.asleep ≡ n.asleep) (own : Contains (heads e) a) where
   sleeps_still : (x : Part) → Contains n.asleep x → Contains k.asleep x
   sleeps_still x d = subst (λ (xs : List Part). Contains xs x) (sym asleep) d
 
   -- it is left over
-  met_left : (s : Bool) → goes_by_form (reach_of (rule_at e)) ≡ s → Passed opens f (e ∷ []) n b (left_by_form s k a) c
-  met_left s is = met opens f w n (left_by_form s k a) b c e o a h fresh on answered allows left (over_noted b.problem c.problem n.noted s k a noted) (over_stirred b.problem c.problem n.stirred s k a stirred)
-      (λ x d. over_asleep s k a x (sleeps_still x d)) own (subst (λ (t : Bool). Contains (if t then (left_by_form s k a).stirred else (left_by_form s k a).noted) a) (sym is) (over_counts s k a))
+  met_left : Passed opens f (e ∷ []) n b (left_over k e a) c
+  met_left = let r : Reach = reach_of (rule_at e) in
+      met opens f w n (left_for r k a) b c e o a h fresh on answered allows left (over_noted b.problem c.problem n.noted r k a noted) (over_stirred b.problem c.problem n r k a stirred)
+      (λ x d. (over_grows r k a).asleep x (sleeps_still x d)) own (over_counts r k a)
 
   pub met_marked : m ≡ marked k e o a → Passed opens f (e ∷ []) n b m c
   met_marked is = subst (λ (x : Marks). Passed opens f (e ∷ []) n b x c) (sym is) (by (is_refusal o) (rests_on_reading (rule_at e)) refl refl)
     where
       by : (s t : Bool) → is_refusal o ≡ s → rests_on_reading (rule_at e) ≡ t → Passed opens f (e ∷ []) n b (if s && t then record k { asleep = k.asleep ++ a ∷ [] } else left_over k e a) c
       by true true refused rests = met_asleep opens f w n (record k { asleep = k.asleep ++ a ∷ [] }) b c e o a h fresh on refused rests allows left
-          (record { noted = noted.kept; stirred = stirred.kept; asleep = λ x d. (more_in k.asleep a).0 x (sleeps_still x d) }) own (more_in k.asleep a).1
-      by true false refused rests = met_left (goes_by_form (reach_of (rule_at e))) refl
-      by false t refused rests = met_left (goes_by_form (reach_of (rule_at e))) refl
+          (record { noted = noted.kept; stirred = stirred.stirred.kept; roused = stirred.roused.kept; asleep = λ x d. (more_in k.asleep a).0 x (sleeps_still x d) }) own (more_in k.asleep a).1
+      by true false refused rests = met_left
+      by false t refused rests = met_left
 
 -- ---- before the first round
 sparse_of : (b : Ledger) → Stands b → IsSparse b.problem
@@ -135,7 +149,7 @@ ready_first b s n w h counted short es en ew = record {
 }
 
 -- as a round begins
-pub ready_begun : (b : Ledger) (s : Stamped) (n : Around) (w v : Watched) → IsReady b s n w → v ≡ record { marks = record { noted = []; stirred = []; asleep = w.marks.asleep }; forms = w.forms } → IsReady b s n v
+pub ready_begun : (b : Ledger) (s : Stamped) (n : Around) (w v : Watched) → IsReady b s n w → v ≡ record { marks = record { noted = []; stirred = []; roused = []; asleep = w.marks.asleep }; forms = w.forms } → IsReady b s n v
 ready_begun b s n w v ready is = record {
   follows = ready.follows;
   stamps = ready.stamps;
@@ -165,13 +179,22 @@ module _ (b c : Ledger) (s : Stamped) (n : Around) (w v : Watched) (ready : IsRe
 pub marked_reached : (b : Ledger) (m : Marks) → AreMarked b m → AreReached (open_on b.tally) b.problem (all_marked m)
 marked_reached b m h e on free = by (h e on free)
   where
-    among : (s : Bool) (a : Part) → Contains (if s then m.stirred else m.noted) a → Contains (all_marked m) a
-    among true a c = Contains-append_left (m.noted ++ m.stirred) m.asleep a (Contains-append_right m.noted m.stirred a c)
-    among false a c = Contains-append_left (m.noted ++ m.stirred) m.asleep a (Contains-append_left m.noted m.stirred a c)
+    counted : List Part
+    counted = m.noted ++ m.stirred ++ m.roused
+
+    noted : (a : Part) → Contains m.noted a → Contains (all_marked m) a
+    noted a c = Contains-append_left counted m.asleep a (Contains-append_left (m.noted ++ m.stirred) m.roused a (Contains-append_left m.noted m.stirred a c))
+
+    among : (r : Reach) (a : Part) → Contains (parts_for m r) a → Contains (all_marked m) a
+    among OwnRow a c = noted a c
+    among OwnColumn a c = noted a c
+    among RowsOfBounds a c = noted a c
+    among ColumnsOfSides a c = Contains-append_left counted m.asleep a (Contains-append_left (m.noted ++ m.stirred) m.roused a (Contains-append_right m.noted m.stirred a c))
+    among RowsOfBoth a c = Contains-append_left counted m.asleep a (Contains-append_right (m.noted ++ m.stirred) m.roused a c)
 
     by : IsMarked b.numbers b.problem m e → IsNoted b.problem (all_marked m) e
-    by (inl (a, r, c)) = (a, r, among (goes_by_form (reach_of (rule_at e))) a c)
-    by (inr k) = let told = k.told in (told.0, told.1, Contains-append_right (m.noted ++ m.stirred) m.asleep told.0 told.2)
+    by (inl (a, r, c)) = (a, r, among (reach_of (rule_at e)) a c)
+    by (inr k) = let told = k.told in (told.0, told.1, Contains-append_right counted m.asleep told.0 told.2)
 
 -- a round that applied something
 pub more_applied : (b c : Ledger) → Committed b (round_list b) c → length c.history ≢ length b.history → length b.history < length c.history

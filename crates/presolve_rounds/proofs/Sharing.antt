@@ -11,7 +11,7 @@ use Rattle.presolve_model.specs.declared.outcome.Outcome.{Outcome}
 use Rattle.presolve_model.specs.declared.outcome.Outcome.TheVariants.{Closed, Full, Stale, Past, NotDecimal, Applied, NoMemory}
 use Rattle.presolve_model.specs.Commits.{Allows, left_by}
 use Rattle.presolve_model.specs.Enabled.{enabled_on}
-use Rattle.presolve_model.specs.Instances.{goes_by_form, instances_from, reach_of, rule_at, shares_reading}
+use Rattle.presolve_model.specs.Instances.{instances_from, reach_of, rule_at, shares_reading}
 use Rattle.presolve_model.specs.Ledger.{Ledger}
 use Rattle.presolve_model.specs.Scans.{proposal_of}
 use Rattle.presolve_model.specs.Tables.{heads}
@@ -26,7 +26,8 @@ use Rattle.round_laws.proofs.Sharing.{fresh_alike, read_alike, row_stale, row_st
 use Rattle.round_marks.specs.Forming.{AreFormsOf}
 use Rattle.round_marks.specs.Marking.{left_over, marked, Watched}
 use Rattle.presolve_rounds.specs.Walking.{AreAlike, AreFresh, is_applied, IsGoing, IsMet, IsPassed}
-use Rattle.presolve_rounds.proofs.Running.{both_passed, left_by_form, none_passed, over_counts, over_grows, over_noted}
+use Rattle.round_laws.proofs.Tracking.{noted_count}
+use Rattle.presolve_rounds.proofs.Running.{both_passed, none_passed, over_counts, over_grows, over_noted}
 
 behind : (e : Instance) (es : List Instance) (x : Instance) → Contains es x → Contains (e ∷ es) x
 behind e es x (k, l, h) = (suc k, omega (arith, l), h)
@@ -60,13 +61,12 @@ all_fresh a b e es h there fresh x c = fresh_alike a.problem b.problem e x es (h
 pub all_stale : (a : Ledger) (w v : Watched) (b : Ledger) (e : Instance) (es : List Instance) (p : Part) → IsGoing a w b → AreAlike b es → Contains es e → (IsFresh a.problem b.problem e → ⊥) → v ≡ record { marks = left_over w.marks e p; forms = w.forms } → Contains (heads e) p
     → IsPassed a es w b v b
 all_stale a w v b e es p going h there stale is own = subst (λ (x : Watched). IsPassed a es w b x b) (sym is) (record {
-  passed = row_stale (open_on a.tally) a.problem w.marks (left_over w.marks e p) b e es p going.follows stale (h.alike e there) (over_grows (goes_by_form (reach_of (rule_at e))) w.marks p) own noted;
+  passed = row_stale (open_on a.tally) a.problem w.marks (left_over w.marks e p) b e es p going.follows stale (h.alike e there) (over_grows (reach_of (rule_at e)) w.marks p) own noted;
   forms = going.forms;
 })
   where
     noted : Contains (left_over w.marks e p).noted p
-    noted = let by_value : goes_by_form (reach_of (rule_at e)) ≡ false = (h.alike e there).by_value e there in
-        subst (λ (s : Bool). Contains (left_by_form s w.marks p).noted p) (sym by_value) (over_counts false w.marks p)
+    noted = subst (λ (ps : List Part). Contains ps p) (noted_count (left_over w.marks e p) (reach_of (rule_at e)) ((h.alike e there).by_value e there)) (over_counts (reach_of (rule_at e)) w.marks p)
 
 -- ---- what becomes of the others where one is met
 not_applied : (b c : Ledger) (w : ℕ) (e : Instance) (o : Outcome) → c ≡ left_by b (proposal_of b.problem w e) o → is_applied o ≡ false → c ≡ b
@@ -81,7 +81,7 @@ not_applied b c w e NoMemory left n = left
 module _ (opens : Open) (f : Sparse) (w : ℕ) (n k : Marks) (b c : Ledger) (p : Part) (es : List Instance) (h : Follows opens f b) (noted : AreNoted b.problem c.problem n.noted k.noted) where
   stopped_at : (e : Instance) (place : ℕ) → IsFresh f b.problem e → enabled_on b.problem e ≡ true → shares_reading (rule_at e) ≡ true → Allows b (proposal_of b.problem w e) (Applied place) → c ≡ left_by b (proposal_of b.problem w e) (Applied place) → ReadAlike e es
       → Passed opens f es (left_over k e p) c (left_over k e p) c
-  stopped_at (at.Reduction r) place fresh on shares ok left alike = row_stopped opens f n (left_over k (at.Reduction r) p) b c r es h fresh on shares ok.0.room left (over_noted b.problem c.problem n.noted (goes_by_form (reach_of (rule_at (at.Reduction r)))) k p noted) alike
+  stopped_at (at.Reduction r) place fresh on shares ok left alike = row_stopped opens f n (left_over k (at.Reduction r) p) b c r es h fresh on shares ok.0.room left (over_noted b.problem c.problem n.noted (reach_of (rule_at (at.Reduction r))) k p noted) alike
   stopped_at (at.Verdict v) place fresh on shares ok left alike = absurd (verdicts_share_none v shares)
 
   stopped : (e : Instance) (o : Outcome) → IsFresh f b.problem e → enabled_on b.problem e ≡ true → Allows b (proposal_of b.problem w e) o → c ≡ left_by b (proposal_of b.problem w e) o → is_applied o ≡ true → shares_reading (rule_at e) ≡ true → ReadAlike e es

@@ -68,7 +68,7 @@ fn skipped(
     ensures { IfOk result (λ skipped. skipped ≡ skipped_on (open_on tally.now) problem.now) }
 {
     problem.is_sparse();
-    let ids = Around::of_parts(alloc, problem, parts, parts)?;
+    let ids = Around::of_parts(alloc, problem, parts, parts, parts)?;
     let found = enabled_of(alloc, problem, tally, &ids, &reduction_rules())?;
     Ok(count(found.as_slice()))
 }

@@ -1,6 +1,5 @@
 -- What is enabled reads a part that is noted, or comes to its turn.
-use Rattle.std.specs.Prelude.{if◌then◌else◌}
-use Rattle.std.proofs.Common.{◌≡◌, ◌⊎◌, inl, inr, suc, ◌<◌, Bool, true, false, true≢false, ap, List, [], ◌∷◌, ◌++◌, length, map, None, sym, refl, ap₂, ◌∙◌, subst, append_assoc, arith}
+use Rattle.std.proofs.Common.{◌≡◌, ◌⊎◌, inl, inr, suc, ◌<◌, Bool, true, false, true≢false, List, [], ◌∷◌, ◌++◌, length, map, None, sym, refl, ap₂, ◌∙◌, subst, append_assoc, arith}
 use Rattle.std.specs.List.{Contains}
 use Rattle.fractions.specs.declared.Numbers.{Numbers}
 use Rattle.problem_model.specs.declared.part.Part.{Part}
@@ -15,10 +14,12 @@ use Rattle.presolve_model.specs.Ledger.{Ledger}
 use Rattle.presolve_model.specs.Ordered.{Committed}
 use Rattle.presolve_model.proofs.Readings.{enabled_same, parts_same, reading_same}
 use Rattle.place_laws.specs.Choosing.{proposals}
-use Rattle.place_laws.specs.Marks.{AreStirred, Grows, IsMarked, IsNoted, Marks, parts_for, RestsOnReading}
-use Rattle.dual_laws.specs.Forms.{Seen, seen_at}
+use Rattle.place_laws.specs.Marks.{AreStirred, Grows, LetsNoMore, IsMarked, IsNoted, Marks, parts_for, RestsOnReading}
+use Rattle.dual_laws.specs.declared.form.Form.{Form}
+use Rattle.dual_laws.specs.Forms.{EachLets, Lets, LetsByCost, LetsInPairs, seen_at}
+use Rattle.presolve_model.specs.declared.instance.Reach.TheVariants.{OwnRow, OwnColumn, RowsOfBounds, ColumnsOfSides, RowsOfBoth}
 use Rattle.presolve_model.specs.declared.instance.Reach.{Reach}
-use Rattle.presolve_model.specs.Instances.{goes_by_form, is_open, reach_of, rule_at}
+use Rattle.presolve_model.specs.Instances.{goes_by_form, is_open, lets_by, reach_of, rule_at}
 use Rattle.presolve_model.specs.Tallies.{Open, open_on}
 use Rattle.presolve_model.proofs.Forms.{enabled_by_form, parts_by_form}
 use Rattle.round_laws.specs.Passing.{Follows, IsTracked, Passed, Tracks}
@@ -66,51 +67,63 @@ parts_kept p q n m h (a ∷ ps) = by (h.changed a) (parts_kept p q n m h ps)
     by (inl e) (inl x) = inl (behind a ps m x)
     by (inl e) (inr g) = inr (ap₂ (λ (x : Read) (xs : List Read). x ∷ xs) (sym e) g)
 
-parts_seen : (p q : Sparse) (n m : List Part) → AreStirred p q n m → (ps : List Part) → ReadsNoted m ps ⊎ (map (seen_at p) ps ≡ map (seen_at q) ps)
-parts_seen p q n m h [] = inr refl
-parts_seen p q n m h (a ∷ ps) = by (h.changed a) (parts_seen p q n m h ps)
+parts_seen : (R : Form → Form → Type 0) (p q : Sparse) (n m : List Part) → LetsNoMore R p q n m → (ps : List Part) → ReadsNoted m ps ⊎ EachLets R (map (seen_at q) ps) (map (seen_at p) ps)
+parts_seen R p q n m h [] = inr tt
+parts_seen R p q n m h (a ∷ ps) = by (h.changed a) (parts_seen R p q n m h ps)
   where
-    by : (seen_at q a ≡ seen_at p a) ⊎ Contains m a → ReadsNoted m ps ⊎ (map (seen_at p) ps ≡ map (seen_at q) ps) → ReadsNoted m (a ∷ ps) ⊎ (map (seen_at p) (a ∷ ps) ≡ map (seen_at q) (a ∷ ps))
+    by : Lets R (seen_at q a) (seen_at p a) ⊎ Contains m a → ReadsNoted m ps ⊎ EachLets R (map (seen_at q) ps) (map (seen_at p) ps) → ReadsNoted m (a ∷ ps) ⊎ EachLets R (map (seen_at q) (a ∷ ps)) (map (seen_at p) (a ∷ ps))
     by (inr c) k = inl (a, (0, omega arith, refl), c)
     by (inl e) (inl x) = inl (behind a ps m x)
-    by (inl e) (inr g) = inr (ap₂ (λ (x : Seen) (xs : List Seen). x ∷ xs) (sym e) g)
+    by (inl e) (inr g) = inr (e, g)
 
--- the parts that count for a rule, by whether it goes by form
-stirred_count : (m : Marks) (r : Reach) → goes_by_form r ≡ true → parts_for m r ≡ m.stirred
-stirred_count m r t = ap (λ (s : Bool). if s then m.stirred else m.noted) t
+-- for a rule that goes by forms
+parts_let : (p q : Sparse) (n m : Marks) → AreStirred p q n m → (r : Reach) → goes_by_form r ≡ true → (ps : List Part) → ReadsNoted (parts_for m r) ps ⊎ EachLets (lets_by r) (map (seen_at q) ps) (map (seen_at p) ps)
+parts_let p q n m s OwnRow t ps = absurd (true≢false (sym t))
+parts_let p q n m s OwnColumn t ps = absurd (true≢false (sym t))
+parts_let p q n m s RowsOfBounds t ps = absurd (true≢false (sym t))
+parts_let p q n m s ColumnsOfSides t ps = parts_seen LetsByCost p q n.stirred m.stirred s.stirred ps
+parts_let p q n m s RowsOfBoth t ps = parts_seen LetsInPairs p q n.roused m.roused s.roused ps
 
+-- the parts that count for a rule that does not
 pub noted_count : (m : Marks) (r : Reach) → goes_by_form r ≡ false → parts_for m r ≡ m.noted
-noted_count m r t = ap (λ (s : Bool). if s then m.stirred else m.noted) t
+noted_count m OwnRow t = refl
+noted_count m OwnColumn t = refl
+noted_count m RowsOfBounds t = refl
+noted_count m ColumnsOfSides t = absurd (true≢false t)
+noted_count m RowsOfBoth t = absurd (true≢false t)
 
-module _ (n m : Marks) (es : List Instance) (b c : Ledger) (h : AreNoted b.problem c.problem n.noted m.noted) (s : AreStirred b.problem c.problem n.stirred m.stirred) (alike : c.numbers ≡ b.numbers)
+-- parts that count go on to
+counts_still : (n m : Marks) → Grows n m → (r : Reach) (a : Part) → Contains (parts_for n r) a → Contains (parts_for m r) a
+counts_still n m h OwnRow a c = h.noted a c
+counts_still n m h OwnColumn a c = h.noted a c
+counts_still n m h RowsOfBounds a c = h.noted a c
+counts_still n m h ColumnsOfSides a c = h.stirred a c
+counts_still n m h RowsOfBoth a c = h.roused a c
+
+module _ (n m : Marks) (es : List Instance) (b c : Ledger) (h : AreNoted b.problem c.problem n.noted m.noted) (s : AreStirred b.problem c.problem n m) (alike : c.numbers ≡ b.numbers)
     (sleeps : (a : Part) → Contains n.asleep a → Contains m.asleep a) (before : (e : Instance) → is_open (open_on c.tally) e ≡ true → is_open (open_on b.tally) e ≡ true) where
-  -- an instance that reads what it read
-  module _ (x : Instance) (by_ends : goes_by_form (reach_of (rule_at x)) ≡ false) (same : map (read_of b.problem) (reads c.problem x) ≡ map (read_of c.problem) (reads c.problem x)) where
-    still_reads : (a : Part) → Contains (reads b.problem x) a → Contains (reads c.problem x) a
-    still_reads a r = subst (λ (ps : List Part). Contains ps a) (parts_same c.problem b.problem x same) r
+  grows : Grows n m
+  grows = record { noted = h.kept; stirred = s.stirred.kept; roused = s.roused.kept; asleep = sleeps }
 
+  -- an instance that reads the same parts and was marked still is
+  still_noted : (x : Instance) → reads b.problem x ≡ reads c.problem x → IsNoted b.problem (parts_for n (reach_of (rule_at x))) x → IsNoted c.problem (parts_for m (reach_of (rule_at x))) x
+  still_noted x same (a, r, k) = (a, subst (λ (ps : List Part). Contains ps a) same r, counts_still n m grows (reach_of (rule_at x)) a k)
+
+  -- an instance that reads what it read
+  module _ (x : Instance) (same : map (read_of b.problem) (reads c.problem x) ≡ map (read_of c.problem) (reads c.problem x)) where
     still_rests : RestsOnReading b.numbers b.problem x → RestsOnReading c.numbers c.problem x
     still_rests rests = subst (λ (k : Numbers). RestsOnReading k c.problem x) (sym alike) (λ q g. rests q (g ∙ sym (reading_same c.problem b.problem x same)))
 
-    still_noted : IsNoted b.problem (parts_for n (reach_of (rule_at x))) x → IsNoted c.problem (parts_for m (reach_of (rule_at x))) x
-    still_noted (a, r, k) = (a, still_reads a r, subst (λ (ps : List Part). Contains ps a) (sym (noted_count m (reach_of (rule_at x)) by_ends)) (h.kept a (subst (λ (ps : List Part). Contains ps a) (noted_count n (reach_of (rule_at x)) by_ends) k)))
-
     stays : IsTracked n es b x → IsTracked m es c x
-    stays (inl (inl k)) = inl (inl (still_noted k))
-    stays (inl (inr k)) = let told = k.told in inl (inr (record { told = (told.0, still_reads told.0 told.1, sleeps told.0 told.2); rests = still_rests k.rests; by_ends = k.by_ends }))
+    stays (inl (inl k)) = inl (inl (still_noted x (parts_same c.problem b.problem x same) k))
+    stays (inl (inr k)) = let told = k.told in
+        inl (inr (record { told = (told.0, subst (λ (ps : List Part). Contains ps told.0) (parts_same c.problem b.problem x same) told.1, sleeps told.0 told.2); rests = still_rests k.rests; by_ends = k.by_ends }))
     stays (inr among) = inr among
 
-  -- one of whose parts the same is seen
-  module _ (x : Instance) (by_form : goes_by_form (reach_of (rule_at x)) ≡ true) (same : map (seen_at b.problem) (reads c.problem x) ≡ map (seen_at c.problem) (reads c.problem x)) where
-    still_sees : IsNoted b.problem (parts_for n (reach_of (rule_at x))) x → IsNoted c.problem (parts_for m (reach_of (rule_at x))) x
-    still_sees (a, r, k) = (
-      a,
-      subst (λ (ps : List Part). Contains ps a) (parts_by_form c.problem b.problem x by_form same) r,
-      subst (λ (ps : List Part). Contains ps a) (sym (stirred_count m (reach_of (rule_at x)) by_form)) (s.kept a (subst (λ (ps : List Part). Contains ps a) (stirred_count n (reach_of (rule_at x)) by_form) k)),
-    )
-
+  -- one of whose parts each lets what it let
+  module _ (x : Instance) (by_form : goes_by_form (reach_of (rule_at x)) ≡ true) (lets : EachLets (lets_by (reach_of (rule_at x))) (map (seen_at c.problem) (reads c.problem x)) (map (seen_at b.problem) (reads c.problem x))) where
     stays_seen : IsTracked n es b x → IsTracked m es c x
-    stays_seen (inl (inl k)) = inl (inl (still_sees k))
+    stays_seen (inl (inl k)) = inl (inl (still_noted x (parts_by_form c.problem b.problem x by_form lets) k))
     stays_seen (inl (inr k)) = absurd (true≢false (sym by_form ∙ k.by_ends))
     stays_seen (inr among) = inr among
 
@@ -119,23 +132,20 @@ module _ (n m : Marks) (es : List Instance) (b c : Ledger) (h : AreNoted b.probl
     where
       by_reading : goes_by_form (reach_of (rule_at x)) ≡ false → ReadsNoted m.noted (reads c.problem x) ⊎ (map (read_of b.problem) (reads c.problem x) ≡ map (read_of c.problem) (reads c.problem x)) → IsTracked m es c x
       by_reading e (inl (a, r, k)) = inl (inl (a, r, subst (λ (ps : List Part). Contains ps a) (sym (noted_count m (reach_of (rule_at x)) e)) k))
-      by_reading e (inr same) = stays x e same (t none room x (enabled_same c.problem b.problem x same ∙ on) (before x free))
+      by_reading e (inr same) = stays x same (t none room x (enabled_same c.problem b.problem x same ∙ on) (before x free))
 
-      by_seeing : goes_by_form (reach_of (rule_at x)) ≡ true → ReadsNoted m.stirred (reads c.problem x) ⊎ (map (seen_at b.problem) (reads c.problem x) ≡ map (seen_at c.problem) (reads c.problem x)) → IsTracked m es c x
-      by_seeing e (inl (a, r, k)) = inl (inl (a, r, subst (λ (ps : List Part). Contains ps a) (sym (stirred_count m (reach_of (rule_at x)) e)) k))
-      by_seeing e (inr same) = stays_seen x e same (t none room x (enabled_by_form c.problem b.problem x e same ∙ on) (before x free))
+      by_seeing : goes_by_form (reach_of (rule_at x)) ≡ true
+          → ReadsNoted (parts_for m (reach_of (rule_at x))) (reads c.problem x) ⊎ EachLets (lets_by (reach_of (rule_at x))) (map (seen_at c.problem) (reads c.problem x)) (map (seen_at b.problem) (reads c.problem x)) → IsTracked m es c x
+      by_seeing e (inl (a, r, k)) = inl (inl (a, r, k))
+      by_seeing e (inr lets) = stays_seen x e lets (t none room x (enabled_by_form c.problem b.problem x e lets on) (before x free))
 
       by : (f : Bool) → goes_by_form (reach_of (rule_at x)) ≡ f → IsTracked m es c x
-      by true e = by_seeing e (parts_seen b.problem c.problem n.stirred m.stirred s (reads c.problem x))
+      by true e = by_seeing e (parts_let b.problem c.problem n m s (reach_of (rule_at x)) e (reads c.problem x))
       by false e = by_reading e (parts_kept b.problem c.problem n.noted m.noted h (reads c.problem x))
 
 -- more is marked
 pub marked_more : (numbers : Numbers) (p : Sparse) (n m : Marks) (e : Instance) → Grows n m → IsMarked numbers p n e → IsMarked numbers p m e
-marked_more numbers p n m e h (inl (a, r, k)) = inl (a, r, by (goes_by_form (reach_of (rule_at e))) k)
-  where
-    by : (s : Bool) → Contains (if s then n.stirred else n.noted) a → Contains (if s then m.stirred else m.noted) a
-    by true x = h.stirred a x
-    by false x = h.noted a x
+marked_more numbers p n m e h (inl (a, r, k)) = inl (a, r, counts_still n m h (reach_of (rule_at e)) a k)
 marked_more numbers p n m e h (inr k) = let told = k.told in inr (record { told = (told.0, told.1, h.asleep told.0 told.2); rests = k.rests; by_ends = k.by_ends })
 
 pub tracks_more : (n m : Marks) (es : List Instance) (b : Ledger) → Grows n m → Tracks n es b → Tracks m es b
@@ -146,7 +156,7 @@ tracks_more n m es b h t none room x on free = by (t none room x on free)
     by (inr k) = inr k
 
 pub grows_none : (n : Marks) → Grows n n
-grows_none n = record { noted = λ a x. x; stirred = λ a x. x; asleep = λ a x. x }
+grows_none n = record { noted = λ a x. x; stirred = λ a x. x; roused = λ a x. x; asleep = λ a x. x }
 
 -- ---- one pass after another
 pub passed_on : (opens : Open) (f : Sparse) (es fs : List Instance) (n m k : Marks) (b c d : Ledger) → Passed opens f es n b m c → Passed opens f fs m c k d → Passed opens f (es ++ fs) n b k d
@@ -157,7 +167,7 @@ passed_on opens f es fs n m k b c d x y = record {
   follows = y.follows;
   tracks = λ rest t. y.tracks rest (x.tracks (fs ++ rest) (subst (λ (gs : List Instance). Tracks n gs b) (append_assoc es fs rest) t));
   moved = λ a. both_moved a (x.moved a) (y.moved a);
-  grows = record { noted = λ a h. y.grows.noted a (x.grows.noted a h); stirred = λ a h. y.grows.stirred a (x.grows.stirred a h); asleep = λ a h. y.grows.asleep a (x.grows.asleep a h) };
+  grows = record { noted = λ a h. y.grows.noted a (x.grows.noted a h); stirred = λ a h. y.grows.stirred a (x.grows.stirred a h); roused = λ a h. y.grows.roused a (x.grows.roused a h); asleep = λ a h. y.grows.asleep a (x.grows.asleep a h) };
 }
   where
     both_moved : (a : Part) → (changes_of c.problem a ≡ changes_of b.problem a) ⊎ Contains m.noted a → (changes_of d.problem a ≡ changes_of c.problem a) ⊎ Contains k.noted a

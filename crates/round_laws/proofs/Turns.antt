@@ -168,7 +168,7 @@ module _ (opens : Open) (f : Sparse) (n m : Marks) (b : Ledger) (h : Follows ope
   }
 
   -- a reduction is applied
-  met_applied : (r : Reduction) → enabled_on b.problem (at.Reduction r) ≡ true → b.verdict ≡ None → length b.history < b.limit → AreNoted b.problem (changed r b.problem) n.noted m.noted → AreStirred b.problem (changed r b.problem) n.stirred m.stirred
+  met_applied : (r : Reduction) → enabled_on b.problem (at.Reduction r) ≡ true → b.verdict ≡ None → length b.history < b.limit → AreNoted b.problem (changed r b.problem) n.noted m.noted → AreStirred b.problem (changed r b.problem) n m
       → IsNoted (changed r b.problem) (parts_for m (reach_of (rule_at (at.Reduction r)))) (at.Reduction r)
       → ((v : ℕ) → Committed b (proposals f v (at.Reduction r ∷ [])) (with_instance b (at.Reduction r))) → Passed opens f (at.Reduction r ∷ []) n b m (with_instance b (at.Reduction r))
   met_applied r on none room noted stirred own k = record {
@@ -207,7 +207,7 @@ module _ (opens : Open) (f : Sparse) (w : ℕ) (n m : Marks) (b : Ledger) (h : F
   count = parts_for m (reach_of (rule_at e))
 
   met_by : (o : Outcome) → o ≢ NoMemory → Allows b (proposal_of b.problem w e) o → AreNoted b.problem (left_by b (proposal_of b.problem w e) o).problem n.noted m.noted
-      → AreStirred b.problem (left_by b (proposal_of b.problem w e) o).problem n.stirred m.stirred → Grows n m → (a : Part) → Contains (heads e) a → Contains count a → Passed opens f (e ∷ []) n b m (left_by b (proposal_of b.problem w e) o)
+      → AreStirred b.problem (left_by b (proposal_of b.problem w e) o).problem n m → Grows n m → (a : Part) → Contains (heads e) a → Contains count a → Passed opens f (e ∷ []) n b m (left_by b (proposal_of b.problem w e) o)
   met_by (Closed x) mem ok noted stirred kept a own c = met_still opens f n m b h kept e (inl (noted_head b.problem count e a own c)) (λ v. passed_at f b v w e (Closed x) fresh on mem ok)
   met_by Full mem ok noted stirred kept a own c = met_still opens f n m b h kept e (inl (noted_head b.problem count e a own c)) (λ v. passed_at f b v w e Full fresh on mem ok)
   met_by (Stale k) mem ok noted stirred kept a own c = met_still opens f n m b h kept e (inl (noted_head b.problem count e a own c)) (λ v. passed_at f b v w e (Stale k) fresh on mem ok)
@@ -216,7 +216,7 @@ module _ (opens : Open) (f : Sparse) (w : ℕ) (n m : Marks) (b : Ledger) (h : F
   met_by (Applied k) mem ok noted stirred kept a own c = by e fresh on ok noted stirred own c
     where
       by : (e : Instance) → IsFresh f b.problem e → enabled_on b.problem e ≡ true → Allows b (proposal_of b.problem w e) (Applied k) → AreNoted b.problem (with_instance b e).problem n.noted m.noted
-          → AreStirred b.problem (with_instance b e).problem n.stirred m.stirred → Contains (heads e) a → Contains (parts_for m (reach_of (rule_at e))) a → Passed opens f (e ∷ []) n b m (with_instance b e)
+          → AreStirred b.problem (with_instance b e).problem n m → Contains (heads e) a → Contains (parts_for m (reach_of (rule_at e))) a → Passed opens f (e ∷ []) n b m (with_instance b e)
       by (at.Reduction r) fresh on ok noted stirred own c = met_applied opens f n m b h kept r on ok.0.undecided ok.0.room noted stirred (noted_head (changed r b.problem) (parts_for m (reach_of (rule_at (at.Reduction r)))) (at.Reduction r) a own c)
           (λ v. passed_at f b v w (at.Reduction r) (Applied k) fresh on mem ok)
       by (at.Verdict x) fresh on ok noted stirred own c = met_verdict opens f n m b h kept x (λ v. passed_at f b v w (at.Verdict x) (Applied k) fresh on mem ok)
@@ -236,12 +236,12 @@ module _ (opens : Open) (f : Sparse) (w : ℕ) (n m : Marks) (b : Ledger) (h : F
   asleep_by NoMemory refused rests ok kept a own c = absurd (true≢false (sym refused))
 
 pub met : (opens : Open) (f : Sparse) (w : ℕ) (n m : Marks) (b c : Ledger) (e : Instance) (o : Outcome) (a : Part) → Follows opens f b → IsFresh f b.problem e → enabled_on b.problem e ≡ true → o ≢ NoMemory → Allows b (proposal_of b.problem w e) o
-    → c ≡ left_by b (proposal_of b.problem w e) o → AreNoted b.problem c.problem n.noted m.noted → AreStirred b.problem c.problem n.stirred m.stirred → ((x : Part) → Contains n.asleep x → Contains m.asleep x)
+    → c ≡ left_by b (proposal_of b.problem w e) o → AreNoted b.problem c.problem n.noted m.noted → AreStirred b.problem c.problem n m → ((x : Part) → Contains n.asleep x → Contains m.asleep x)
     → Contains (heads e) a → Contains (parts_for m (reach_of (rule_at e))) a → Passed opens f (e ∷ []) n b m c
 met opens f w n m b c e o a h fresh on mem ok left noted stirred sleeps own there =
     subst (λ (x : Ledger). Passed opens f (e ∷ []) n b m x) (sym left)
-    (met_by opens f w n m b h e fresh on o mem ok (subst (λ (x : Ledger). AreNoted b.problem x.problem n.noted m.noted) left noted) (subst (λ (x : Ledger). AreStirred b.problem x.problem n.stirred m.stirred) left stirred)
-    (record { noted = noted.kept; stirred = stirred.kept; asleep = sleeps }) a own there)
+    (met_by opens f w n m b h e fresh on o mem ok (subst (λ (x : Ledger). AreNoted b.problem x.problem n.noted m.noted) left noted) (subst (λ (x : Ledger). AreStirred b.problem x.problem n m) left stirred)
+    (record { noted = noted.kept; stirred = stirred.stirred.kept; roused = stirred.roused.kept; asleep = sleeps }) a own there)
 
 pub met_asleep : (opens : Open) (f : Sparse) (w : ℕ) (n m : Marks) (b c : Ledger) (e : Instance) (o : Outcome) (a : Part) → Follows opens f b → IsFresh f b.problem e → enabled_on b.problem e ≡ true → is_refusal o ≡ true → rests_on_reading (rule_at e) ≡ true
     → Allows b (proposal_of b.problem w e) o → c ≡ left_by b (proposal_of b.problem w e) o → Grows n m → Contains (heads e) a → Contains m.asleep a → Passed opens f (e ∷ []) n b m c

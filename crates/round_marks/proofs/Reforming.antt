@@ -1,5 +1,5 @@
 -- Forms of a problem, and forms that are put right where something has changed.
-use Rattle.std.proofs.Common.{◌≡◌, ◌≢◌, ◌⊎◌, inl, inr, ℕ, zero, suc, ◌+◌, ◌<◌, ◌≤◌, Bool, true, false, List, [], ◌∷◌, length, map, slice_set, ◌&&◌, refl, sym, ap, ap₂, ◌∙◌, subst, arith, true≢false}
+use Rattle.std.proofs.Common.{◌≡◌, ◌≢◌, ◌⊎◌, inl, inr, ℕ, zero, suc, ◌+◌, ◌<◌, ◌≤◌, Bool, true, false, List, [], ◌∷◌, length, map, slice_set, ◌&&◌, refl, sym, ap, ◌∙◌, subst, arith, true≢false}
 use Rattle.std.specs.Prelude.{if◌then◌else◌, slice_index_or}
 use Rattle.std.specs.List.{Contains, range_with_len}
 use Rattle.std.proofs.lemmas.Bool.{and_parts, cases_eq, cases_lt}
@@ -10,7 +10,6 @@ use Rattle.problem_model.specs.declared.line.Line.{Line}
 use Rattle.problem_model.specs.declared.part.Part.{Part}
 use Rattle.problem_model.specs.declared.part.Part.TheVariants as part
 use Rattle.problem_model.specs.declared.part.Contents.TheVariants as holding
-use Rattle.problem_model.specs.declared.part.Contents.{Contents}
 use Rattle.problem_model.specs.declared.part.Read.{Read}
 use Rattle.problem_model.specs.Matrices.{no_line}
 use Rattle.problem_model.specs.Noted.{AreNoted}
@@ -21,9 +20,9 @@ use Rattle.problem_model.specs.Sparse.{Sparse}
 use Rattle.edit_laws.specs.Sizes.{SameSize}
 use Rattle.dual_laws.specs.declared.form.Form.{Form}
 use Rattle.dual_laws.specs.declared.form.Form.TheVariants.{NoEnds, Sides, Bounds}
-use Rattle.dual_laws.specs.Forms.{form_of, line_of, Seen, seen_at}
-use Rattle.place_laws.specs.Marks.{AreStirred}
-use Rattle.round_marks.specs.Forming.{AreFormsOf, form_at, form_on, form_put, Formed, forms_of, keeps, reformed, same_flag, same_form, Stirs, StirsOne}
+use Rattle.dual_laws.specs.Forms.{form_of, Gives, Lets, LetsByCost, LetsInPairs, line_of, Seen, seen_at}
+use Rattle.place_laws.specs.Marks.{LetsNoMore}
+use Rattle.round_marks.specs.Forming.{AreFormsOf, form_at, form_on, form_put, Formed, forms_of, FormTest, gives, keeps, lets_by_cost, lets_in_pairs, reformed, same_flag, Stirs, StirsOne}
 
 -- ---- the forms of a problem
 -- a part past the lines has no ends
@@ -153,13 +152,13 @@ module _ (p q : Sparse) (f : Formed) (ps : List Part) (h : AreFormsOf f p) (size
       known a (inr c) = inl c
 
 -- ---- what is stirred
-stirred_more : (q : Sparse) (f : Formed) (a : Part) (n m : List Part) → StirsOne f q a n m → (x : Part) → Contains n x → Contains m x
-stirred_more q f a n m (inl (k, e)) x c = subst (λ (xs : List Part). Contains xs x) (sym e) c
-stirred_more q f a n m (inr (k, e)) x c = subst (λ (xs : List Part). Contains xs x) (sym e) (Contains-append_left n (a ∷ []) x c)
+stirred_more : (test : FormTest) (q : Sparse) (f : Formed) (a : Part) (n m : List Part) → StirsOne test f q a n m → (x : Part) → Contains n x → Contains m x
+stirred_more test q f a n m (inl (k, e)) x c = subst (λ (xs : List Part). Contains xs x) (sym e) c
+stirred_more test q f a n m (inr (k, e)) x c = subst (λ (xs : List Part). Contains xs x) (sym e) (Contains-append_left n (a ∷ []) x c)
 
-pub all_stirred_more : (q : Sparse) (f : Formed) (ps n m : List Part) → Stirs f q ps n m → (x : Part) → Contains n x → Contains m x
-all_stirred_more q f [] n m e x c = subst (λ (xs : List Part). Contains xs x) (sym e) c
-all_stirred_more q f (a ∷ ps) n m (k, one, rest) x c = all_stirred_more q (form_put f a (form_on q a)) ps k m rest x (stirred_more q f a n k one x c)
+pub all_stirred_more : (test : FormTest) (q : Sparse) (f : Formed) (ps n m : List Part) → Stirs test f q ps n m → (x : Part) → Contains n x → Contains m x
+all_stirred_more test q f [] n m e x c = subst (λ (xs : List Part). Contains xs x) (sym e) c
+all_stirred_more test q f (a ∷ ps) n m (k, one, rest) x c = all_stirred_more test q (form_put f a (form_on q a)) ps k m rest x (stirred_more test q f a n k one x c)
 
 -- the lines of sides and bounds are none
 sides_line : (p : Sparse) (i : ℕ) → line_of (contents_of p (part.Sides i)) ≡ holding.Gone
@@ -176,76 +175,101 @@ bounds_line p j = by (column_at p j).live
     by true = refl
     by false = refl
 
--- forms that are found to be the same are
+-- ---- what the tests say
+given : (a b : Bool) → gives a b ≡ true → Gives a b
+given true b h e = h
+given false b h e = absurd (true≢false (sym e))
+
 flags_are : (a b : Bool) → same_flag a b ≡ true → a ≡ b
 flags_are true true h = refl
 flags_are true false h = sym h
 flags_are false false h = refl
 flags_are false true h = h
 
-forms_are : (x y : Form) → same_form x y ≡ true → x ≡ y
-forms_are NoEnds NoEnds h = refl
-forms_are (Sides a b c) (Sides d e f) h =
-    let u = and_parts (same_flag a d) (same_flag b e && same_flag c f) h in
-    let v = and_parts (same_flag b e) (same_flag c f) u.1 in
-    λ t. Sides (flags_are a d u.0 t) (flags_are b e v.0 t) (flags_are c f v.1 t)
-forms_are (Bounds a b c d e f g) (Bounds h i j k l m n) s =
-    let p = and_parts (same_flag a h) _ s in
-    let q = and_parts (same_flag b i) _ p.1 in
-    let r = and_parts (same_flag c j) _ q.1 in
-    let u = and_parts (same_flag d k) _ r.1 in
-    let v = and_parts (same_flag e l) _ u.1 in
-    let w = and_parts (same_flag f m) (same_flag g n) v.1 in
-    λ t. Bounds (flags_are a h p.0 t) (flags_are b i q.0 t) (flags_are c j r.0 t) (flags_are d k u.0 t) (flags_are e l v.0 t) (flags_are f m w.0 t) (flags_are g n w.1 t)
-forms_are x y h = absurd (true≢false (sym h))
+three_given : (a b c d e f : Bool) → gives a d && (gives b e && gives c f) ≡ true → Gives a d × Gives b e × Gives c f
+three_given a b c d e f h = let u = and_parts (gives a d) (gives b e && gives c f) h in let v = and_parts (gives b e) (gives c f) u.1 in (given a d u.0, given b e v.0, given c f v.1)
 
--- what keeps its form is seen as it was
-kept_seen : (p q : Sparse) (f : Formed) (a : Part) → keeps f q a ≡ true → form_at f a ≡ form_on p a → seen_at q a ≡ seen_at p a
-kept_seen p q f (part.Row i) k e = absurd (true≢false (sym k))
-kept_seen p q f (part.Sides i) k e = ap₂ (λ (c : Contents) (x : Form). let s : Seen = (c, x) in s) (sides_line q i ∙ sym (sides_line p i)) (sym (forms_are (form_at f (part.Sides i)) (form_on q (part.Sides i)) k) ∙ e)
-kept_seen p q f (part.Col j) k e = absurd (true≢false (sym k))
-kept_seen p q f (part.Bounds j) k e = ap₂ (λ (c : Contents) (x : Form). let s : Seen = (c, x) in s) (bounds_line q j ∙ sym (bounds_line p j)) (sym (forms_are (form_at f (part.Bounds j)) (form_on q (part.Bounds j)) k) ∙ e)
+pub cost_sound : (f g : Form) → lets_by_cost f g ≡ true → LetsByCost f g
+cost_sound NoEnds NoEnds h = tt
+cost_sound (Sides a b c) (Sides d e f) h = three_given a b c d e f h
+cost_sound (Bounds a b c d e f g) (Bounds h i j k l m n) s =
+    let p = and_parts (gives a h) _ s in
+    let q = and_parts (gives b i) _ p.1 in
+    let r = and_parts (gives c j) _ q.1 in
+    let t = three_given d e f k l m r.1 in
+    (given a h p.0, given b i q.0, given c j r.0, t.0, t.1, t.2)
+cost_sound f g h = absurd (true≢false (sym h))
 
-module _ (p q : Sparse) where
-  abbrev IsTold : List Part → Part → Type 0
-  IsTold n a = (seen_at q a ≡ seen_at p a) ⊎ Contains n a
+pub cost_refl : (f : Form) → LetsByCost f f
+cost_refl NoEnds = tt
+cost_refl (Sides a b c) = (λ h. h, λ h. h, λ h. h)
+cost_refl (Bounds a b c d e f g) = (λ h. h, λ h. h, λ h. h, λ h. h, λ h. h, λ h. h)
 
-  -- the form of a part is that of p, or it is put right, and the part told
-  abbrev AreKnown : Formed → List Part → Type 0
-  AreKnown f n = (a : Part) → (form_at f a ≡ form_on p a) ⊎ ((form_at f a ≡ form_on q a) × IsTold n a)
+pub pairs_sound : (f g : Form) → lets_in_pairs f g ≡ true → LetsInPairs f g
+pairs_sound NoEnds NoEnds h = tt
+pairs_sound (Sides a b c) (Sides d e f) h = three_given a b c d e f h
+pairs_sound (Bounds a b c d e f g) (Bounds h i j k l m n) s =
+    let p = and_parts (gives b i) _ s in
+    let q = and_parts (gives d k) _ p.1 in
+    let r = and_parts (gives e l) (same_flag g n) q.1 in
+    (given b i p.0, given d k q.0, given e l r.0, flags_are g n r.1)
+pairs_sound f g h = absurd (true≢false (sym h))
 
-  told_more : (n m : List Part) → ((x : Part) → Contains n x → Contains m x) → (a : Part) → IsTold n a → IsTold m a
-  told_more n m h a (inl e) = inl e
-  told_more n m h a (inr c) = inr (h a c)
+pub pairs_refl : (f : Form) → LetsInPairs f f
+pairs_refl NoEnds = tt
+pairs_refl (Sides a b c) = (λ h. h, λ h. h, λ h. h)
+pairs_refl (Bounds a b c d e f g) = (λ h. h, λ h. h, λ h. h, refl)
 
-  module _ (f : Formed) (b : Part) (n k : List Part) (long : IsAsLong f q) (one : StirsOne f q b n k) (known : AreKnown f n) where
-    told_here : IsTold k b
-    told_here = by one (known b)
-      where
-        by : StirsOne f q b n k → (form_at f b ≡ form_on p b) ⊎ ((form_at f b ≡ form_on q b) × IsTold n b) → IsTold k b
-        by (inr (k, e)) x = inr (subst (λ (xs : List Part). Contains xs b) (sym e) (Contains-append_right n (b ∷ []) b (0, omega arith, refl)))
-        by (inl (same, e)) (inl x) = inl (kept_seen p q f b same x)
-        by (inl (same, e)) (inr (x, told)) = told_more n k (stirred_more q f b n k one) b told
+-- ---- by a test that is sound
+module _ (R : Form → Form → Type 0) (test : FormTest) (sound : (f g : Form) → test f g ≡ true → R f g) (alike : (f : Form) → R f f) where
+  -- what keeps its form lets no more than it did
+  kept_lets : (p q : Sparse) (f : Formed) (a : Part) → keeps test f q a ≡ true → form_at f a ≡ form_on p a → Lets R (seen_at q a) (seen_at p a)
+  kept_lets p q f (part.Row i) k e = absurd (true≢false (sym k))
+  kept_lets p q f (part.Sides i) k e = (sides_line q i ∙ sym (sides_line p i), subst (λ (x : Form). R (form_on q (part.Sides i)) x) e (sound (form_on q (part.Sides i)) (form_at f (part.Sides i)) k))
+  kept_lets p q f (part.Col j) k e = absurd (true≢false (sym k))
+  kept_lets p q f (part.Bounds j) k e = (bounds_line q j ∙ sym (bounds_line p j), subst (λ (x : Form). R (form_on q (part.Bounds j)) x) e (sound (form_on q (part.Bounds j)) (form_at f (part.Bounds j)) k))
 
-    known_next : AreKnown (form_put f b (form_on q b)) k
-    known_next a = by (put_elsewhere f b a (form_on q b)) (known a)
-      where
-        by : (b ≡ a) ⊎ (form_at (form_put f b (form_on q b)) a ≡ form_at f a) → (form_at f a ≡ form_on p a) ⊎ ((form_at f a ≡ form_on q a) × IsTold n a)
-            → (form_at (form_put f b (form_on q b)) a ≡ form_on p a) ⊎ ((form_at (form_put f b (form_on q b)) a ≡ form_on q a) × IsTold k a)
-        by (inl same) x = inr (subst (λ (y : Part). (form_at (form_put f b (form_on q b)) y ≡ form_on q y) × IsTold k y) same (right_here q f b long, told_here))
-        by (inr stands) (inl x) = inl (stands ∙ x)
-        by (inr stands) (inr (x, told)) = inr (stands ∙ x, told_more n k (stirred_more q f b n k one) a told)
+  module _ (p q : Sparse) where
+    abbrev IsTold : List Part → Part → Type 0
+    IsTold n a = Lets R (seen_at q a) (seen_at p a) ⊎ Contains n a
 
-  all_told : (f : Formed) (ps n m : List Part) → IsAsLong f q → Stirs f q ps n m → AreKnown f n → (a : Part) → Contains ps a → IsTold m a
-  all_told f [] n m long e known a c = absurd (omega (arith, c.1))
-  all_told f (b ∷ ps) n m long (k, one, rest) known a (zero, l, e) =
-      told_more k m (all_stirred_more q (form_put f b (form_on q b)) ps k m rest) a (subst (IsTold k) e (told_here f b n k long one known))
-  all_told f (b ∷ ps) n m long (k, one, rest) known a (suc i, l, e) =
-      all_told (form_put f b (form_on q b)) ps k m (long_put q f b (form_on q b) long) rest (known_next f b n k long one known) a (i, omega (arith, l), e)
+    -- the form of a part is that of p, or it is put right, and the part told
+    abbrev AreKnown : Formed → List Part → Type 0
+    AreKnown f n = (a : Part) → (form_at f a ≡ form_on p a) ⊎ ((form_at f a ≡ form_on q a) × IsTold n a)
 
-pub stirred_right : (p q : Sparse) (f : Formed) (ps n m : List Part) → AreFormsOf f p → SameSize p q → AreNoted p q [] ps → Stirs f q ps n m → AreStirred p q n m
-stirred_right p q f ps n m h size noted stirs = record { kept = all_stirred_more q f ps n m stirs; changed = λ a. by a (noted.changed a) }
-  where
-    by : (a : Part) → (read_of q a ≡ read_of p a) ⊎ Contains ps a → (seen_at q a ≡ seen_at p a) ⊎ Contains m a
-    by a (inl e) = inl (ap (λ (r : Read). let s : Seen = (line_of r.contents, form_of r.contents) in s) e)
-    by a (inr c) = all_told p q f ps n m (record { sides = h.sides ∙ sym size.rows; bounds = h.bounds ∙ sym size.columns }) stirs (λ x. inl (h.tell x)) a c
+    told_more : (n m : List Part) → ((x : Part) → Contains n x → Contains m x) → (a : Part) → IsTold n a → IsTold m a
+    told_more n m h a (inl e) = inl e
+    told_more n m h a (inr c) = inr (h a c)
+
+    module _ (f : Formed) (b : Part) (n k : List Part) (long : IsAsLong f q) (one : StirsOne test f q b n k) (known : AreKnown f n) where
+      told_here : IsTold k b
+      told_here = by one (known b)
+        where
+          by : StirsOne test f q b n k → (form_at f b ≡ form_on p b) ⊎ ((form_at f b ≡ form_on q b) × IsTold n b) → IsTold k b
+          by (inr (off, e)) x = inr (subst (λ (xs : List Part). Contains xs b) (sym e) (Contains-append_right n (b ∷ []) b (0, omega arith, refl)))
+          by (inl (same, e)) (inl x) = inl (kept_lets p q f b same x)
+          by (inl (same, e)) (inr (x, told)) = told_more n k (stirred_more test q f b n k one) b told
+
+      known_next : AreKnown (form_put f b (form_on q b)) k
+      known_next a = by (put_elsewhere f b a (form_on q b)) (known a)
+        where
+          by : (b ≡ a) ⊎ (form_at (form_put f b (form_on q b)) a ≡ form_at f a) → (form_at f a ≡ form_on p a) ⊎ ((form_at f a ≡ form_on q a) × IsTold n a)
+              → (form_at (form_put f b (form_on q b)) a ≡ form_on p a) ⊎ ((form_at (form_put f b (form_on q b)) a ≡ form_on q a) × IsTold k a)
+          by (inl same) x = inr (subst (λ (y : Part). (form_at (form_put f b (form_on q b)) y ≡ form_on q y) × IsTold k y) same (right_here q f b long, told_here))
+          by (inr stands) (inl x) = inl (stands ∙ x)
+          by (inr stands) (inr (x, told)) = inr (stands ∙ x, told_more n k (stirred_more test q f b n k one) a told)
+
+    all_told : (f : Formed) (ps n m : List Part) → IsAsLong f q → Stirs test f q ps n m → AreKnown f n → (a : Part) → Contains ps a → IsTold m a
+    all_told f [] n m long e known a c = absurd (omega (arith, c.1))
+    all_told f (b ∷ ps) n m long (k, one, rest) known a (zero, l, e) =
+        told_more k m (all_stirred_more test q (form_put f b (form_on q b)) ps k m rest) a (subst (IsTold k) e (told_here f b n k long one known))
+    all_told f (b ∷ ps) n m long (k, one, rest) known a (suc i, l, e) =
+        all_told (form_put f b (form_on q b)) ps k m (long_put q f b (form_on q b) long) rest (known_next f b n k long one known) a (i, omega (arith, l), e)
+
+  pub stirred_right : (p q : Sparse) (f : Formed) (ps n m : List Part) → AreFormsOf f p → SameSize p q → AreNoted p q [] ps → Stirs test f q ps n m → LetsNoMore R p q n m
+  stirred_right p q f ps n m h size noted stirs = record { kept = all_stirred_more test q f ps n m stirs; changed = λ a. by a (noted.changed a) }
+    where
+      by : (a : Part) → (read_of q a ≡ read_of p a) ⊎ Contains ps a → Lets R (seen_at q a) (seen_at p a) ⊎ Contains m a
+      by a (inl e) = let same : seen_at q a ≡ seen_at p a = ap (λ (r : Read). let s : Seen = (line_of r.contents, form_of r.contents) in s) e in
+          inl (subst (λ (s : Seen). Lets R (seen_at q a) s) same (refl, alike (form_on q a)))
+      by a (inr c) = all_told p q f ps n m (record { sides = h.sides ∙ sym size.rows; bounds = h.bounds ∙ sym size.columns }) stirs (λ x. inl (h.tell x)) a c

@@ -17,9 +17,10 @@ use Rattle.presolve_model.specs.Given.{Proposed}
 use Rattle.presolve_model.specs.Ledger.{Ledger}
 use Rattle.presolve_model.proofs.Tabled.{same_size}
 use Rattle.place_laws.specs.Marks.{AreStirred}
-use Rattle.round_marks.specs.Forming.{AreFormsOf, form_on, form_put, Formed, reformed, Stirs}
+use Rattle.round_marks.specs.Forming.{AreFormsOf, form_on, form_put, Formed, lets_by_cost, lets_in_pairs, reformed, Stirs}
+use Rattle.dual_laws.specs.Forms.{LetsByCost, LetsInPairs}
 use Rattle.round_marks.specs.Marking.{Notes, Watched}
-use Rattle.round_marks.proofs.Reforming.{reformed_right, stirred_right}
+use Rattle.round_marks.proofs.Reforming.{cost_refl, cost_sound, pairs_refl, pairs_sound, reformed_right, stirred_right}
 
 -- ---- a commit keeps the sizes
 size_here : (p : Sparse) → SameSize p p
@@ -51,8 +52,11 @@ module _ (p q : Sparse) (changed : List Part) (w v : Watched) (noted : AreNoted 
       by a (inr c) = inr (subst (λ (ps : List Part). Contains ps a) (sym notes.noted) (Contains-append_right w.marks.noted changed a c))
 
   module _ (h : AreFormsOf w.forms p) (size : SameSize p q) where
-    pub notes_stirred : AreStirred p q w.marks.stirred v.marks.stirred
-    notes_stirred = stirred_right p q w.forms changed w.marks.stirred v.marks.stirred h size noted notes.stirred
+    pub notes_stirred : AreStirred p q w.marks v.marks
+    notes_stirred = record {
+      stirred = stirred_right LetsByCost lets_by_cost cost_sound cost_refl p q w.forms changed w.marks.stirred v.marks.stirred h size noted notes.stirred;
+      roused = stirred_right LetsInPairs lets_in_pairs pairs_sound pairs_refl p q w.forms changed w.marks.roused v.marks.roused h size noted notes.roused;
+    }
 
     pub notes_forms : AreFormsOf v.forms q
     notes_forms = subst (λ f. AreFormsOf f q) (sym notes.forms) (reformed_right p q w.forms changed h size noted)
@@ -60,12 +64,13 @@ module _ (p q : Sparse) (changed : List Part) (w v : Watched) (noted : AreNoted 
 -- ---- parts noted one after the other
 module _ (q : Sparse) where
   pub notes_none : (w : Watched) → Notes q [] w w
-  notes_none w = record { noted = sym (append-nil w.marks.noted); stirred = refl; asleep = refl; forms = refl }
+  notes_none w = record { noted = sym (append-nil w.marks.noted); stirred = refl; roused = refl; asleep = refl; forms = refl }
 
   pub notes_one_more : (a : Part) (ps : List Part) (w v u : Watched) → Notes q (a ∷ []) w v → Notes q ps v u → Notes q (a ∷ ps) w u
-  notes_one_more a ps w v u one rest = let s = one.stirred in record {
+  notes_one_more a ps w v u one rest = let s = one.stirred in let r = one.roused in record {
     noted = rest.noted ∙ ap (λ (xs : List Part). xs ++ ps) one.noted ∙ append_assoc w.marks.noted (a ∷ []) ps;
-    stirred = (s.0, s.1, subst (λ (xs : List Part). Stirs (form_put w.forms a (form_on q a)) q ps xs u.marks.stirred) s.2 (subst (λ (f : Formed). Stirs f q ps v.marks.stirred u.marks.stirred) one.forms rest.stirred));
+    stirred = (s.0, s.1, subst (λ (xs : List Part). Stirs lets_by_cost (form_put w.forms a (form_on q a)) q ps xs u.marks.stirred) s.2 (subst (λ (f : Formed). Stirs lets_by_cost f q ps v.marks.stirred u.marks.stirred) one.forms rest.stirred));
+    roused = (r.0, r.1, subst (λ (xs : List Part). Stirs lets_in_pairs (form_put w.forms a (form_on q a)) q ps xs u.marks.roused) r.2 (subst (λ (f : Formed). Stirs lets_in_pairs f q ps v.marks.roused u.marks.roused) one.forms rest.roused));
     asleep = rest.asleep ∙ one.asleep;
     forms = rest.forms ∙ ap (λ (f : Formed). reformed f q ps) one.forms;
   }

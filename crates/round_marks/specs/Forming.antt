@@ -43,32 +43,49 @@ pub record AreFormsOf (f : Formed) (p : Sparse) : Type 0 where
   pub sides : length f.sides ≡ length p.matrix.rows
   pub bounds : length f.bounds ≡ length p.matrix.columns
 
--- two forms are the same
+-- ---- tests of two forms
+abbrev pub FormTest : Type 0
+FormTest = Form → Form → Bool
+
+-- a flag that is up in the first is up in the second
+abbrev pub gives : Bool → Bool → Bool
+gives true b = b
+gives false b = true
+
 abbrev pub same_flag : Bool → Bool → Bool
 same_flag true b = b
 same_flag false b = not b
 
-abbrev pub same_form : Form → Form → Bool
-same_form NoEnds NoEnds = true
-same_form (Sides a b c) (Sides d e f) = same_flag a d && (same_flag b e && same_flag c f)
-same_form (Bounds a b c d e f g) (Bounds h i j k l m n) = same_flag a h && (same_flag b i && (same_flag c j && (same_flag d k && (same_flag e l && (same_flag f m && same_flag g n)))))
-same_form x y = false
+-- the second lets what the first lets: rules that look at columns
+abbrev pub lets_by_cost : FormTest
+lets_by_cost NoEnds NoEnds = true
+lets_by_cost (Sides nl nu o) (Sides ml mu oo) = gives nl ml && (gives nu mu && gives o oo)
+lets_by_cost (Bounds nl nu o apart lower upper w) (Bounds ml mu oo apart_too lower_too upper_too x) =
+    gives nl ml && (gives nu mu && (gives o oo && (gives apart apart_too && (gives lower lower_too && gives upper upper_too))))
+lets_by_cost f g = false
 
--- a part is of ends whose form is as it was
-abbrev pub keeps : Formed → Sparse → Part → Bool
-keeps f p (part.Row i) = false
-keeps f p (part.Sides i) = same_form (form_at f (part.Sides i)) (form_on p (part.Sides i))
-keeps f p (part.Col j) = false
-keeps f p (part.Bounds j) = same_form (form_at f (part.Bounds j)) (form_on p (part.Bounds j))
+-- and those that look at pairs of columns of a row
+abbrev pub lets_in_pairs : FormTest
+lets_in_pairs NoEnds NoEnds = true
+lets_in_pairs (Sides nl nu o) (Sides ml mu oo) = gives nl ml && (gives nu mu && gives o oo)
+lets_in_pairs (Bounds nl nu o apart lower upper w) (Bounds ml mu oo apart_too lower_too upper_too x) = gives nu mu && (gives apart apart_too && (gives lower lower_too && same_flag w x))
+lets_in_pairs f g = false
+
+-- a part is of ends whose form lets no more than it did
+abbrev pub keeps : FormTest → Formed → Sparse → Part → Bool
+keeps test f p (part.Row i) = false
+keeps test f p (part.Sides i) = test (form_on p (part.Sides i)) (form_at f (part.Sides i))
+keeps test f p (part.Col j) = false
+keeps test f p (part.Bounds j) = test (form_on p (part.Bounds j)) (form_at f (part.Bounds j))
 
 -- such a part leaves what is stirred as it is; any other is stirred
-abbrev pub StirsOne : Formed → Sparse → Part → List Part → List Part → Type 0
-StirsOne f p a n m = ((keeps f p a ≡ true) × (m ≡ n)) ⊎ ((keeps f p a ≡ false) × (m ≡ n ++ a ∷ []))
+abbrev pub StirsOne : FormTest → Formed → Sparse → Part → List Part → List Part → Type 0
+StirsOne test f p a n m = ((keeps test f p a ≡ true) × (m ≡ n)) ⊎ ((keeps test f p a ≡ false) × (m ≡ n ++ a ∷ []))
 
 -- parts that have changed, each in turn: what is stirred then, and the forms, put right
-abbrev pub Stirs : Formed → Sparse → List Part → List Part → List Part → Type 0
-Stirs f p [] n m = m ≡ n
-Stirs f p (a ∷ ps) n m = (k : List Part) × StirsOne f p a n k × Stirs (form_put f a (form_on p a)) p ps k m
+abbrev pub Stirs : FormTest → Formed → Sparse → List Part → List Part → List Part → Type 0
+Stirs test f p [] n m = m ≡ n
+Stirs test f p (a ∷ ps) n m = (k : List Part) × StirsOne test f p a n k × Stirs test (form_put f a (form_on p a)) p ps k m
 
 abbrev pub reformed : Formed → Sparse → List Part → Formed
 reformed f p [] = f

@@ -136,20 +136,22 @@ impl Around {
         })
     }
 
-    /// The rows and columns to which parts lead that are noted, and parts that are stirred.
+    /// The rows and columns to which parts lead that are noted, stirred and roused.
     pub fn of_parts(
         alloc: Global,
         problem: &Problem,
         noted: &[Part],
         stirred: &[Part],
+        roused: &[Part],
     ) -> Result<Around, AllocError>
         ensures sorted { IfOk result AreSorted }
-        ensures holds { (marks : Marks) → marks.noted ≡ noted.now → marks.stirred ≡ stirred.now → IfOk result (HoldsAround problem.now marks) }
+        ensures holds { (marks : Marks) → marks.noted ≡ noted.now → marks.stirred ≡ stirred.now → marks.roused ≡ roused.now → IfOk result (HoldsAround problem.now marks) }
     {
         let own = Places::of_parts(alloc, noted)?;
         let rows_of_bounds = rows_of_bounds(alloc, problem, noted)?;
         let columns_of_sides = columns_of_sides(alloc, problem, stirred)?;
-        let rows_of_both = rows_of_both(alloc, problem, stirred, columns_of_sides.as_slice())?;
+        let columns_roused = self::columns_of_sides(alloc, problem, roused)?;
+        let rows_of_both = rows_of_both(alloc, problem, roused, columns_roused.as_slice())?;
         Ok(Around {
             own,
             rows_of_bounds,

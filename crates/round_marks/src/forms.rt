@@ -4,7 +4,7 @@ ghost use Rattle.std.specs.Prelude.{◌≡◌, length, map, slice_index_or, slic
 ghost use Rattle.std.specs.List.{range_with_len};
 ghost use Rattle.problem_model.specs.declared.part.Part.TheVariants as part;
 ghost use Rattle.dual_laws.specs.declared.form.Form.TheVariants as form;
-ghost use Rattle.round_marks.specs.Forming.{form_at, form_on, form_put, forms_of, keeps, same_flag, same_form};
+ghost use Rattle.round_marks.specs.Forming.{form_at, form_on, form_put, forms_of, gives as gives_is, keeps, lets_by_cost as lets_by_cost_is, lets_in_pairs as lets_in_pairs_is, same_flag};
 
 use dual_laws::form::Form;
 use dual_rules::form::form_of;
@@ -67,45 +67,47 @@ fn set_form(forms: &mut [Form], id: u32, form: Form)
     }
 }
 
+/// Whether a flag that is up in the first is up in the second.
+fn gives(first: bool, second: bool) -> bool
+    ensures { result ≡ gives_is first second }
+{
+    !first | second
+}
+
 fn are_alike(first: bool, second: bool) -> bool
     ensures { result ≡ same_flag first second }
 {
     first == second
 }
 
-/// Whether two forms are the same.
-fn are_same(first: Form, second: Form) -> bool
-    ensures { result ≡ same_form first second }
+/// Whether the second form lets what the first one lets, to the rules that look at columns.
+fn lets_by_cost(first: Form, second: Form) -> bool
+    ensures { result ≡ lets_by_cost_is first second }
 {
-    match first {
-        Form::NoEnds => match second {
-            Form::NoEnds => true,
-            _ => false,
-        },
-        Form::Sides {
-            no_lower,
-            no_upper,
-            in_order,
-        } => match second {
+    match (first, second) {
+        (Form::NoEnds, Form::NoEnds) => true,
+        (
+            Form::Sides {
+                no_lower,
+                no_upper,
+                in_order,
+            },
             Form::Sides {
                 no_lower: lower,
                 no_upper: upper,
                 in_order: order,
-            } => {
-                are_alike(no_lower, lower)
-                    & (are_alike(no_upper, upper) & are_alike(in_order, order))
-            }
-            _ => false,
-        },
-        Form::Bounds {
-            no_lower,
-            no_upper,
-            in_order,
-            apart,
-            lower_holds,
-            upper_holds,
-            whole,
-        } => match second {
+            },
+        ) => gives(no_lower, lower) & (gives(no_upper, upper) & gives(in_order, order)),
+        (
+            Form::Bounds {
+                no_lower,
+                no_upper,
+                in_order,
+                apart,
+                lower_holds,
+                upper_holds,
+                ..
+            },
             Form::Bounds {
                 no_lower: lower,
                 no_upper: upper,
@@ -113,15 +115,55 @@ fn are_same(first: Form, second: Form) -> bool
                 apart: differ,
                 lower_holds: lower_place,
                 upper_holds: upper_place,
+                ..
+            },
+        ) => {
+            let places = gives(lower_holds, lower_place) & gives(upper_holds, upper_place);
+            let order = gives(in_order, order) & (gives(apart, differ) & places);
+            gives(no_lower, lower) & (gives(no_upper, upper) & order)
+        }
+        _ => false,
+    }
+}
+
+/// Whether the second form lets what the first one lets, to the rule that looks at pairs of columns of a row.
+fn lets_in_pairs(first: Form, second: Form) -> bool
+    ensures { result ≡ lets_in_pairs_is first second }
+{
+    match (first, second) {
+        (Form::NoEnds, Form::NoEnds) => true,
+        (
+            Form::Sides {
+                no_lower,
+                no_upper,
+                in_order,
+            },
+            Form::Sides {
+                no_lower: lower,
+                no_upper: upper,
+                in_order: order,
+            },
+        ) => gives(no_lower, lower) & (gives(no_upper, upper) & gives(in_order, order)),
+        (
+            Form::Bounds {
+                no_upper,
+                apart,
+                lower_holds,
+                whole,
+                ..
+            },
+            Form::Bounds {
+                no_upper: upper,
+                apart: differ,
+                lower_holds: lower_place,
                 whole: whole_too,
-            } => {
-                let places = are_alike(lower_holds, lower_place)
-                    & (are_alike(upper_holds, upper_place) & are_alike(whole, whole_too));
-                let order = are_alike(in_order, order) & (are_alike(apart, differ) & places);
-                are_alike(no_lower, lower) & (are_alike(no_upper, upper) & order)
-            }
-            _ => false,
-        },
+                ..
+            },
+        ) => {
+            let places = gives(lower_holds, lower_place) & are_alike(whole, whole_too);
+            gives(no_upper, upper) & (gives(apart, differ) & places)
+        }
+        _ => false,
     }
 }
 
@@ -145,13 +187,25 @@ impl Forms {
         }
     }
 
-    /// Whether a part is of ends whose form is as it was.
-    pub fn keep(&self, problem: &Problem, part: Part) -> bool
-        ensures { result ≡ keeps self.now problem.now part }
+    /// Whether a part is of ends whose form lets no more than it did, to the rules that look at columns.
+    pub fn keep_by_cost(&self, problem: &Problem, part: Part) -> bool
+        ensures { result ≡ keeps lets_by_cost_is self.now problem.now part }
     {
         match part {
             Part::Row(_) | Part::Col(_) => false,
-            Part::Sides(_) | Part::Bounds(_) => are_same(self.at(part), form_of(problem, part)),
+            Part::Sides(_) | Part::Bounds(_) => lets_by_cost(form_of(problem, part), self.at(part)),
+        }
+    }
+
+    /// The same, to the rule that looks at pairs of columns of a row.
+    pub fn keep_in_pairs(&self, problem: &Problem, part: Part) -> bool
+        ensures { result ≡ keeps lets_in_pairs_is self.now problem.now part }
+    {
+        match part {
+            Part::Row(_) | Part::Col(_) => false,
+            Part::Sides(_) | Part::Bounds(_) => {
+                lets_in_pairs(form_of(problem, part), self.at(part))
+            }
         }
     }
 

@@ -13,20 +13,22 @@ ghost use Rattle.round_marks.specs.Marking.{all_marked, left_over, marked, Notes
 
 use crate::around::Around;
 use crate::forms::Forms;
-use instances::{goes_by_form, rests_on_reading};
-use presolve_model::{Instance, Outcome, Part};
+use instances::{reach_of, rests_on_reading, rule_of};
+use presolve_model::{Instance, Outcome, Part, Reach};
 use sparse_problem::Problem;
 use std::alloc::{AllocError, Global};
 use std::marker::Model;
 use txn_book::Book;
 
-/// What is marked for the next round. Noted: parts that have changed, and a part of each instance that is left over. Stirred: the same for the
-/// rules that look only at the form of ends, so parts of which something else is seen. Asleep: a part of each instance that was refused, and
+/// What is marked for the next round. Noted: parts that have changed, and a part of each instance that is left over. Stirred and
+/// roused: the same for the rules that look only at the form of ends, at columns and at rows, so parts of which what is seen lets them apply where
+/// it did not before. Asleep: a part of each instance that was refused, and
 /// will be until what it reads changes. With it the forms of all ends, by which it is known what is seen.
 #[derive(Drop)]
 pub struct Watch {
     noted: Vec<Part>,
     stirred: Vec<Part>,
+    roused: Vec<Part>,
     asleep: Vec<Part>,
     forms: Forms,
 }
@@ -36,7 +38,7 @@ impl Model for Watch {
 
     ghost Value = { Watched };
 
-    ghost view = { λ w. record { marks = record { noted = w.noted.items; stirred = w.stirred.items; asleep = w.asleep.items }; forms = w.forms } };
+    ghost view = { λ w. record { marks = record { noted = w.noted.items; stirred = w.stirred.items; roused = w.roused.items; asleep = w.asleep.items }; forms = w.forms } };
 }
 
 /// Whether an answer refuses for a number.
@@ -56,12 +58,13 @@ fn is_refusal(outcome: Outcome) -> bool
 impl Watch {
     /// The forms of a problem, and no marks.
     pub fn of(alloc: Global, problem: &Problem) -> Result<Watch, AllocError>
-        ensures { IfOk result (λ watch. watch ≡ record { marks = record { noted = []; stirred = []; asleep = [] }; forms = forms_of problem.now }) }
+        ensures { IfOk result (λ watch. watch ≡ record { marks = record { noted = []; stirred = []; roused = []; asleep = [] }; forms = forms_of problem.now }) }
     {
         let forms = Forms::of(alloc, problem)?;
         Ok(Watch {
             noted: Vec::new(alloc),
             stirred: Vec::new(alloc),
+            roused: Vec::new(alloc),
             asleep: Vec::new(alloc),
             forms,
         })
@@ -80,11 +83,12 @@ impl Watch {
     {
         let mut parts = Vec::from_slice(alloc, self.noted.as_slice())?;
         parts.extend_from_slice(self.stirred.as_slice())?;
+        parts.extend_from_slice(self.roused.as_slice())?;
         parts.extend_from_slice(self.asleep.as_slice())?;
         Ok(parts)
     }
 
-    /// The rows and columns to which what is noted and stirred leads.
+    /// The rows and columns to which what is marked leads.
     pub fn around(&self, alloc: Global, problem: &Problem) -> Result<Around, AllocError>
         ensures sorted { IfOk result AreSorted }
         ensures holds { IfOk result (HoldsAround problem.now self.now.marks) }
@@ -94,15 +98,17 @@ impl Watch {
             problem,
             self.noted.as_slice(),
             self.stirred.as_slice(),
+            self.roused.as_slice(),
         )
     }
 
-    /// Forgets what is noted and stirred. What sleeps goes on.
+    /// Forgets what is noted, stirred and roused. What sleeps goes on.
     pub fn begin_round(&mut self)
-        ensures { self.new ≡ record { marks = record { noted = []; stirred = []; asleep = self.old.marks.asleep }; forms = self.old.forms } }
+        ensures { self.new ≡ record { marks = record { noted = []; stirred = []; roused = []; asleep = self.old.marks.asleep }; forms = self.old.forms } }
     {
         self.noted.clear();
         self.stirred.clear();
+        self.roused.clear();
     }
 
     /// Notes a part that has changed.
@@ -110,8 +116,11 @@ impl Watch {
         ensures { OnOk result (Notes problem.now (part ∷ []) self.old self.new) }
     {
         self.noted.push(part)?;
-        if !self.forms.keep(problem, part) {
+        if !self.forms.keep_by_cost(problem, part) {
             self.stirred.push(part)?;
+        }
+        if !self.forms.keep_in_pairs(problem, part) {
+            self.roused.push(part)?;
         }
         self.forms.refresh(problem, part);
         Ok(())
@@ -145,7 +154,7 @@ impl Watch {
         ensures outcome { IfOk result (λ outcome. (version : ℕ) → Allows book.old (proposal_of book.old.problem version instance) outcome) }
         ensures left { IfOk result (λ outcome. (version : ℕ) → book.new ≡ left_by book.old (proposal_of book.old.problem version instance) outcome) }
         ensures noted { OnOk result (AreNoted book.old.problem book.new.problem self.old.marks.noted self.new.marks.noted) }
-        ensures stirred { OnOk result (AreStirred book.old.problem book.new.problem self.old.marks.stirred self.new.marks.stirred) }
+        ensures stirred { OnOk result (AreStirred book.old.problem book.new.problem self.old.marks self.new.marks) }
         ensures asleep { OnOk result (self.new.marks.asleep ≡ self.old.marks.asleep) }
         ensures forms { OnOk result (AreFormsOf self.new.forms book.new.problem) }
     {
@@ -163,10 +172,10 @@ impl Watch {
     pub fn leave(&mut self, instance: Instance, part: Part) -> Result<(), AllocError>
         ensures { OnOk result (self.new ≡ record { marks = left_over self.old.marks instance part; forms = self.old.forms }) }
     {
-        if goes_by_form(instance) {
-            self.stirred.push(part)?;
-        } else {
-            self.noted.push(part)?;
+        match reach_of(rule_of(instance)) {
+            Reach::OwnRow | Reach::OwnColumn | Reach::RowsOfBounds => self.noted.push(part)?,
+            Reach::ColumnsOfSides => self.stirred.push(part)?,
+            Reach::RowsOfBoth => self.roused.push(part)?,
         }
         Ok(())
     }

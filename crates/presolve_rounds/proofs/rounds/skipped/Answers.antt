@@ -12,8 +12,8 @@ use Rattle.presolve_rounds.proofs.rounds.skipped.Goals as goal
 pub returns : goal.returns
 returns c =
     let o : Open = open_on c.args.tally.now in
-    let m : Marks = record { noted = c.args.parts.now; stirred = c.args.parts.now; asleep = [] } in
+    let m : Marks = record { noted = c.args.parts.now; stirred = c.args.parts.now; roused = c.args.parts.now; asleep = [] } in
     c.count.ensures ∙ ap length (c.as_slice.ensures.value ∙ c.in_ok-found.ensures
     ∙ ap (λ (rs : List Rule). filter (enabled_on c.args.problem.now) (instances_of o c.args.problem.now c.in_ok-ids.ids rs)) c.reduction_rules.ensures
     ∙ enabled_same_there o c.args.problem.now c.in_ok-ids.ids c.in_ok-ids.ensures.sorted
-    (noted_each o c.args.problem.now c.args.parts.now m c.in_ok-ids.ids c.is_sparse.ensures (c.in_ok-ids.ensures.holds m refl refl) refl refl c.requires.reached) reduction_order)
+    (noted_each o c.args.problem.now c.args.parts.now m c.in_ok-ids.ids c.is_sparse.ensures (c.in_ok-ids.ensures.holds m refl refl refl) refl refl refl c.requires.reached) reduction_order)

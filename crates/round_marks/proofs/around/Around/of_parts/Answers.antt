@@ -5,9 +5,9 @@ use Rattle.round_marks.proofs.Sorting.{holds_around}
 use Rattle.round_marks.proofs.around.Around.of_parts.Goals as goal
 
 pub rows_of_both-requires : goal.rows_of_both-requires
-rows_of_both-requires c = subst (λ (ids : List ℕ). HoldsLed c.args.problem.now reach.ColumnsOfSides c.args.stirred.now ids) (sym c.as_slice.ensures.value) c.in_ok-columns_of_sides.ensures.holds
+rows_of_both-requires c = subst (λ (ids : List ℕ). HoldsLed c.args.problem.now reach.ColumnsOfSides c.args.roused.now ids) (sym c.as_slice.ensures.value) c.in_ok-columns_roused.ensures.holds
 
 pub returns-clause-holds : goal.returns-clause-holds
 returns-clause-holds c =
-    λ m x y.
-    holds_around c.args.problem.now m c.args.noted.now c.args.stirred.now _ x y c.in_ok-own.ensures.holds c.in_ok-rows_of_bounds.ensures.holds c.in_ok-columns_of_sides.ensures.holds c.in_ok-rows_of_both.ensures.holds
+    λ m x y z.
+    holds_around c.args.problem.now m c.args.noted.now c.args.stirred.now c.args.roused.now _ x y z c.in_ok-own.ensures.holds c.in_ok-rows_of_bounds.ensures.holds c.in_ok-columns_of_sides.ensures.holds c.in_ok-rows_of_both.ensures.holds
