@@ -98,12 +98,12 @@ tightened p ts j side l u ss e = by (entry_at j (map (span_of p) ts)) refl e
     }
 
 -- ---- a bound that is made is the implied one
-record IsMade (a : Number) (side : Option Number) (r : Result (Option Number) Past) (b : Number) : Type 0 where
-  other : Option Number
-  known : r ≡ Ok other
-  bound : over (minus_ends side other) a ≡ Some b
+pub record IsMade (a : Number) (side : Option Number) (r : Result (Option Number) Past) (b : Number) : Type 0 where
+  pub other : Option Number
+  pub known : r ≡ Ok other
+  pub bound : over (minus_ends side other) a ≡ Some b
 
-is_made : (a : Number) (side : Option Number) (r : Result (Option Number) Past) (b : Number) → left_over a side r ≡ Some b → IsMade a side r b
+pub is_made : (a : Number) (side : Option Number) (r : Result (Option Number) Past) (b : Number) → left_over a side r ≡ Some b → IsMade a side r b
 is_made a None r b e = cc
 is_made a (Some q) (Err x) b e = cc
 is_made a (Some q) (Ok None) b e = cc

@@ -1,0 +1,3 @@
+pub mod SoleEntry
+pub mod FreeColumn
+pub mod SlackColumn
