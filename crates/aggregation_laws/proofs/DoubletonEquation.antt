@@ -80,7 +80,7 @@ either : (a b : Bool) → (a || b) ≡ true → (a ≡ true) ⊎ (b ≡ true)
 either true b e = inl refl
 either false b e = inr e
 
-pair_is : (ts : List Term) (m n j k : ℕ) → Ascends m n ts → are_at j k ts ≡ true → IsPair ts j k
+pub pair_is : (ts : List Term) (m n j k : ℕ) → Ascends m n ts → are_at j k ts ≡ true → IsPair ts j k
 pair_is [] m n j k a e = absurd (not_true e)
 pair_is (t ∷ []) m n j k a e = absurd (not_true e)
 pair_is (t ∷ u ∷ x ∷ ts) m n j k a e = absurd (not_true e)

@@ -1,0 +1,4 @@
+pub mod Looks
+pub mod Sign
+pub mod Walk
+pub mod Joining
