@@ -201,18 +201,9 @@ pub fn change(alloc: Global, problem: &Problem, column: u32, row: u32) -> Result
     requires { enabled problem.now column row ≡ true }
     ensures { Changes (Computes problem.now column row) (edits problem.now column row) (record_of problem.now column row) result }
 {
-    let entry = match sole_entry(alloc, problem, column, row) {
-        Ok(entry) => entry,
-        Err(refusal) => return Err(refusal),
-    };
-    let numbers = match numbers_of(problem, column, row, &entry) {
-        Ok(numbers) => numbers,
-        Err(_) => return Err(Refusal::Past),
-    };
-    let mut edits = match costs_less(alloc, problem, column, row, &entry) {
-        Ok(edits) => edits,
-        Err(refusal) => return Err(refusal),
-    };
+    let entry = sole_entry(alloc, problem, column, row)?;
+    let numbers = numbers_of(problem, column, row, &entry)?;
+    let mut edits = costs_less(alloc, problem, column, row, &entry)?;
     take_out(&mut edits, column, row, &numbers)?;
     let fate = fate_of(&numbers.lower, &numbers.upper);
     Ok(Change {

@@ -97,7 +97,7 @@ fn others_of(alloc: Global, problem: &Problem, column: u32, row: u32) -> Result<
 }
 
 /// The entry of a column in the row that alone has one.
-fn value_at(problem: &Problem, column: u32, row: u32) -> Frac
+pub fn value_at(problem: &Problem, column: u32, row: u32) -> Frac
     requires row { (row_at problem.now row).live ≡ true }
     requires column { (column_at problem.now column).live ≡ true }
     requires sole { is_sole_there row (column_entries problem.now column) ≡ true }
