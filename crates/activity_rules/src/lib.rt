@@ -7,6 +7,6 @@ mod infinite_ends;
 pub mod out_of_reach;
 pub mod redundant_row;
 pub mod redundant_side;
-mod row_bounds;
+pub mod row_bounds;
 pub mod rows;
 pub mod tightened_bound;

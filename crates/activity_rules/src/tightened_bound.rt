@@ -49,7 +49,7 @@ fn entries_of_row(problem: &Problem, row: u32) -> &[Term]
 }
 
 /// The entry of a row in a column: 0 where it has none there.
-fn entry_of(problem: &Problem, row: u32, column: u32) -> Frac
+pub fn entry_of(problem: &Problem, row: u32, column: u32) -> Frac
     requires { (row_at problem.now row).live ≡ true }
     ensures { result ≡ dense (row_entries problem.now row) column }
 {
@@ -69,7 +69,10 @@ fn is_in_row(problem: &Problem, row: u32, column: u32) -> bool
 }
 
 /// A row's activity without a column.
-fn rest_of(problem: &Problem, row: u32, column: u32, extreme: Extreme) -> Result<Ext, Past>
+///
+/// # Errors
+/// Past where a step has no room.
+pub fn rest_of(problem: &Problem, row: u32, column: u32, extreme: Extreme) -> Result<Ext, Past>
     requires { (row_at problem.now row).live ≡ true }
     ensures { result ≡ rest_without extreme column (spans_of problem.now row) }
 {

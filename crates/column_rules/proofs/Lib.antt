@@ -1,0 +1,3 @@
+pub mod SoleEntries
+pub mod FreeColumns
+pub mod SlackColumns

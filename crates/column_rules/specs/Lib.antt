@@ -1,0 +1,2 @@
+pub mod SoleEntries
+pub mod SlackColumns
