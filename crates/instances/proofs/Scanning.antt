@@ -1,5 +1,5 @@
 -- Ids in a row, and those past a rule's.
-use Rattle.std.proofs.Common.{◌≡◌, ℕ, zero, suc, ◌+◌, ◌≤◌, Bool, true, false, List, [], ◌∷◌, ◌++◌, length, map, refl, sym, ap, ◌∙◌, arith}
+use Rattle.std.proofs.Common.{◌≡◌, ◌≢◌, ℕ, zero, suc, ◌+◌, ◌≤◌, Bool, true, false, List, [], ◌∷◌, ◌++◌, length, map, refl, sym, ap, ◌∙◌, arith, true≢false}
 use Rattle.std.proofs.lemmas.List.{get_or_past, map-append, append-nil, append_assoc}
 use Rattle.std.specs.List.{filter, range_with_len}
 use Rattle.std.proofs.lemmas.List.Elements.{filter-append}
@@ -10,15 +10,18 @@ use Rattle.presolve_model.specs.Enabled.{enabled_on}
 use Rattle.problem_model.specs.Matrices.{line_at, no_line}
 use Rattle.presolve_model.specs.Scans.{proposal_of, instances_at, found_at}
 use Rattle.problem_model.specs.Sparse.{Sparse}
-use Rattle.presolve_model.specs.Instances.{instances_from, id_count}
+use Rattle.presolve_model.specs.Instances.{both_orders, instances_from, id_count, sole_row}
 use Rattle.std.specs.Prelude.{if◌then◌else◌}
-use Rattle.problem_model.specs.Problems.{row_entries}
+use Rattle.lp_model.specs.declared.terms.Term.{Term}
+use Rattle.problem_model.specs.Problems.{column_at, column_entries, row_entries}
+use Rattle.column_laws.proofs.FreeColumn as free_column
+use Rattle.column_laws.proofs.SlackColumn as slack_column
 use Rattle.activity_laws.specs.TightenedBound.{bounds_of}
 use Rattle.dual_laws.specs.DominatedColumn.{pairs_of}
 use Rattle.presolve_model.specs.Tallies.{Open}
 use Rattle.presolve_model.specs.declared.instance.Instance.{Instance}
 use Rattle.presolve_model.specs.declared.instance.Instance.TheVariants as at
-use Rattle.presolve_model.specs.declared.instance.Reduction.TheVariants.{DominatedColumn, TightenedBound, TightenedCoefficient}
+use Rattle.presolve_model.specs.declared.instance.Reduction.TheVariants.{DominatedColumn, DoubletonEquation, FreeColumn, SlackColumn, TightenedBound, TightenedCoefficient}
 
 gone : (lines : List Line) (k : ℕ) → length lines ≤ k → (line_at lines k).live ≡ false
 gone lines k l = ap (λ (line : Line). line.live) (get_or_past lines k no_line l)
@@ -58,6 +61,33 @@ passes_again t (e ∷ es) = by (t e) refl (passes_again t es)
     by true h ih = rw h (ap (λ xs. e ∷ xs) ih)
     by false h ih = ih
 
+-- a list that has not two terms has no orders, and one that has not one names no sole row
+pub no_orders : (ts : List Term) → length ts ≢ 2 → both_orders ts ≡ []
+no_orders [] n = refl
+no_orders (t ∷ []) n = refl
+no_orders (t ∷ u ∷ []) n = absurd (n refl)
+no_orders (t ∷ u ∷ v ∷ ts) n = refl
+
+pub no_sole : (ts : List Term) → length ts ≢ 1 → sole_row ts ≡ []
+no_sole [] n = refl
+no_sole (t ∷ []) n = absurd (n refl)
+no_sole (t ∷ u ∷ ts) n = refl
+
+-- where the column is gone, it is neither free nor a slack
+free_gone : (p : Sparse) (j i : ℕ) → (column_at p j).live ≡ false → enabled_on p (at.Reduction (FreeColumn j i)) ≡ false
+free_gone p j i g = by (enabled_on p (at.Reduction (FreeColumn j i))) refl
+  where
+    by : (b : Bool) → enabled_on p (at.Reduction (FreeColumn j i)) ≡ b → b ≡ false
+    by true e = absurd (true≢false (sym (free_column.said p j i e).column.live ∙ g))
+    by false e = refl
+
+slack_gone : (p : Sparse) (j i : ℕ) → (column_at p j).live ≡ false → enabled_on p (at.Reduction (SlackColumn j i)) ≡ false
+slack_gone p j i g = by (enabled_on p (at.Reduction (SlackColumn j i))) refl
+  where
+    by : (b : Bool) → enabled_on p (at.Reduction (SlackColumn j i)) ≡ b → b ≡ false
+    by true e = absurd (true≢false (sym (slack_column.said p j i e).column_live ∙ g))
+    by false e = refl
+
 -- no instance of a rule is enabled at an id past the rule's
 past : (opens : Open) (p : Sparse) (rule : Rule) (k : ℕ) → id_count p rule ≤ k → filter (enabled_on p) (instances_from opens p rule k) ≡ []
 past opens p rule.CrossedBounds k l = rw (gone p.matrix.columns k l) refl
@@ -75,6 +105,9 @@ past opens p rule.TightenedBound k l = none_pass (enabled_on p) (λ x. at.Reduct
 past opens p rule.TightenedCoefficient k l = none_pass (enabled_on p) (λ j. at.Reduction (TightenedCoefficient k j)) (map (λ t. t.id) (row_entries p k)) (λ j. rw (gone p.matrix.rows k l) refl)
 past opens p rule.FixedByCost k l = rw (gone p.matrix.columns k l) refl
 past opens p rule.DominatedColumn k l = none_pass (enabled_on p) (λ x. at.Reduction (DominatedColumn k x.0 x.1)) (pairs_of (row_entries p k)) (λ x. rw (gone p.matrix.rows k l) refl)
+past opens p rule.DoubletonEquation k l = none_pass (enabled_on p) (λ x. at.Reduction (DoubletonEquation k x.0 x.1)) (both_orders (row_entries p k)) (λ x. rw (gone p.matrix.rows k l) refl)
+past opens p rule.FreeColumn k l = none_pass (enabled_on p) (λ i. at.Reduction (FreeColumn k i)) (sole_row (column_entries p k)) (λ i. free_gone p k i (gone p.matrix.columns k l))
+past opens p rule.SlackColumn k l = none_pass (enabled_on p) (λ i. at.Reduction (SlackColumn k i)) (sole_row (column_entries p k)) (λ i. slack_gone p k i (gone p.matrix.columns k l))
 past opens p rule.EmptyColumn k l = rw (gone p.matrix.columns k l) refl
 
 pub found_past : (opens : Open) (p : Sparse) (version : ℕ) (rule : Rule) (k : ℕ) → id_count p rule ≤ k → found_at opens p version rule (k ∷ []) ≡ []

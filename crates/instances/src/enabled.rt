@@ -6,8 +6,10 @@ ghost use Rattle.presolve_model.specs.Enabled.{enabled_on};
 ghost use Rattle.presolve_model.specs.Tables.{edits, record_of, Computes};
 ghost use Rattle.presolve_model.specs.declared.instance.Instance.TheVariants as at;
 
+use aggregation_rules::doubleton_equation;
 use activity_rules::{forcing_row, out_of_reach, redundant_row, redundant_side, tightened_bound};
 use coef_rules::tightened_coefficient;
+use column_rules::{free_column, slack_column};
 use dual_rules::{dominated_column, fixed_by_cost, ray};
 use presolve_model::{Instance, Reduction, Verdict};
 use problem_model::Refusal;
@@ -42,6 +44,11 @@ fn is_reduction_enabled(problem: &Problem, reduction: Reduction) -> bool
             better,
             column,
         } => dominated_column::is_enabled(problem, row, better, column),
+        Reduction::DoubletonEquation { row, column, other } => {
+            doubleton_equation::is_enabled(problem, row, column, other)
+        }
+        Reduction::FreeColumn { column, row } => free_column::is_enabled(problem, column, row),
+        Reduction::SlackColumn { column, row } => slack_column::is_enabled(problem, column, row),
         Reduction::EmptyColumn { column } => empty_column::is_enabled(problem, column),
     }
 }
@@ -96,6 +103,11 @@ pub fn change(alloc: Global, problem: &Problem, reduction: Reduction) -> Result<
             better,
             column,
         } => dominated_column::change(alloc, problem, row, better, column),
+        Reduction::DoubletonEquation { row, column, other } => {
+            doubleton_equation::change(alloc, problem, row, column, other)
+        }
+        Reduction::FreeColumn { column, row } => free_column::change(alloc, problem, column, row),
+        Reduction::SlackColumn { column, row } => slack_column::change(alloc, problem, column, row),
         Reduction::EmptyColumn { column } => empty_column::change(alloc, problem, column),
     }
 }

@@ -1,20 +1,21 @@
 //! The enabled instances of a rule with a first id: a line a rule.
 
-ghost use Rattle.std.specs.Prelude.{◌≡◌, ◌∷◌, ◌++◌, [], map, OnOk};
+ghost use Rattle.std.specs.Prelude.{◌≡◌, ◌∷◌, ◌++◌, [], map, IfNone, IfOk, IfSome, OnOk};
 ghost use Rattle.std.specs.List.{filter};
-ghost use Rattle.problem_model.specs.Problems.{row_entries};
+ghost use Rattle.problem_model.specs.Problems.{column_entries, row_entries};
 ghost use Rattle.dual_laws.specs.DominatedColumn.{pairs_of};
 ghost use Rattle.presolve_model.specs.declared.instance.Instance.TheVariants as at;
 ghost use Rattle.presolve_model.specs.declared.instance.Reduction.TheVariants as reduction;
 ghost use Rattle.presolve_model.specs.declared.instance.Rule.TheVariants as rule;
 ghost use Rattle.presolve_model.specs.Enabled.{enabled_on};
-ghost use Rattle.presolve_model.specs.Instances.{instances_from};
+ghost use Rattle.presolve_model.specs.Instances.{both_orders, instances_from, sole_row as sole_row_of};
 ghost use Rattle.presolve_model.specs.Tallies.{open_on};
 
 use crate::enabled::is_enabled;
 use crate::tally::Tally;
 use activity_rules::tightened_bound::add_tightened;
 use dual_rules::dominated_column::pairs_at;
+use lp_model::Term;
 use presolve_model::{Instance, Reduction, Rule, Verdict};
 use sparse_problem::Problem;
 use std::alloc::{AllocError, Global};
@@ -131,6 +132,108 @@ fn add_shrinking(
     add_coefficients(row, columns.as_slice(), found)
 }
 
+/// The substitution of a column by an equation of it and another one.
+fn equation_of(row: u32, column: u32, other: u32) -> Instance
+    ensures { result ≡ at.Reduction (reduction.DoubletonEquation row column other) }
+{
+    Instance::Reduction(Reduction::DoubletonEquation { row, column, other })
+}
+
+/// Adds those of the two columns of a row that can be substituted, in either order.
+fn add_orders(
+    problem: &Problem,
+    row: u32,
+    terms: &[Term],
+    found: &mut Vec<Instance>,
+) -> Result<(), AllocError>
+    ensures { OnOk result (found.new.items ≡ found.old.items ++ filter (enabled_on problem.now) (map (λ x. at.Reduction (reduction.DoubletonEquation row x.0 x.1)) (both_orders terms.now))) }
+{
+    if let [first, second] = terms {
+        add_one(problem, equation_of(row, first.id, second.id), found)?;
+        add_one(problem, equation_of(row, second.id, first.id), found)?;
+    }
+    Ok(())
+}
+
+/// Adds the columns that a row of two entries can substitute.
+#[tactic(auto, using(crate::proofs::Scanning::no_orders))]
+fn add_substituted(
+    alloc: Global,
+    problem: &Problem,
+    row: u32,
+    found: &mut Vec<Instance>,
+) -> Result<(), AllocError>
+    ensures { OnOk result (found.new.items ≡ found.old.items ++ filter (enabled_on problem.now) (map (λ x. at.Reduction (reduction.DoubletonEquation row x.0 x.1)) (both_orders (row_entries problem.now row)))) }
+{
+    if problem.live_row_entries(row) == 2 {
+        let terms = problem.row_terms(alloc, row)?;
+        add_orders(problem, row, terms.as_slice(), found)?;
+    }
+    Ok(())
+}
+
+/// The row of the only one of some terms; none where there are more, or none.
+fn only_row(terms: &[Term]) -> Option<u32>
+    ensures some { IfSome result (λ row. sole_row_of terms.now ≡ row ∷ []) }
+    ensures none { IfNone result (sole_row_of terms.now ≡ []) }
+{
+    match terms {
+        [term] => Some(term.id),
+        _ => None,
+    }
+}
+
+/// The row of a column that has one entry.
+#[tactic(auto, using(crate::proofs::Scanning::no_sole))]
+fn sole_row(alloc: Global, problem: &Problem, column: u32) -> Result<Option<u32>, AllocError>
+    ensures some { IfOk result (λ r. IfSome r (λ row. sole_row_of (column_entries problem.now column) ≡ row ∷ [])) }
+    ensures none { IfOk result (λ r. IfNone r (sole_row_of (column_entries problem.now column) ≡ [])) }
+{
+    if problem.live_column_entries(column) != 1 {
+        return Ok(None);
+    }
+    let terms = problem.column_terms(alloc, column)?;
+    Ok(only_row(terms.as_slice()))
+}
+
+/// Adds a column with one entry, if it can leave with its row.
+fn add_free(
+    alloc: Global,
+    problem: &Problem,
+    column: u32,
+    found: &mut Vec<Instance>,
+) -> Result<(), AllocError>
+    ensures { OnOk result (found.new.items ≡ found.old.items ++ filter (enabled_on problem.now) (map (λ i. at.Reduction (reduction.FreeColumn column i)) (sole_row_of (column_entries problem.now column)))) }
+{
+    match sole_row(alloc, problem, column)? {
+        Some(row) => add_one(
+            problem,
+            Instance::Reduction(Reduction::FreeColumn { column, row }),
+            found,
+        ),
+        None => Ok(()),
+    }
+}
+
+/// Adds a column with one entry, if it can leave as a slack of its row.
+fn add_slack(
+    alloc: Global,
+    problem: &Problem,
+    column: u32,
+    found: &mut Vec<Instance>,
+) -> Result<(), AllocError>
+    ensures { OnOk result (found.new.items ≡ found.old.items ++ filter (enabled_on problem.now) (map (λ i. at.Reduction (reduction.SlackColumn column i)) (sole_row_of (column_entries problem.now column)))) }
+{
+    match sole_row(alloc, problem, column)? {
+        Some(row) => add_one(
+            problem,
+            Instance::Reduction(Reduction::SlackColumn { column, row }),
+            found,
+        ),
+        None => Ok(()),
+    }
+}
+
 /// Adds the enabled instances of a rule with a first id that are open, in their order.
 pub fn add_enabled(
     alloc: Global,
@@ -158,6 +261,9 @@ pub fn add_enabled(
         Rule::TightenedCoefficient => return add_shrinking(alloc, problem, id, found),
         Rule::FixedByCost => Instance::Reduction(Reduction::FixedByCost { column: id }),
         Rule::DominatedColumn => return add_dominated(alloc, problem, id, found),
+        Rule::DoubletonEquation => return add_substituted(alloc, problem, id, found),
+        Rule::FreeColumn => return add_free(alloc, problem, id, found),
+        Rule::SlackColumn => return add_slack(alloc, problem, id, found),
         Rule::EmptyColumn => Instance::Reduction(Reduction::EmptyColumn { column: id }),
     };
     add_one(problem, instance, found)

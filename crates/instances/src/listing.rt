@@ -22,7 +22,7 @@ pub fn verdict_rules() -> [Rule; 4]
 }
 
 /// The rules of reductions in order.
-pub fn reduction_rules() -> [Rule; 12]
+pub fn reduction_rules() -> [Rule; 15]
     ensures { result ≡ reduction_order }
 {
     [
@@ -37,6 +37,9 @@ pub fn reduction_rules() -> [Rule; 12]
         Rule::TightenedCoefficient,
         Rule::FixedByCost,
         Rule::DominatedColumn,
+        Rule::DoubletonEquation,
+        Rule::FreeColumn,
+        Rule::SlackColumn,
         Rule::EmptyColumn,
     ]
 }
@@ -55,9 +58,11 @@ pub fn reach_of(rule: Rule) -> Reach
         | Rule::RedundantSide
         | Rule::ForcingRow
         | Rule::TightenedBound
-        | Rule::TightenedCoefficient => Reach::RowsOfBounds,
+        | Rule::TightenedCoefficient
+        | Rule::DoubletonEquation => Reach::RowsOfBounds,
         Rule::Ray | Rule::FixedByCost => Reach::ColumnsOfSides,
         Rule::DominatedColumn => Reach::RowsOfBoth,
+        Rule::FreeColumn | Rule::SlackColumn => Reach::SoleColumns,
     }
 }
 
@@ -67,7 +72,7 @@ pub fn is_of_rows(rule: Rule) -> bool
 {
     match reach_of(rule) {
         Reach::OwnRow | Reach::RowsOfBounds | Reach::RowsOfBoth => true,
-        Reach::OwnColumn | Reach::ColumnsOfSides => false,
+        Reach::OwnColumn | Reach::ColumnsOfSides | Reach::SoleColumns => false,
     }
 }
 
@@ -86,6 +91,9 @@ fn rule_of_reduction(reduction: Reduction) -> Rule
         Reduction::TightenedCoefficient { .. } => Rule::TightenedCoefficient,
         Reduction::FixedByCost { .. } => Rule::FixedByCost,
         Reduction::DominatedColumn { .. } => Rule::DominatedColumn,
+        Reduction::DoubletonEquation { .. } => Rule::DoubletonEquation,
+        Reduction::FreeColumn { .. } => Rule::FreeColumn,
+        Reduction::SlackColumn { .. } => Rule::SlackColumn,
         Reduction::EmptyColumn { .. } => Rule::EmptyColumn,
     }
 }
@@ -126,6 +134,9 @@ fn reduction_rests(reduction: Reduction) -> bool
         | Reduction::ForcingRow { .. }
         | Reduction::FixedByCost { .. }
         | Reduction::DominatedColumn { .. }
+        | Reduction::DoubletonEquation { .. }
+        | Reduction::FreeColumn { .. }
+        | Reduction::SlackColumn { .. }
         | Reduction::EmptyColumn { .. } => false,
     }
 }
@@ -170,6 +181,9 @@ pub fn shares_reading(rule: Rule) -> bool
         | Rule::ForcingRow
         | Rule::FixedByCost
         | Rule::DominatedColumn
+        | Rule::DoubletonEquation
+        | Rule::FreeColumn
+        | Rule::SlackColumn
         | Rule::EmptyColumn => false,
     }
 }

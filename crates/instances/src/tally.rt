@@ -110,6 +110,9 @@ impl Tally {
             | Reduction::TightenedCoefficient { .. }
             | Reduction::FixedByCost { .. }
             | Reduction::DominatedColumn { .. }
+            | Reduction::DoubletonEquation { .. }
+            | Reduction::FreeColumn { .. }
+            | Reduction::SlackColumn { .. }
             | Reduction::EmptyColumn { .. } => (),
         }
     }

@@ -11,7 +11,7 @@ use Rattle.lp_model.specs.declared.terms.Term.{Term}
 use Rattle.problem_model.specs.declared.part.Contents.TheVariants as holding
 use Rattle.problem_model.specs.declared.part.Part.TheVariants as part
 use Rattle.problem_model.specs.declared.part.Read.{Read}
-use Rattle.problem_model.specs.Problems.{row_at, row_entries}
+use Rattle.problem_model.specs.Problems.{column_at, column_entries, cost_at, row_at, row_entries}
 use Rattle.problem_model.specs.Reading.{read_of}
 use Rattle.problem_model.specs.Sparse.{Sparse}
 use Rattle.rule_words.specs.Reading.{terms_in}
@@ -54,6 +54,35 @@ alike_by_row f p i g later each = by (row_cases f p i later)
     by : (row_entries f i ≡ row_entries p i) ⊎ ((e : Instance) → ReadsRow f p i e → enabled_on p e ≡ true → IsFresh f p e → ⊥) → IsAlikeFrom f p (g (row_entries f i)) (g (row_entries p i))
     by (inl same) = inl (ap g same)
     by (inr none) = inr (λ e c. none e (each (row_entries f i) e c), λ e c. none e (each (row_entries p i) e c))
+
+-- ---- the same of a column
+-- it reads column j, and is enabled where that is live
+pub record ReadsColumn (f p : Sparse) (j : ℕ) (e : Instance) : Type 0 where
+  pub reads : IsFresh f p e → read_of p (part.Col j) ≡ read_of f (part.Col j)
+  pub live : enabled_on p e ≡ true → (column_at p j).live ≡ true
+
+pub column_cases : (f p : Sparse) (j : ℕ) → IsLaterAt f p (part.Col j) → (column_entries f j ≡ column_entries p j) ⊎ ((e : Instance) → ReadsColumn f p j e → enabled_on p e ≡ true → IsFresh f p e → ⊥)
+column_cases f p j later = by later (column_at p j).live (column_at f j).live refl refl
+  where
+    by : IsLaterAt f p (part.Col j) → (a b : Bool) → (column_at p j).live ≡ a → (column_at f j).live ≡ b → (column_entries f j ≡ column_entries p j) ⊎ ((e : Instance) → ReadsColumn f p j e → enabled_on p e ≡ true → IsFresh f p e → ⊥)
+    by (inr l) a b x y = inr (λ e h on fresh. let n = ap (λ (r : Read). r.changes) (h.reads fresh) in omega (arith, l, n))
+    by (inl same) false b x y = inr (λ e h on fresh. true≢false (sym (h.live on) ∙ x))
+    by (inl same) true b x y = inl (entries b y)
+      where
+        holds : (if (column_at p j).live then holding.Column (column_entries p j) (cost_at p j) else holding.Gone) ≡ (if (column_at f j).live then holding.Column (column_entries f j) (cost_at f j) else holding.Gone)
+        holds = ap (λ (r : Read). r.contents) same
+
+        entries : (d : Bool) → (column_at f j).live ≡ d → column_entries f j ≡ column_entries p j
+        entries true e = sym (ap terms_in (sym (ap (λ (t : Bool). if t then holding.Column (column_entries p j) (cost_at p j) else holding.Gone) x) ∙ holds ∙ ap (λ (t : Bool). if t then holding.Column (column_entries f j) (cost_at f j) else holding.Gone) e))
+        entries false e = absurd (let z : holding.Column (column_entries p j) (cost_at p j) ≡ holding.Gone = sym (ap (λ (t : Bool). if t then holding.Column (column_entries p j) (cost_at p j) else holding.Gone) x) ∙ holds ∙ ap (λ (t : Bool). if t then holding.Column (column_entries f j) (cost_at f j) else holding.Gone) e in cc)
+
+pub alike_by_column : (f p : Sparse) (j : ℕ) (g : List Term → List Instance) → IsLaterAt f p (part.Col j) → ((ts : List Term) (e : Instance) → Contains (g ts) e → ReadsColumn f p j e)
+    → IsAlikeFrom f p (g (column_entries f j)) (g (column_entries p j))
+alike_by_column f p j g later each = by (column_cases f p j later)
+  where
+    by : (column_entries f j ≡ column_entries p j) ⊎ ((e : Instance) → ReadsColumn f p j e → enabled_on p e ≡ true → IsFresh f p e → ⊥) → IsAlikeFrom f p (g (column_entries f j)) (g (column_entries p j))
+    by (inl same) = inl (ap g same)
+    by (inr none) = inr (λ e c. none e (each (column_entries f j) e c), λ e c. none e (each (column_entries p j) e c))
 
 -- ---- those that are open
 module _ (f p : Sparse) (opens now : Open) (moves : Moves f p opens now) where

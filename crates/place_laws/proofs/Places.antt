@@ -6,18 +6,18 @@ use Rattle.problem_model.specs.declared.part.Part.TheVariants as part
 use Rattle.problem_model.specs.Sparse.{Sparse}
 use Rattle.presolve_model.specs.declared.instance.Instance.{Instance}
 use Rattle.presolve_model.specs.declared.instance.Instance.TheVariants as at
-use Rattle.presolve_model.specs.declared.instance.Reduction.TheVariants.{EmptyRow, SingletonRow, FixedColumn, RoundBounds, RedundantRow, RedundantSide, ForcingRow, TightenedBound, TightenedCoefficient, FixedByCost, DominatedColumn, EmptyColumn}
+use Rattle.presolve_model.specs.declared.instance.Reduction.TheVariants.{EmptyRow, SingletonRow, FixedColumn, RoundBounds, RedundantRow, RedundantSide, ForcingRow, TightenedBound, TightenedCoefficient, FixedByCost, DominatedColumn, DoubletonEquation, FreeColumn, SlackColumn, EmptyColumn}
 use Rattle.presolve_model.specs.declared.instance.Verdict.{Verdict}
 use Rattle.presolve_model.specs.declared.instance.Verdict.TheVariants.{CrossedBounds, CrossedSides, OutOfReach, Ray}
 use Rattle.presolve_model.specs.declared.instance.Rule.{Rule}
 use Rattle.presolve_model.specs.declared.instance.Rule.TheVariants as rule
 use Rattle.presolve_model.specs.Enabled.{enabled_on, reads}
-use Rattle.presolve_model.specs.Instances.{id_at, id_count, instances_from, is_open, reach_of, rule_at}
+use Rattle.presolve_model.specs.Instances.{both_orders, id_at, id_count, instances_from, is_open, reach_of, rule_at, sole_row}
 use Rattle.presolve_model.specs.Order.{verdict_order}
 use Rattle.presolve_model.proofs.ByCases.{IsListed, reductions_listed, verdicts_listed}
 use Rattle.place_laws.specs.Choosing.{columns_with, Leads, rows_with}
 use Rattle.place_laws.specs.Standing.{IsLaterAt, Moves}
-use Rattle.place_laws.proofs.Alike.{IsAlikeFrom, ReadsRow, alike_by_bounds, alike_by_row}
+use Rattle.place_laws.proofs.Alike.{IsAlikeFrom, ReadsColumn, ReadsRow, alike_by_bounds, alike_by_column, alike_by_row}
 use Rattle.presolve_model.specs.Tallies.{Open}
 use Rattle.undo_records.specs.declared.side.Side.{Side}
 use Rattle.activity_laws.specs.Rows.{heads}
@@ -37,13 +37,16 @@ use Rattle.undo_records.specs.declared.side.Side.TheVariants.{Lower, Upper}
 use Rattle.presolve_model.specs.declared.instance.Reduction.{Reduction}
 use Rattle.problem_model.specs.Reading.{Agrees, read_of}
 use Rattle.lp_model.specs.declared.terms.Term.{Term}
-use Rattle.place_laws.proofs.Near.{by_column, by_pair, by_row, row_names}
+use Rattle.place_laws.proofs.Near.{by_column, by_equation, by_free, by_pair, by_row, by_slack, row_names}
 use Rattle.place_laws.proofs.ShortLists.{alone, each_mapped, four_in, kept_passes, none_in, one_in, two_in}
-use Rattle.problem_model.specs.Problems.{IsSparse, row_at, row_entries}
+use Rattle.problem_model.specs.Problems.{column_entries, IsSparse, row_at, row_entries}
 use Rattle.dual_laws.specs.DominatedColumn.{pairs_of}
 use Rattle.dual_laws.proofs.FixedByCost as fixed_by_cost
 use Rattle.dual_laws.proofs.DominatedColumn as dominated_column
 use Rattle.dual_laws.proofs.Ray as ray
+use Rattle.aggregation_laws.proofs.DoubletonEquation as doubleton_equation
+use Rattle.column_laws.proofs.FreeColumn as free_column
+use Rattle.column_laws.proofs.SlackColumn as slack_column
 
 -- ---- what an enabled instance reads leads to its first id
 pub reads_near : (p : Sparse) → IsSparse p → (e : Instance) → enabled_on p e ≡ true → (a : Part) → Contains (reads p e) a → Leads p (reach_of (rule_at e)) a (id_at e)
@@ -62,6 +65,9 @@ reads_near p s (at.Reduction (TightenedBound i j side)) on a c = by_row p s i (s
 reads_near p s (at.Reduction (TightenedCoefficient i j)) on a c = by_row p s i (said (is_tightened j) p i on).live a c
 reads_near p s (at.Reduction (FixedByCost j)) on a c = by_column p s j (fixed_by_cost.said p j on).live a c
 reads_near p s (at.Reduction (DominatedColumn i j k)) on a c = by_pair p s i j k (dominated_column.said p i j k on) a c
+reads_near p s (at.Reduction (DoubletonEquation i j k)) on a c = by_equation p s i j k (doubleton_equation.said p i j k on) a c
+reads_near p s (at.Reduction (FreeColumn j i)) on a c = let d = free_column.said p j i on in by_free p s j i d.row_live d.column.live d.column.sole_there a c
+reads_near p s (at.Reduction (SlackColumn j i)) on a c = let d = slack_column.said p j i on in by_slack p s j i d.row_live d.column_live d.sole_there a c
 reads_near p s (at.Reduction (EmptyColumn j)) on a c = two_in (λ (b : Part). Contains (columns_with b) j) (part.Col j) (part.Bounds j) a (alone j) (alone j) c
 
 -- ---- an instance among those of a rule with a first id has them, and is open
@@ -81,6 +87,9 @@ from_is opens p rule.TightenedBound i e c = each_mapped (λ (x : Instance). (rul
 from_is opens p rule.TightenedCoefficient i e c = each_mapped (λ (x : Instance). (rule_at x ≡ rule.TightenedCoefficient) × (id_at x ≡ i) × (is_open opens x ≡ true)) (λ j. at.Reduction (TightenedCoefficient i j)) (map (λ (t : Term). t.id) (row_entries p i)) e (λ x d. (refl, refl, refl)) c
 from_is opens p rule.FixedByCost j e c = one_in (λ (x : Instance). (rule_at x ≡ rule.FixedByCost) × (id_at x ≡ j) × (is_open opens x ≡ true)) (at.Reduction (FixedByCost j)) e (refl, refl, refl) c
 from_is opens p rule.DominatedColumn i e c = each_mapped (λ (x : Instance). (rule_at x ≡ rule.DominatedColumn) × (id_at x ≡ i) × (is_open opens x ≡ true)) (λ x. at.Reduction (DominatedColumn i x.0 x.1)) (pairs_of (row_entries p i)) e (λ x d. (refl, refl, refl)) c
+from_is opens p rule.DoubletonEquation i e c = each_mapped (λ (x : Instance). (rule_at x ≡ rule.DoubletonEquation) × (id_at x ≡ i) × (is_open opens x ≡ true)) (λ x. at.Reduction (DoubletonEquation i x.0 x.1)) (both_orders (row_entries p i)) e (λ x d. (refl, refl, refl)) c
+from_is opens p rule.FreeColumn j e c = each_mapped (λ (x : Instance). (rule_at x ≡ rule.FreeColumn) × (id_at x ≡ j) × (is_open opens x ≡ true)) (λ i. at.Reduction (FreeColumn j i)) (sole_row (column_entries p j)) e (λ i d. (refl, refl, refl)) c
+from_is opens p rule.SlackColumn j e c = each_mapped (λ (x : Instance). (rule_at x ≡ rule.SlackColumn) × (id_at x ≡ j) × (is_open opens x ≡ true)) (λ i. at.Reduction (SlackColumn j i)) (sole_row (column_entries p j)) e (λ i d. (refl, refl, refl)) c
 from_is opens p rule.EmptyColumn j e c = one_in (λ (x : Instance). (rule_at x ≡ rule.EmptyColumn) × (id_at x ≡ j) × (is_open opens x ≡ true)) (at.Reduction (EmptyColumn j)) e (refl, refl, refl) c
 
 -- ---- the instances of a rule with a first id are those of a problem before, or none of both lists is enabled and reads what it read there
@@ -133,6 +142,12 @@ from_stand opens now f p moves later rule.TightenedCoefficient i = alike_by_row 
 from_stand opens now f p moves later rule.FixedByCost j = inl refl
 from_stand opens now f p moves later rule.DominatedColumn i = alike_by_row f p i (λ ts. map (λ x. at.Reduction (DominatedColumn i x.0 x.1)) (pairs_of ts)) (later (part.Row i))
     (λ ts e c. each_mapped (λ (x : Instance). ReadsRow f p i x) (λ x. at.Reduction (DominatedColumn i x.0 x.1)) (pairs_of ts) e (λ x d. record { reads = λ h. let g = h in cc; live = λ on. (dominated_column.said p i x.0 x.1 on).row_live }) c)
+from_stand opens now f p moves later rule.DoubletonEquation i = alike_by_row f p i (λ ts. map (λ x. at.Reduction (DoubletonEquation i x.0 x.1)) (both_orders ts)) (later (part.Row i))
+    (λ ts e c. each_mapped (λ (x : Instance). ReadsRow f p i x) (λ x. at.Reduction (DoubletonEquation i x.0 x.1)) (both_orders ts) e (λ x d. record { reads = λ h. let g = h in cc; live = λ on. (doubleton_equation.said p i x.0 x.1 on).row_on }) c)
+from_stand opens now f p moves later rule.FreeColumn j = alike_by_column f p j (λ ts. map (λ i. at.Reduction (FreeColumn j i)) (sole_row ts)) (later (part.Col j))
+    (λ ts e c. each_mapped (λ (x : Instance). ReadsColumn f p j x) (λ i. at.Reduction (FreeColumn j i)) (sole_row ts) e (λ i d. record { reads = λ h. let g = h in cc; live = λ on. (free_column.said p j i on).column.live }) c)
+from_stand opens now f p moves later rule.SlackColumn j = alike_by_column f p j (λ ts. map (λ i. at.Reduction (SlackColumn j i)) (sole_row ts)) (later (part.Col j))
+    (λ ts e c. each_mapped (λ (x : Instance). ReadsColumn f p j x) (λ i. at.Reduction (SlackColumn j i)) (sole_row ts) e (λ i d. record { reads = λ h. let g = h in cc; live = λ on. (slack_column.said p j i on).column_live }) c)
 from_stand opens now f p moves later rule.EmptyColumn j = inl refl
 
 -- ---- the instances of the rules of verdicts are verdicts

@@ -9,7 +9,7 @@ use Rattle.problem_model.specs.Problems.{column_entries, row_entries}
 use Rattle.problem_model.specs.Sparse.{Sparse}
 use Rattle.presolve_model.specs.declared.instance.Instance.{Instance}
 use Rattle.presolve_model.specs.declared.instance.Reach.{Reach}
-use Rattle.presolve_model.specs.declared.instance.Reach.TheVariants.{OwnRow, OwnColumn, RowsOfBounds, ColumnsOfSides, RowsOfBoth}
+use Rattle.presolve_model.specs.declared.instance.Reach.TheVariants.{OwnRow, OwnColumn, RowsOfBounds, ColumnsOfSides, RowsOfBoth, SoleColumns}
 use Rattle.presolve_model.specs.declared.instance.Rule.{Rule}
 use Rattle.presolve_model.specs.Enabled.{enabled_on}
 use Rattle.presolve_model.specs.Given.{Proposed}
@@ -30,6 +30,7 @@ pub record Around : Type 0 where
   pub rows_of_bounds : List ℕ
   pub columns_of_sides : List ℕ
   pub rows_of_both : List ℕ
+  pub sole_columns : List ℕ
 
 abbrev pub within : Around → Reach → List ℕ
 within n OwnRow = n.own.rows
@@ -37,6 +38,7 @@ within n OwnColumn = n.own.columns
 within n RowsOfBounds = n.rows_of_bounds
 within n ColumnsOfSides = n.columns_of_sides
 within n RowsOfBoth = n.rows_of_both
+within n SoleColumns = n.sole_columns
 
 -- the first ids of a rule among them
 abbrev pub ids_of : Around → Rule → List ℕ
@@ -47,7 +49,7 @@ abbrev pub all_places : Sparse → Places
 all_places p = record { rows = range_with_len 0 (length p.matrix.rows); columns = range_with_len 0 (length p.matrix.columns) }
 
 abbrev pub all_around : Sparse → Around
-all_around p = record { own = all_places p; rows_of_bounds = (all_places p).rows; columns_of_sides = (all_places p).columns; rows_of_both = (all_places p).rows }
+all_around p = record { own = all_places p; rows_of_bounds = (all_places p).rows; columns_of_sides = (all_places p).columns; rows_of_both = (all_places p).rows; sole_columns = (all_places p).columns }
 
 -- the row or the column of a part
 abbrev pub rows_with : Part → List ℕ
@@ -87,13 +89,18 @@ StandsIn p js k = (j : ℕ) × Contains js j × (has k (column_entries p j) ≡ 
 abbrev pub StandsOn : Sparse → List ℕ → ℕ → Type 0
 StandsOn p is k = (i : ℕ) × Contains is i × (has k (row_entries p i) ≡ true)
 
+-- a part leads to row i: its own, or one in which the column stands whose bounds it is
+abbrev pub LeadsToRow : Sparse → Part → ℕ → Type 0
+LeadsToRow p a i = Contains (rows_with a) i ⊎ StandsIn p (bounds_with a) i
+
 -- a part leads to row or column k: the first id of what reads it may be there
 abbrev pub Leads : Sparse → Reach → Part → ℕ → Type 0
 Leads p OwnRow a k = Contains (rows_with a) k
 Leads p OwnColumn a k = Contains (columns_with a) k
-Leads p RowsOfBounds a k = Contains (rows_with a) k ⊎ StandsIn p (bounds_with a) k
+Leads p RowsOfBounds a k = LeadsToRow p a k
 Leads p ColumnsOfSides a k = Contains (columns_with a) k ⊎ StandsOn p (sides_with a) k
 Leads p RowsOfBoth a k = Contains (rows_with a) k ⊎ ((j : ℕ) × (Contains (columns_with a) j ⊎ StandsOn p (sides_with a) j) × (has k (column_entries p j) ≡ true))
+Leads p SoleColumns a k = (length (column_entries p k) ≡ 1) × (Contains (columns_with a) k ⊎ ((i : ℕ) × LeadsToRow p a i × (has k (row_entries p i) ≡ true)))
 
 -- what parts lead to is among these
 abbrev pub HoldsLed : Sparse → Reach → List Part → List ℕ → Type 0
@@ -117,6 +124,7 @@ pub record AreSorted (n : Around) : Type 0 where
   pub rows_of_bounds : AscendsFrom 0 n.rows_of_bounds
   pub columns_of_sides : AscendsFrom 0 n.columns_of_sides
   pub rows_of_both : AscendsFrom 0 n.rows_of_both
+  pub sole_columns : AscendsFrom 0 n.sole_columns
 
 -- each enabled instance that is open has its first id there
 abbrev pub HasEach : Open → Sparse → Around → Type 0

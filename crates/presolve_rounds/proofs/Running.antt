@@ -32,7 +32,7 @@ use Rattle.place_laws.specs.Choosing.{all_around, AreSorted, Around, HoldsAround
 use Rattle.dual_laws.specs.declared.form.Form.{Form}
 use Rattle.dual_laws.specs.Forms.{LetsByCost, LetsInPairs}
 use Rattle.presolve_model.specs.declared.instance.Reach.{Reach}
-use Rattle.presolve_model.specs.declared.instance.Reach.TheVariants.{OwnRow, OwnColumn, RowsOfBounds, ColumnsOfSides, RowsOfBoth}
+use Rattle.presolve_model.specs.declared.instance.Reach.TheVariants.{OwnRow, OwnColumn, RowsOfBounds, ColumnsOfSides, RowsOfBoth, SoleColumns}
 use Rattle.place_laws.specs.Marks.{AreStirred, Grows, IsMarked, IsNoted, is_refusal, LetsNoMore, Marks, parts_for}
 use Rattle.place_laws.specs.Standing.{IsFresh}
 use Rattle.round_laws.specs.Passing.{Follows, IsSameBook, Passed}
@@ -81,6 +81,7 @@ over_counts OwnColumn k a = (more_in k.noted a).1
 over_counts RowsOfBounds k a = (more_in k.noted a).1
 over_counts ColumnsOfSides k a = (more_in k.stirred a).1
 over_counts RowsOfBoth k a = (more_in k.roused a).1
+over_counts SoleColumns k a = (more_in k.noted a).1
 
 more_noted : (k : Marks) (a : Part) → Grows k (record k { noted = k.noted ++ a ∷ [] })
 more_noted k a = record { noted = (more_in k.noted a).0; stirred = λ x c. c; roused = λ x c. c; asleep = λ x c. c }
@@ -91,6 +92,7 @@ over_grows OwnColumn k a = more_noted k a
 over_grows RowsOfBounds k a = more_noted k a
 over_grows ColumnsOfSides k a = record { noted = λ x c. c; stirred = (more_in k.stirred a).0; roused = λ x c. c; asleep = λ x c. c }
 over_grows RowsOfBoth k a = record { noted = λ x c. c; stirred = λ x c. c; roused = (more_in k.roused a).0; asleep = λ x c. c }
+over_grows SoleColumns k a = more_noted k a
 
 pub over_noted : (p q : Sparse) (n : List Part) (r : Reach) (k : Marks) (a : Part) → AreNoted p q n k.noted → AreNoted p q n (left_for r k a).noted
 over_noted p q n OwnRow k a h = noted_more p q n k.noted a h
@@ -98,6 +100,7 @@ over_noted p q n OwnColumn k a h = noted_more p q n k.noted a h
 over_noted p q n RowsOfBounds k a h = noted_more p q n k.noted a h
 over_noted p q n ColumnsOfSides k a h = h
 over_noted p q n RowsOfBoth k a h = h
+over_noted p q n SoleColumns k a h = noted_more p q n k.noted a h
 
 pub over_stirred : (p q : Sparse) (n : Marks) (r : Reach) (k : Marks) (a : Part) → AreStirred p q n k → AreStirred p q n (left_for r k a)
 over_stirred p q n OwnRow k a h = record { stirred = h.stirred; roused = h.roused }
@@ -105,6 +108,7 @@ over_stirred p q n OwnColumn k a h = record { stirred = h.stirred; roused = h.ro
 over_stirred p q n RowsOfBounds k a h = record { stirred = h.stirred; roused = h.roused }
 over_stirred p q n ColumnsOfSides k a h = record { stirred = lets_more LetsByCost p q n.stirred k.stirred a h.stirred; roused = h.roused }
 over_stirred p q n RowsOfBoth k a h = record { stirred = h.stirred; roused = lets_more LetsInPairs p q n.roused k.roused a h.roused }
+over_stirred p q n SoleColumns k a h = record { stirred = h.stirred; roused = h.roused }
 
 -- a stale instance is left over
 pub stale_left : (f : Ledger) (w v : Watched) (b : Ledger) (e : Instance) (a : Part) → IsGoing f w b → (IsFresh f.problem b.problem e → ⊥) → v ≡ record { marks = left_over w.marks e a; forms = w.forms } → Contains (heads e) a → IsPassed f (e ∷ []) w b v b
@@ -191,6 +195,7 @@ marked_reached b m h e on free = by (h e on free)
     among RowsOfBounds a c = noted a c
     among ColumnsOfSides a c = Contains-append_left counted m.asleep a (Contains-append_left (m.noted ++ m.stirred) m.roused a (Contains-append_right m.noted m.stirred a c))
     among RowsOfBoth a c = Contains-append_left counted m.asleep a (Contains-append_right (m.noted ++ m.stirred) m.roused a c)
+    among SoleColumns a c = noted a c
 
     by : IsMarked b.numbers b.problem m e → IsNoted b.problem (all_marked m) e
     by (inl (a, r, c)) = (a, r, among (reach_of (rule_at e)) a c)

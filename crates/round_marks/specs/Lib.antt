@@ -1,3 +1,4 @@
 pub mod Stamping
 pub mod Forming
 pub mod Marking
+pub mod Soles

@@ -6,6 +6,7 @@ ghost use Rattle.place_laws.specs.Choosing.{all_around, all_places, AreSorted, A
 ghost use Rattle.place_laws.specs.Marks.{Marks};
 
 use crate::ids::{add_across, bounds_of, columns_of, ids_below, rows_of, sides_of, sort_ids};
+use crate::soles::{add_soles, add_soles_of_rows};
 use instances::reach_of;
 use presolve_model::{Part, Reach, Rule};
 use sparse_problem::Problem;
@@ -102,6 +103,25 @@ fn rows_of_both(
     Ok(ids)
 }
 
+/// The columns with one entry among those of parts and those that stand in these rows, to which the parts lead.
+fn sole_columns(
+    alloc: Global,
+    problem: &Problem,
+    parts: &[Part],
+    rows: &[u32],
+) -> Result<Vec<u32>, AllocError>
+    requires { HoldsLed problem.now reach.RowsOfBounds parts.now rows.now }
+    ensures sorted { IfOk result (λ ids. AscendsFrom 0 ids.items) }
+    ensures holds { IfOk result (λ ids. HoldsLed problem.now reach.SoleColumns parts.now ids.items) }
+{
+    let columns = columns_of(alloc, parts)?;
+    let mut ids = Vec::new(alloc);
+    add_soles(problem, columns.as_slice(), &mut ids)?;
+    add_soles_of_rows(problem, rows, &mut ids)?;
+    sort_ids(&mut ids);
+    Ok(ids)
+}
+
 /// Where rules are looked for, by their reach. Each list ascends.
 #[derive(Drop)]
 pub struct Around {
@@ -109,6 +129,7 @@ pub struct Around {
     rows_of_bounds: Vec<u32>,
     columns_of_sides: Vec<u32>,
     rows_of_both: Vec<u32>,
+    sole_columns: Vec<u32>,
 }
 
 impl Model for Around {
@@ -116,7 +137,7 @@ impl Model for Around {
 
     ghost Value = { Around };
 
-    ghost view = { λ n. record { own = n.own; rows_of_bounds = n.rows_of_bounds.items; columns_of_sides = n.columns_of_sides.items; rows_of_both = n.rows_of_both.items } };
+    ghost view = { λ n. record { own = n.own; rows_of_bounds = n.rows_of_bounds.items; columns_of_sides = n.columns_of_sides.items; rows_of_both = n.rows_of_both.items; sole_columns = n.sole_columns.items } };
 }
 
 impl Around {
@@ -128,11 +149,13 @@ impl Around {
         let rows_of_bounds = ids_below(alloc, problem.row_count() as u32)?;
         let columns_of_sides = ids_below(alloc, problem.column_count() as u32)?;
         let rows_of_both = ids_below(alloc, problem.row_count() as u32)?;
+        let sole_columns = ids_below(alloc, problem.column_count() as u32)?;
         Ok(Around {
             own,
             rows_of_bounds,
             columns_of_sides,
             rows_of_both,
+            sole_columns,
         })
     }
 
@@ -152,11 +175,13 @@ impl Around {
         let columns_of_sides = columns_of_sides(alloc, problem, stirred)?;
         let columns_roused = self::columns_of_sides(alloc, problem, roused)?;
         let rows_of_both = rows_of_both(alloc, problem, roused, columns_roused.as_slice())?;
+        let sole_columns = sole_columns(alloc, problem, noted, rows_of_bounds.as_slice())?;
         Ok(Around {
             own,
             rows_of_bounds,
             columns_of_sides,
             rows_of_both,
+            sole_columns,
         })
     }
 
@@ -170,6 +195,7 @@ impl Around {
             Reach::RowsOfBounds => self.rows_of_bounds.as_slice(),
             Reach::ColumnsOfSides => self.columns_of_sides.as_slice(),
             Reach::RowsOfBoth => self.rows_of_both.as_slice(),
+            Reach::SoleColumns => self.sole_columns.as_slice(),
         }
     }
 }

@@ -6,5 +6,6 @@ pub mod around;
 mod forms;
 pub mod found;
 mod ids;
+mod soles;
 pub mod stamps;
 pub mod watch;

@@ -173,7 +173,9 @@ impl Watch {
         ensures { OnOk result (self.new ≡ record { marks = left_over self.old.marks instance part; forms = self.old.forms }) }
     {
         match reach_of(rule_of(instance)) {
-            Reach::OwnRow | Reach::OwnColumn | Reach::RowsOfBounds => self.noted.push(part)?,
+            Reach::OwnRow | Reach::OwnColumn | Reach::RowsOfBounds | Reach::SoleColumns => {
+                self.noted.push(part)?
+            }
             Reach::ColumnsOfSides => self.stirred.push(part)?,
             Reach::RowsOfBoth => self.roused.push(part)?,
         }
