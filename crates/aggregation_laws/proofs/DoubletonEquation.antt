@@ -34,6 +34,7 @@ use Rattle.problem_model.specs.declared.part.Contents.TheVariants as holding
 use Rattle.problem_model.specs.Allowed.{AreAllowed}
 use Rattle.problem_model.specs.Applied.{applied}
 use Rattle.problem_model.specs.EditedPrograms.{programs_edited}
+use Rattle.problem_model.specs.Edits.{row_deleted}
 use Rattle.problem_model.specs.Flags.{flags_of}
 use Rattle.problem_model.specs.LeftOut.{column_left_out}
 use Rattle.problem_model.specs.Matrices.{line_at}
@@ -342,7 +343,7 @@ module _ (p : Sparse) (s : IsSparse p) (i j k : ℕ) (f : SaidOf p i j k) where
   allowed : AreAllowed p (edits p i j k)
   allowed = allowed_more p entries (sides ++ joined) (set_allowed k (new_entry p k (factor p i j k)) ts p terms_live f.second_on)
       (allowed_more p1 sides joined (sweep_allowed low high ts p1 (λ x d l. row_stays (get_or ts x d).id ∙ terms_live x d l))
-      (column_stays k ∙ f.second_on, (column_stays k ∙ f.second_on, (tt, (row_there, (losing-live p2.matrix.columns i j ∙ column_stays j ∙ f.first_on, tt))))))
+      (column_stays k ∙ f.second_on, (column_stays k ∙ f.second_on, (tt, (row_there, (losing-live (row_deleted p2 i).matrix.rows p2.matrix.columns i j ∙ column_stays j ∙ f.first_on, tt))))))
 
   -- ---- what they add
   adds : doubleton_offset M i j r ≡ added_by (edits p i j k)

@@ -31,7 +31,7 @@ use Rattle.problem_model.specs.declared.edit.Edit.TheVariants.{AddOffset, Delete
 use Rattle.problem_model.specs.Allowed.{AreAllowed, NoEntries}
 use Rattle.problem_model.specs.Applied.{applied, edited}
 use Rattle.problem_model.specs.EditedPrograms.{programs_edited}
-use Rattle.problem_model.specs.Edits.{cost_set}
+use Rattle.problem_model.specs.Edits.{column_deleted, cost_set}
 use Rattle.problem_model.specs.Flags.{flags_of}
 use Rattle.problem_model.specs.Living.{all_flags_edited}
 use Rattle.problem_model.specs.Matrices.{line_at}
@@ -251,7 +251,7 @@ module _ (p : Sparse) (s : IsSparse p) (j i : ℕ) (f : IsSoleEntry p j i) where
   column_on q e = ap (λ g. (line_at g.columns j).live) e ∙ f.column
 
   pub out_allowed : (q : Sparse) → q.matrix ≡ p.matrix → AreAllowed q (DeleteColumn j ∷ DeleteRow i ∷ [])
-  out_allowed q e = (column_on q e, (losing-live q.matrix.rows j i ∙ row_on q e, tt))
+  out_allowed q e = (column_on q e, (losing-live (column_deleted q j).matrix.columns q.matrix.rows j i ∙ row_on q e, tt))
 
   program_is : (gain : Number) (es : List Edit) → programs_edited M (with_costs gain es) ≡ programs_edited costs_moved es
   program_is gain es = programs_more (costs_less p j i) (AddOffset gain ∷ es) M ∙ ap (λ (N : LinearProgram). programs_edited N es) (less_program p t M others)

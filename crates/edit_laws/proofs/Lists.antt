@@ -8,7 +8,7 @@ use Rattle.rational.specs.Ring.{ring, v, num, ◌:+◌}
 use Rattle.fractions.specs.declared.Numbers.{Numbers}
 use Rattle.problem_model.specs.declared.line.Line.{Line}
 use Rattle.problem_model.specs.declared.part.Part.{Part}
-use Rattle.problem_model.specs.Edits.{deleted, losing, lines_without, lines_losing, line_put, lines_put}
+use Rattle.problem_model.specs.Edits.{deleted, losing, lines_without, lines_losing, row_deleted, column_deleted, line_put, lines_put}
 use Rattle.problem_model.specs.Flags.{flags_of}
 use Rattle.problem_model.specs.Matrices.{line_at}
 use Rattle.problem_model.specs.Parts.{contents_of}
@@ -61,9 +61,9 @@ offset_applied p (e ∷ es) = offset_applied (edited p e) es ∙ ap (λ o. o +�
     ∙ ring rational (p.offset ∷ amount_of e ∷ added_by es ∷ []) (v 0 :+ v 1 :+ v 2) (v 0 :+ (v 1 :+ v 2)) refl
 
 -- ---- what is live
-lives_losing : (k : ℕ) (lines : List Line) → map (λ l. l.live) (lines_losing lines k) ≡ map (λ l. l.live) lines
-lives_losing k [] = refl
-lives_losing k (l ∷ ls) = ap₂ ◌∷◌ (losing_live k l) (lives_losing k ls)
+lives_losing : (others : List Line) (k : ℕ) (lines : List Line) → map (λ l. l.live) (lines_losing others lines k) ≡ map (λ l. l.live) lines
+lives_losing others k [] = refl
+lives_losing others k (l ∷ ls) = ap₂ ◌∷◌ (losing_live others k l) (lives_losing others k ls)
 
 lives_without : (lines : List Line) (k : ℕ) → map (λ l. l.live) (lines_without lines k) ≡ slice_set (map (λ l. l.live) lines) k false
 lives_without lines k = map-set (λ (l : Line). l.live) lines k (deleted (line_at lines k))
@@ -77,8 +77,8 @@ lives_put : (lines : List Line) (m k : ℕ) (a : Number) → map (λ l. l.live) 
 lives_put lines m k a = map-set (λ (l : Line). l.live) lines m (line_put k a (line_at lines m)) ∙ lives_same lines m
 
 flags_edit : (p : Sparse) (e : Edit) → flags_of (edited p e) ≡ flags_edited (flags_of p) e
-flags_edit p (DeleteRow i) t = record { rows = lives_without p.matrix.rows i t; columns = lives_losing i p.matrix.columns t }
-flags_edit p (DeleteColumn j) t = record { rows = lives_losing j p.matrix.rows t; columns = lives_without p.matrix.columns j t }
+flags_edit p (DeleteRow i) t = record { rows = lives_without p.matrix.rows i t; columns = lives_losing (row_deleted p i).matrix.rows i p.matrix.columns t }
+flags_edit p (DeleteColumn j) t = record { rows = lives_losing (column_deleted p j).matrix.columns j p.matrix.rows t; columns = lives_without p.matrix.columns j t }
 flags_edit p (SetSides i l u) t = flags_of p
 flags_edit p (SetBounds j l u) t = flags_of p
 flags_edit p (AddOffset k) t = flags_of p
@@ -91,8 +91,8 @@ flags_applied p (e ∷ es) = flags_applied (edited p e) es ∙ ap (λ f. all_fla
 
 -- ---- sizes
 size_edited : (p : Sparse) (e : Edit) → SameSize p (edited p e)
-size_edited p (DeleteRow i) = record { rows = length-set p.matrix.rows i _; columns = length-map p.matrix.columns (losing i); constant = refl }
-size_edited p (DeleteColumn j) = record { rows = length-map p.matrix.rows (losing j); columns = length-set p.matrix.columns j _; constant = refl }
+size_edited p (DeleteRow i) = record { rows = length-set p.matrix.rows i _; columns = length-map p.matrix.columns (losing (row_deleted p i).matrix.rows i); constant = refl }
+size_edited p (DeleteColumn j) = record { rows = length-map p.matrix.rows (losing (column_deleted p j).matrix.columns j); columns = length-set p.matrix.columns j _; constant = refl }
 size_edited p (SetSides i l u) = record { rows = refl; columns = refl; constant = refl }
 size_edited p (SetBounds j l u) = record { rows = refl; columns = refl; constant = refl }
 size_edited p (AddOffset k) = record { rows = refl; columns = refl; constant = refl }

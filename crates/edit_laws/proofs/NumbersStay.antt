@@ -1,9 +1,7 @@
 -- Edits leave all numbers of changes as they are, and let nothing live again.
-use Rattle.std.proofs.Common.{◌≡◌, ℕ, ◌<◌, pred, Bool, true, false, List, [], ◌∷◌, length, refl, sym, ap, ◌∙◌, Option}
-use Rattle.std.specs.Prelude.{if◌then◌else◌}
+use Rattle.std.proofs.Common.{◌≡◌, ℕ, ◌<◌, true, List, [], ◌∷◌, length, refl, sym, ap, ◌∙◌, Option}
 use Rattle.rational.specs.Number.{Number}
 use Rattle.rational.proofs.Totals.{at_or_off}
-use Rattle.lp_model.specs.Sparse.{has}
 use Rattle.problem_model.specs.declared.edit.Edit.{Edit}
 use Rattle.problem_model.specs.declared.edit.Edit.TheVariants.{DeleteRow, DeleteColumn, SetSides, SetBounds, AddOffset, SetCost, SetEntry}
 use Rattle.problem_model.specs.declared.line.Line.{Line}
@@ -13,12 +11,12 @@ use Rattle.problem_model.specs.declared.part.Part.{Part}
 use Rattle.problem_model.specs.declared.part.Part.TheVariants as part
 use Rattle.problem_model.specs.Allowed.{IsAllowed, AreAllowed}
 use Rattle.problem_model.specs.Applied.{edited, applied}
-use Rattle.problem_model.specs.Edits.{lines_without, lines_losing, lines_put, sides_set, bounds_set}
+use Rattle.problem_model.specs.Edits.{lines_without, lines_losing, lines_put, row_deleted, column_deleted, sides_set, bounds_set}
 use Rattle.problem_model.specs.Matrices.{line_at}
 use Rattle.problem_model.specs.Parts.{changes_of}
 use Rattle.problem_model.specs.Problems.{row_at, column_at, sides_at, bounds_at, IsSparse}
 use Rattle.problem_model.specs.Sparse.{Sparse}
-use Rattle.problem_laws.proofs.AtIds.{row_inside, column_inside, sides_inside, bounds_inside, without-same, without-other, without-dead, without-live, losing-at, losing-live, sides_set-same, sides_set-other, bounds_set-same, bounds_set-other}
+use Rattle.problem_laws.proofs.AtIds.{row_inside, column_inside, sides_inside, bounds_inside, without-same, without-other, without-dead, without-live, losing_changes, losing-at, losing-live, sides_set-same, sides_set-other, bounds_set-same, bounds_set-other}
 use Rattle.problem_laws.proofs.EntriesKept.{put-same_line, put-other_line, put_row_live, put_column_live}
 use Rattle.problem_laws.proofs.Single.{sparse_edited}
 use Rattle.problem_laws.proofs.Terms.{not_both}
@@ -29,15 +27,8 @@ count l = l.changes
 without_count : (lines : List Line) (k : ℕ) → k < length lines → (m : ℕ) → count (line_at (lines_without lines k) m) ≡ count (line_at lines m)
 without_count lines k l = at_or_off (λ m. count (line_at (lines_without lines k) m) ≡ count (line_at lines m)) k (ap count (without-same lines k l)) (λ m n. ap count (without-other lines k m n))
 
-abbrev lost : Bool → Line → Line
-lost b l = if b then record l { live_entries = pred l.live_entries } else l
-
-losing_count : (lines : List Line) (k m : ℕ) → count (line_at (lines_losing lines k) m) ≡ count (line_at lines m)
-losing_count lines k m = ap count (losing-at lines k m) ∙ by (has k (line_at lines m).entries)
-  where
-    by : (b : Bool) → count (lost b (line_at lines m)) ≡ count (line_at lines m)
-    by true = refl
-    by false = refl
+losing_count : (others lines : List Line) (k m : ℕ) → count (line_at (lines_losing others lines k) m) ≡ count (line_at lines m)
+losing_count others lines k m = ap count (losing-at others lines k m) ∙ losing_changes others k (line_at lines m)
 
 put_count : (lines : List Line) (m k : ℕ) (a : Number) → m < length lines → (x : ℕ) → count (line_at (lines_put lines m k a) x) ≡ count (line_at lines x)
 put_count lines m k a l = at_or_off (λ x. count (line_at (lines_put lines m k a) x) ≡ count (line_at lines x)) m (ap count (put-same_line lines m k a l)) (λ x n. ap count (put-other_line lines m k a x n))
@@ -57,8 +48,8 @@ by_part p q r s c b (part.Col j) = c j
 by_part p q r s c b (part.Bounds j) = b j
 
 pub changes_edited : (p : Sparse) (e : Edit) → IsSparse p → IsAllowed p e → (a : Part) → changes_of (edited p e) a ≡ changes_of p a
-changes_edited p (DeleteRow i) s h = by_part p (edited p (DeleteRow i)) (without_count p.matrix.rows i (row_inside p i h)) (λ k. refl) (losing_count p.matrix.columns i) (λ k. refl)
-changes_edited p (DeleteColumn j) s h = by_part p (edited p (DeleteColumn j)) (losing_count p.matrix.rows j) (λ k. refl) (without_count p.matrix.columns j (column_inside p j h)) (λ k. refl)
+changes_edited p (DeleteRow i) s h = by_part p (edited p (DeleteRow i)) (without_count p.matrix.rows i (row_inside p i h)) (λ k. refl) (losing_count (row_deleted p i).matrix.rows p.matrix.columns i) (λ k. refl)
+changes_edited p (DeleteColumn j) s h = by_part p (edited p (DeleteColumn j)) (losing_count (column_deleted p j).matrix.columns p.matrix.rows j) (λ k. refl) (without_count p.matrix.columns j (column_inside p j h)) (λ k. refl)
 changes_edited p (SetSides i l u) s h = by_part p (edited p (SetSides i l u)) (λ k. refl) (sides_count p i l u (sides_inside p i s h)) (λ k. refl) (λ k. refl)
 changes_edited p (SetBounds j l u) s h = by_part p (edited p (SetBounds j l u)) (λ k. refl) (λ k. refl) (λ k. refl) (bounds_count p j l u (bounds_inside p j s h))
 changes_edited p (AddOffset o) s h = by_part p (edited p (AddOffset o)) (λ k. refl) (λ k. refl) (λ k. refl) (λ k. refl)
@@ -85,8 +76,8 @@ without_lives lines k l = at_or_off (λ m. (line_at (lines_without lines k) m).l
     (λ h. absurd (not_both h (without-dead lines k l))) (λ m n h. sym (without-live lines k m n) ∙ h)
 
 pub lives_edited : (p : Sparse) (e : Edit) → IsAllowed p e → Lives p (edited p e)
-lives_edited p (DeleteRow i) h = record { rows = without_lives p.matrix.rows i (row_inside p i h); columns = λ j on. sym (losing-live p.matrix.columns i j) ∙ on }
-lives_edited p (DeleteColumn j) h = record { rows = λ i on. sym (losing-live p.matrix.rows j i) ∙ on; columns = without_lives p.matrix.columns j (column_inside p j h) }
+lives_edited p (DeleteRow i) h = record { rows = without_lives p.matrix.rows i (row_inside p i h); columns = λ j on. sym (losing-live (row_deleted p i).matrix.rows p.matrix.columns i j) ∙ on }
+lives_edited p (DeleteColumn j) h = record { rows = λ i on. sym (losing-live (column_deleted p j).matrix.columns p.matrix.rows j i) ∙ on; columns = without_lives p.matrix.columns j (column_inside p j h) }
 lives_edited p (SetSides i l u) h = record { rows = λ k on. on; columns = λ k on. on }
 lives_edited p (SetBounds j l u) h = record { rows = λ k on. on; columns = λ k on. on }
 lives_edited p (AddOffset o) h = record { rows = λ k on. on; columns = λ k on. on }

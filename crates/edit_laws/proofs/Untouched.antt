@@ -1,5 +1,5 @@
 -- What an edit doesn't touch stands as it did.
-use Rattle.std.proofs.Common.{◌≡◌, ◌≢◌, ℕ, pred, nat_eq, Bool, true, false, refl, ap, ◌∙◌, Option}
+use Rattle.std.proofs.Common.{◌≡◌, ◌≢◌, ℕ, pred, nat_eq, Bool, true, false, List, refl, ap, ◌∙◌, Option}
 use Rattle.std.specs.Prelude.{if◌then◌else◌}
 use Rattle.std.proofs.lemmas.Bool.{eq-eqb}
 use Rattle.std.proofs.lemmas.List.{get_or-set_other}
@@ -9,7 +9,7 @@ use Rattle.problem_model.specs.declared.line.Line.{Line}
 use Rattle.problem_model.specs.declared.part.Part.{Part}
 use Rattle.problem_model.specs.declared.part.Part.TheVariants as part
 use Rattle.problem_model.specs.declared.part.Contents.TheVariants as holds
-use Rattle.problem_model.specs.Edits.{losing, row_deleted, column_deleted, sides_set, bounds_set, offset_set, cost_set, entry_set}
+use Rattle.problem_model.specs.Edits.{thinned, losing, row_deleted, column_deleted, sides_set, bounds_set, offset_set, cost_set, entry_set}
 use Rattle.problem_model.specs.Matrices.{live_only}
 use Rattle.problem_model.specs.Parts.{contents_of}
 use Rattle.problem_model.specs.Problems.{row_at, column_at, sides_at, bounds_at, cost_at, row_entries, column_entries, IsSparse}
@@ -27,11 +27,8 @@ use Rattle.problem_laws.proofs.EntriesKept.{put_row_live, put_column_live, put-o
 apart : (k i : ℕ) → nat_eq k i ≡ false → k ≢ i
 apart k i h e = not_both (eq-eqb k i e) h
 
-abbrev lost : Bool → Line → Line
-lost b l = if b then record l { live_entries = pred l.live_entries } else l
-
-not_lost : (k : ℕ) (l : Line) → has k l.entries ≡ false → losing k l ≡ l
-not_lost k l h = ap (λ (b : Bool). lost b l) h
+not_lost : (others : List Line) (k : ℕ) (l : Line) → has k l.entries ≡ false → losing others k l ≡ l
+not_lost others k l h = ap (λ (b : Bool). if b then thinned others (record l { live_entries = pred l.live_entries }) else l) h
 
 -- ---- what parts hold, by what it is made of
 module _ (p q : Sparse) where
@@ -51,17 +48,17 @@ live_of : {k l : Line} → k ≡ l → k.live ≡ l.live
 live_of e = ap (λ (y : Line). y.live) e
 
 row_stays : (p : Sparse) (i : ℕ) (a : Part) → IsSparse p → (row_at p i).live ≡ true → touches p (DeleteRow i) a ≡ false → contents_of (row_deleted p i) a ≡ contents_of p a
-row_stays p i (part.Row k) s live h = let e = row_deleted-other p i k (apart k i h) in rows_hold p (row_deleted p i) k (live_of e) (row_deleted-row_entries p i (row_inside p i live) k)
+row_stays p i (part.Row k) s live h = let e = row_deleted-other p i k (apart k i h) in rows_hold p (row_deleted p i) k (live_of e) (row_deleted-row_entries p i k (apart k i h))
 row_stays p i (part.Sides k) s live h = sides_hold p (row_deleted p i) k (live_of (row_deleted-other p i k (apart k i h))) refl
-row_stays p i (part.Col j) s live h = columns_hold p (row_deleted p i) j (live_of (row_deleted-column p i j ∙ not_lost i (column_at p j) h))
+row_stays p i (part.Col j) s live h = columns_hold p (row_deleted p i) j (live_of (row_deleted-column p i j ∙ not_lost (row_deleted p i).matrix.rows i (column_at p j) h))
     (row_deleted-column_entries p i (row_inside p i live) j ∙ without-absent i (column_entries p j) (column_entries-has p j i live ∙ h)) refl
-row_stays p i (part.Bounds j) s live h = bounds_hold p (row_deleted p i) j (live_of (row_deleted-column p i j) ∙ losing_live i (column_at p j)) refl
+row_stays p i (part.Bounds j) s live h = bounds_hold p (row_deleted p i) j (live_of (row_deleted-column p i j) ∙ losing_live (row_deleted p i).matrix.rows i (column_at p j)) refl
 
 column_stays : (p : Sparse) (j : ℕ) (a : Part) → IsSparse p → (column_at p j).live ≡ true → touches p (DeleteColumn j) a ≡ false → contents_of (column_deleted p j) a ≡ contents_of p a
-column_stays p j (part.Row i) s live h = rows_hold p (column_deleted p j) i (live_of (column_deleted-row p j i ∙ not_lost j (row_at p i) h))
+column_stays p j (part.Row i) s live h = rows_hold p (column_deleted p j) i (live_of (column_deleted-row p j i ∙ not_lost (column_deleted p j).matrix.columns j (row_at p i) h))
     (column_deleted-row_entries p j (column_inside p j live) i ∙ without-absent j (row_entries p i) (row_entries-has p i j live ∙ h))
-column_stays p j (part.Sides i) s live h = sides_hold p (column_deleted p j) i (live_of (column_deleted-row p j i) ∙ losing_live j (row_at p i)) refl
-column_stays p j (part.Col k) s live h = let e = column_deleted-other p j k (apart k j h) in columns_hold p (column_deleted p j) k (live_of e) (column_deleted-column_entries p j (column_inside p j live) k) refl
+column_stays p j (part.Sides i) s live h = sides_hold p (column_deleted p j) i (live_of (column_deleted-row p j i) ∙ losing_live (column_deleted p j).matrix.columns j (row_at p i)) refl
+column_stays p j (part.Col k) s live h = let e = column_deleted-other p j k (apart k j h) in columns_hold p (column_deleted p j) k (live_of e) (column_deleted-column_entries p j k (apart k j h)) refl
 column_stays p j (part.Bounds k) s live h = bounds_hold p (column_deleted p j) k (live_of (column_deleted-other p j k (apart k j h))) refl
 
 sides_stay : (p : Sparse) (i : ℕ) (l u : Option Number) (a : Part) → touches p (SetSides i l u) a ≡ false → contents_of (sides_set p i l u) a ≡ contents_of p a

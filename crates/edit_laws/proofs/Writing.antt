@@ -3,7 +3,7 @@ use Rattle.std.proofs.Common.{◌≡◌, ℕ, Bool, true, false, List, [], ◌�
 use Rattle.std.specs.Prelude.{IfSome, if◌then◌else◌}
 use Rattle.std.specs.List.{All}
 use Rattle.std.proofs.lemmas.List.{get_or-set_same, get_or-set_other}
-use Rattle.std.proofs.lemmas.List.Elements.{All-cons, All-head, All-tail}
+use Rattle.std.proofs.lemmas.List.Elements.{All-cons, All-filter, All-head, All-tail}
 use Rattle.rational.specs.Compare.{eq_ℚ}
 use Rattle.rational.specs.Number.{Number, zero_ℚ}
 use Rattle.rational.proofs.Totals.{at_or_off}
@@ -13,12 +13,13 @@ use Rattle.lp_model.specs.Writable.{IsNear, WritableNumber, WritableBound}
 use Rattle.problem_model.specs.declared.line.Line.{Line}
 use Rattle.problem_model.specs.declared.line.Sides.{Sides}
 use Rattle.problem_model.specs.declared.line.Bounds.{Bounds}
-use Rattle.problem_model.specs.Edits.{row_deleted, column_deleted, sides_set, bounds_set, offset_set, cost_set, entry_set}
+use Rattle.problem_model.specs.Edits.{losing, row_deleted, column_deleted, sides_set, bounds_set, offset_set, cost_set, entry_set}
 use Rattle.lp_model.specs.Ends.{WidthFits, WidthIsWritten, IsWritten, AreNear, IsSided}
+use Rattle.problem_model.specs.Matrices.{line_at}
 use Rattle.problem_model.specs.Problems.{row_at, column_at, sides_at, bounds_at, cost_at, IsSparse}
 use Rattle.problem_model.specs.Sparse.{Sparse}
 use Rattle.problem_model.specs.Writing.{KeptSides, KeptColumn, IsWritable}
-use Rattle.problem_laws.proofs.AtIds.{without-dead, without-live, without-entries, losing-live, losing-entries, sides_set-same, sides_set-other, bounds_set-same, bounds_set-other, row_inside, column_inside, sides_inside, bounds_inside, cost_inside}
+use Rattle.problem_laws.proofs.AtIds.{without-dead, without-live, without-other, losing_keeps, losing-at, losing-live, sides_set-same, sides_set-other, bounds_set-same, bounds_set-other, row_inside, column_inside, sides_inside, bounds_inside, cost_inside}
 use Rattle.problem_laws.proofs.Terms.{not_both}
 use Rattle.problem_model.specs.Allowed.{IsAllowed}
 use Rattle.problem_model.specs.Applied.{edited}
@@ -29,6 +30,9 @@ use Rattle.problem_model.specs.declared.edit.Edit.TheVariants.{DeleteRow, Delete
 use Rattle.problem_laws.proofs.EntriesKept.{put_row_live, put_column_live, put-same_line, put-other_line}
 
 module _ (numbers : Numbers) where
+  abbrev IsWrittenTerm : Term → Type 0
+  IsWrittenTerm t = WritableNumber numbers t.value
+
   -- what a column keeps that is live as before, with the same bounds, cost and entries
   column_kept : (p q : Sparse) (k : ℕ) → cost_at q k ≡ cost_at p k → bounds_at q k ≡ bounds_at p k → (column_at q k).entries ≡ (column_at p k).entries → KeptColumn numbers p k → KeptColumn numbers q k
   column_kept p q k e f g c = record {
@@ -38,20 +42,29 @@ module _ (numbers : Numbers) where
     entries = subst (All (λ (t : Term). WritableNumber numbers t.value)) (sym g) c.entries;
   }
 
+  -- those that a line keeps where it loses one
+  all_losing : (others : List Line) (k : ℕ) (l : Line) → All IsWrittenTerm l.entries → All IsWrittenTerm (losing others k l).entries
+  all_losing others k l h = losing_keeps others k l (All IsWrittenTerm) h (All-filter (λ t. (line_at others t.id).live) IsWrittenTerm l.entries h)
+
   writable-row_deleted : (p : Sparse) (i : ℕ) → (row_at p i).live ≡ true → IsWritable numbers p → IsWritable numbers (row_deleted p i)
   writable-row_deleted p i live w = record {
     rows = at_or_off (λ k. (row_at (row_deleted p i) k).live ≡ true → KeptSides numbers (sides_at (row_deleted p i) k).lower (sides_at (row_deleted p i) k).upper) i
         (λ h. absurd (not_both h (without-dead p.matrix.rows i (row_inside p i live))))
         (λ k n h. (w.rows k (sym (without-live p.matrix.rows i k n) ∙ h)));
-    columns = λ j h. column_kept p (row_deleted p i) j refl refl (losing-entries p.matrix.columns i j) (w.columns j (sym (losing-live p.matrix.columns i j) ∙ h));
+    columns = λ j h. let left : List Line = (row_deleted p i).matrix.rows in let c = w.columns j (sym (losing-live left p.matrix.columns i j) ∙ h) in record {
+      cost = c.cost;
+      lower = c.lower;
+      upper = c.upper;
+      entries = subst (λ (l : Line). All IsWrittenTerm l.entries) (sym (losing-at left p.matrix.columns i j)) (all_losing left i (column_at p j) c.entries);
+    };
   }
 
   writable-column_deleted : (p : Sparse) (j : ℕ) → (column_at p j).live ≡ true → IsWritable numbers p → IsWritable numbers (column_deleted p j)
   writable-column_deleted p j live w = record {
-    rows = λ i h. w.rows i (sym (losing-live p.matrix.rows j i) ∙ h);
+    rows = λ i h. w.rows i (sym (losing-live (column_deleted p j).matrix.columns p.matrix.rows j i) ∙ h);
     columns = at_or_off (λ k. (column_at (column_deleted p j) k).live ≡ true → KeptColumn numbers (column_deleted p j) k) j
         (λ h. absurd (not_both h (without-dead p.matrix.columns j (column_inside p j live))))
-        (λ k n h. column_kept p (column_deleted p j) k refl refl (without-entries p.matrix.columns j (column_inside p j live) k)
+        (λ k n h. column_kept p (column_deleted p j) k refl refl (ap (λ (l : Line). l.entries) (without-other p.matrix.columns j k n))
         (w.columns k (sym (without-live p.matrix.columns j k n) ∙ h)));
   }
 
@@ -99,9 +112,6 @@ module _ (numbers : Numbers) where
         })
         (λ k n h. column_kept p (cost_set p j c) k (get_or-set_other p.costs j k c zero_ℚ n) refl refl (w.columns k h));
   }
-
-  abbrev IsWrittenTerm : Term → Type 0
-  IsWrittenTerm t = WritableNumber numbers t.value
 
   all_led : (k : ℕ) (a : Number) (ts : List Term) → WritableNumber numbers a → All IsWrittenTerm ts → All IsWrittenTerm (led_by k a ts)
   all_led k a ts d h = by (eq_ℚ a zero_ℚ)

@@ -84,26 +84,26 @@ module _ (p r : Sparse) (s : IsSparse p) (v : IsSparse r) (lives : Lives p r) wh
   column_apart i j row h e = by (column_at r j).live refl
     where
       by : (b : Bool) → (column_at r j).live ≡ b → contents_of (row_deleted r i) (part.Col j) ≡ contents_of r (part.Col j)
-      by false on = ap (λ (b : Bool). if b then holds.Column (column_entries (row_deleted r i) j) (cost_at r j) else holds.Gone) (losing-live r.matrix.columns i j ∙ on)
+      by false on = ap (λ (b : Bool). if b then holds.Column (column_entries (row_deleted r i) j) (cost_at r j) else holds.Gone) (losing-live (row_deleted r i).matrix.rows r.matrix.columns i j ∙ on)
           ∙ sym (ap (λ (b : Bool). if b then holds.Column (column_entries r j) (cost_at r j) else holds.Gone) on)
       by true on =
           let before : (column_at p j).live ≡ true = lives.columns j on in
           let same : column_entries r j ≡ column_entries p j = sym (column_held r j on) ∙ ap terms_in e ∙ column_held p j before in
           let none : has i (column_entries p j) ≡ false = sym (live_entries_name p i j s (lives.rows i row) before) ∙ column_named p (row_entries p i) j h in
-          columns_hold r (row_deleted r i) j (losing-live r.matrix.columns i j) (row_deleted-column_entries r i (row_inside r i row) j ∙ without-absent i (column_entries r j) (ap (has i) same ∙ none)) refl
+          columns_hold r (row_deleted r i) j (losing-live (row_deleted r i).matrix.rows r.matrix.columns i j) (row_deleted-column_entries r i (row_inside r i row) j ∙ without-absent i (column_entries r j) (ap (has i) same ∙ none)) refl
 
   row_apart : (j i : ℕ) → (column_at r j).live ≡ true → names (rows_noted p (column_entries p j)) (part.Row i) ≡ false → contents_of r (part.Row i) ≡ contents_of p (part.Row i)
       → contents_of (column_deleted r j) (part.Row i) ≡ contents_of r (part.Row i)
   row_apart j i column h e = by (row_at r i).live refl
     where
       by : (b : Bool) → (row_at r i).live ≡ b → contents_of (column_deleted r j) (part.Row i) ≡ contents_of r (part.Row i)
-      by false on = ap (λ (b : Bool). if b then holds.Entries (row_entries (column_deleted r j) i) else holds.Gone) (losing-live r.matrix.rows j i ∙ on)
+      by false on = ap (λ (b : Bool). if b then holds.Entries (row_entries (column_deleted r j) i) else holds.Gone) (losing-live (column_deleted r j).matrix.columns r.matrix.rows j i ∙ on)
           ∙ sym (ap (λ (b : Bool). if b then holds.Entries (row_entries r i) else holds.Gone) on)
       by true on =
           let before : (row_at p i).live ≡ true = lives.rows i on in
           let same : row_entries r i ≡ row_entries p i = sym (row_held r i on) ∙ ap terms_in e ∙ row_held p i before in
           let none : has j (row_entries p i) ≡ false = live_entries_name p i j s before (lives.columns j column) ∙ row_named p (column_entries p j) i h in
-          rows_hold r (column_deleted r j) i (losing-live r.matrix.rows j i) (column_deleted-row_entries r j (column_inside r j column) i ∙ without-absent j (row_entries r i) (ap (has j) same ∙ none))
+          rows_hold r (column_deleted r j) i (losing-live (column_deleted r j).matrix.columns r.matrix.rows j i) (column_deleted-row_entries r j (column_inside r j column) i ∙ without-absent j (row_entries r i) (ap (has j) same ∙ none))
 
   pub unnoted : (e : Edit) (a : Part) → IsAllowed r e → names (noted p e) a ≡ false → contents_of r a ≡ contents_of p a → contents_of (edited r e) a ≡ contents_of r a
   unnoted (DeleteRow i) (part.Row k) h n e = stays_edited r (DeleteRow i) (part.Row k) v h (either (nat_eq k i) _ n).0

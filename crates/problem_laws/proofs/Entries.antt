@@ -8,19 +8,19 @@ use Rattle.rational.specs.Number.{Number, zero_ℚ}
 use Rattle.lp_model.specs.declared.terms.Term.{Term}
 use Rattle.lp_model.specs.Sparse.{Ascends, dense, has, without}
 use Rattle.problem_model.specs.declared.line.Line.{Line}
-use Rattle.problem_model.specs.Matrices.{line_at, live_only}
+use Rattle.problem_model.specs.Matrices.{line_at, live_only, Crosses}
 use Rattle.problem_model.specs.Problems.{row_at, column_at, row_entries, column_entries, IsSparse}
-use Rattle.problem_model.specs.Edits.{lines_without, lines_losing, row_deleted, column_deleted}
+use Rattle.problem_model.specs.Edits.{losing, lines_without, lines_losing, row_deleted, column_deleted}
 use Rattle.problem_model.specs.Sparse.{Sparse}
-use Rattle.problem_laws.proofs.AtIds.{without-dead, without-live, without-entries, losing-live, losing-entries}
-use Rattle.problem_laws.proofs.Terms.{has-cons_same, has-cons_other, without-cons_same, without-cons_other, dense-cons_same, dense-cons_other, same_ids, ids_below, none_zero, terms_tell, ascends-filter}
+use Rattle.problem_laws.proofs.AtIds.{without-dead, without-live, without-other, losing_keeps, losing-at, losing-live}
+use Rattle.problem_laws.proofs.Terms.{not_both, has-cons_same, has-cons_other, without-cons_same, without-cons_other, dense-cons_same, dense-cons_other, same_ids, ids_below, none_zero, terms_tell, ascends-filter}
 
 -- ---- the terms that name a live line
 pub live_only-same : (old new : List Line) → ((k : ℕ) → (line_at new k).live ≡ (line_at old k).live) → (ts : List Term) → live_only new ts ≡ live_only old ts
 live_only-same old new h ts = ap (λ (test : Term → Bool). filter test ts) (λ r t. h t.id r)
 
-pub live_only-losing : (lines : List Line) (k : ℕ) (ts : List Term) → live_only (lines_losing lines k) ts ≡ live_only lines ts
-live_only-losing lines k ts = live_only-same lines (lines_losing lines k) (losing-live lines k) ts
+pub live_only-losing : (others lines : List Line) (k : ℕ) (ts : List Term) → live_only (lines_losing others lines k) ts ≡ live_only lines ts
+live_only-losing others lines k ts = live_only-same lines (lines_losing others lines k) (losing-live others lines k) ts
 
 -- one term more, whose line is live or not
 abbrev joined : Bool → Term → List Term → List Term
@@ -103,6 +103,27 @@ has-live lines k ts h = has-live_only lines k ts ∙ ap (λ (b : Bool). b && has
 pub dense-live : (lines : List Line) (k : ℕ) (ts : List Term) → (line_at lines k).live ≡ true → dense (live_only lines ts) k ≡ dense ts k
 dense-live lines k ts h = dense-live_only lines k ts ∙ ap (λ (b : Bool). if b then dense ts k else zero_ℚ) h
 
+-- the live ones of live ones are those
+pub live_only-twice : (lines : List Line) (ts : List Term) → live_only lines (live_only lines ts) ≡ live_only lines ts
+live_only-twice lines [] = refl
+live_only-twice lines (t ∷ ts) = by (line_at lines t.id).live refl (live_only-twice lines ts)
+  where
+    by : (b : Bool) → (line_at lines t.id).live ≡ b → live_only lines (live_only lines ts) ≡ live_only lines ts → live_only lines (joined b t (live_only lines ts)) ≡ joined b t (live_only lines ts)
+    by true e ih = ap (λ (b : Bool). joined b t (live_only lines (live_only lines ts))) e ∙ ap (λ (us : List Term). t ∷ us) ih
+    by false e ih = ih
+
+-- ---- the entries of a line that loses one
+pub losing_live_only : (others : List Line) (k : ℕ) (l : Line) → live_only others (losing others k l).entries ≡ live_only others l.entries
+losing_live_only others k l = losing_keeps others k l (λ us. live_only others us ≡ live_only others l.entries) refl (live_only-twice others l.entries)
+
+pub losing-live_only : (others lines : List Line) (k m : ℕ) → live_only others (line_at (lines_losing others lines k) m).entries ≡ live_only others (line_at lines m).entries
+losing-live_only others lines k m = ap (λ (y : Line). live_only others y.entries) (losing-at others lines k m) ∙ losing_live_only others k (line_at lines m)
+
+-- at a live one of the others its numbers stay
+pub losing-dense : (others lines : List Line) (k m n : ℕ) → (line_at others n).live ≡ true → dense (line_at (lines_losing others lines k) m).entries n ≡ dense (line_at lines m).entries n
+losing-dense others lines k m n h = ap (λ (y : Line). dense y.entries n) (losing-at others lines k m)
+    ∙ losing_keeps others k (line_at lines m) (λ us. dense us n ≡ dense (line_at lines m).entries n) refl (dense-live others n (line_at lines m).entries h)
+
 -- ---- the entries of a problem's rows
 pub row_entries-ascend : (p : Sparse) (i : ℕ) → IsSparse p → Ascends 0 (length p.matrix.columns) (row_entries p i)
 row_entries-ascend p i s = ascends-live_only p.matrix.columns (row_at p i).entries 0 (length p.matrix.columns) (s.matrix.rows.ascends i)
@@ -154,27 +175,35 @@ pub column_entries-dense : (p : Sparse) (j i : ℕ) → (row_at p i).live ≡ tr
 column_entries-dense p j i h = dense-live p.matrix.rows i (column_at p j).entries h
 
 -- ---- rows and columns tell the same
-pub entries_name : (p : Sparse) (i j : ℕ) → IsSparse p → has j (row_at p i).entries ≡ has i (column_at p j).entries
-entries_name p i j s = same_ids j i 0 (length p.matrix.columns) 0 (length p.matrix.rows) (row_at p i).entries (column_at p j).entries
-    (s.matrix.rows.ascends i) (s.matrix.columns.ascends j) (s.matrix.agree i j)
+pub entries_name : (p : Sparse) (i j : ℕ) → IsSparse p → (row_at p i).live ≡ true → (column_at p j).live ≡ true → has j (row_at p i).entries ≡ has i (column_at p j).entries
+entries_name p i j s h k = same_ids j i 0 (length p.matrix.columns) 0 (length p.matrix.rows) (row_at p i).entries (column_at p j).entries
+    (s.matrix.rows.ascends i) (s.matrix.columns.ascends j) (s.matrix.agree i j h k)
 
 pub live_entries_name : (p : Sparse) (i j : ℕ) → IsSparse p → (row_at p i).live ≡ true → (column_at p j).live ≡ true → has j (row_entries p i) ≡ has i (column_entries p j)
-live_entries_name p i j s h k = row_entries-has p i j k ∙ entries_name p i j s ∙ sym (column_entries-has p j i h)
+live_entries_name p i j s h k = row_entries-has p i j k ∙ entries_name p i j s h k ∙ sym (column_entries-has p j i h)
 
 pub live_entries_tell : (p : Sparse) (i j : ℕ) → IsSparse p → (row_at p i).live ≡ true → (column_at p j).live ≡ true → dense (row_entries p i) j ≡ dense (column_entries p j) i
-live_entries_tell p i j s h k = row_entries-dense p i j k ∙ s.matrix.agree i j ∙ sym (column_entries-dense p j i h)
+live_entries_tell p i j s h k = row_entries-dense p i j k ∙ s.matrix.agree i j h k ∙ sym (column_entries-dense p j i h)
+
+-- what has an entry is live
+pub has_of_live : (lines others : List Line) (m k : ℕ) → Crosses lines others → has k (line_at lines m).entries ≡ true → (line_at lines m).live ≡ true
+has_of_live lines others m k c h = by (line_at lines m).live refl
+  where
+    by : (b : Bool) → (line_at lines m).live ≡ b → b ≡ true
+    by true e = refl
+    by false e = absurd (not_both (sym (ap (has k) (c.gone m e)) ∙ h) refl)
 
 -- ---- after an edit; new sides, bounds or offsets change no entries, by computing
-pub row_deleted-row_entries : (p : Sparse) (i : ℕ) → i < length p.matrix.rows → (k : ℕ) → row_entries (row_deleted p i) k ≡ row_entries p k
-row_deleted-row_entries p i l k = live_only-losing p.matrix.columns i (row_at (row_deleted p i) k).entries ∙ ap (live_only p.matrix.columns) (without-entries p.matrix.rows i l k)
+pub row_deleted-row_entries : (p : Sparse) (i k : ℕ) → k ≢ i → row_entries (row_deleted p i) k ≡ row_entries p k
+row_deleted-row_entries p i k n = live_only-losing (row_deleted p i).matrix.rows p.matrix.columns i (row_at (row_deleted p i) k).entries
+    ∙ ap (λ (y : Line). live_only p.matrix.columns y.entries) (without-other p.matrix.rows i k n)
 
 pub row_deleted-column_entries : (p : Sparse) (i : ℕ) → i < length p.matrix.rows → (j : ℕ) → column_entries (row_deleted p i) j ≡ without i (column_entries p j)
-row_deleted-column_entries p i l j = live_only-without p.matrix.rows i l (column_at (row_deleted p i) j).entries
-    ∙ ap (λ (ts : List Term). without i (live_only p.matrix.rows ts)) (losing-entries p.matrix.columns i j)
+row_deleted-column_entries p i l j = losing-live_only (row_deleted p i).matrix.rows p.matrix.columns i j ∙ live_only-without p.matrix.rows i l (column_at p j).entries
 
-pub column_deleted-column_entries : (p : Sparse) (j : ℕ) → j < length p.matrix.columns → (k : ℕ) → column_entries (column_deleted p j) k ≡ column_entries p k
-column_deleted-column_entries p j l k = live_only-losing p.matrix.rows j (column_at (column_deleted p j) k).entries ∙ ap (live_only p.matrix.rows) (without-entries p.matrix.columns j l k)
+pub column_deleted-column_entries : (p : Sparse) (j k : ℕ) → k ≢ j → column_entries (column_deleted p j) k ≡ column_entries p k
+column_deleted-column_entries p j k n = live_only-losing (column_deleted p j).matrix.columns p.matrix.rows j (column_at (column_deleted p j) k).entries
+    ∙ ap (λ (y : Line). live_only p.matrix.rows y.entries) (without-other p.matrix.columns j k n)
 
 pub column_deleted-row_entries : (p : Sparse) (j : ℕ) → j < length p.matrix.columns → (i : ℕ) → row_entries (column_deleted p j) i ≡ without j (row_entries p i)
-column_deleted-row_entries p j l i = live_only-without p.matrix.columns j l (row_at (column_deleted p j) i).entries
-    ∙ ap (λ (ts : List Term). without j (live_only p.matrix.columns ts)) (losing-entries p.matrix.rows j i)
+column_deleted-row_entries p j l i = losing-live_only (column_deleted p j).matrix.columns p.matrix.rows j i ∙ live_only-without p.matrix.columns j l (row_at p i).entries

@@ -71,13 +71,14 @@ like_crosses : (lines others new_lines new_others : List Line) → AreLike lines
 like_crosses lines others new_lines new_others a b h = record {
   ascends = λ x. subst (λ (n : ℕ). Ascends 0 n (line_at new_lines x).entries) (sym b.long) (subst (Ascends 0 (length others)) (sym (a.entries x)) (h.ascends x));
   counted = λ x. a.count x ∙ h.counted x ∙ ap length (sym (live_only-same others new_others b.live (line_at lines x).entries)) ∙ ap (λ (ts : List Term). length (live_only new_others ts)) (sym (a.entries x));
+  gone = λ x off. a.entries x ∙ h.gone x (sym (a.live x) ∙ off);
 }
 
 like_matrix : (g h : Grid) → AreLike g.rows h.rows → AreLike g.columns h.columns → IsMatrix g → IsMatrix h
 like_matrix g h a b m = record {
   rows = like_crosses g.rows g.columns h.rows h.columns a b m.rows;
   columns = like_crosses g.columns g.rows h.columns h.rows b a m.columns;
-  agree = λ i j. ap (λ (ts : List Term). dense ts j) (a.entries i) ∙ m.agree i j ∙ sym (ap (λ (ts : List Term). dense ts i) (b.entries j));
+  agree = λ i j on off. ap (λ (ts : List Term). dense ts j) (a.entries i) ∙ m.agree i j (sym (a.live i) ∙ on) (sym (b.live j) ∙ off) ∙ sym (ap (λ (ts : List Term). dense ts i) (b.entries j));
 }
 
 -- ---- a problem with other numbers

@@ -5,17 +5,18 @@ use Rattle.std.proofs.lemmas.Bool.{cases_eq}
 use Rattle.rational.specs.Number.{Number, zero_ℚ}
 use Rattle.rational.specs.Total.{put}
 use Rattle.rational.proofs.Totals.{put-same, put-other, at_or_off}
-use Rattle.lp_model.specs.declared.terms.Term.{Term}
 use Rattle.lp_model.specs.Sparse.{dense}
 use Rattle.lp_model.specs.Edits.{without_row, with_bounds, with_sides}
+use Rattle.problem_model.specs.declared.line.Line.{Line}
 use Rattle.problem_model.specs.declared.line.Sides.{Sides}
 use Rattle.problem_model.specs.declared.line.Bounds.{Bounds}
 use Rattle.problem_model.specs.Problems.{row_at, column_at, sides_at, bounds_at, cost_at, IsSparse}
-use Rattle.problem_model.specs.Edits.{sides_moved, bounds_moved, row_deleted, column_deleted, sides_set, bounds_set, offset_set}
+use Rattle.problem_model.specs.Edits.{lines_without, sides_moved, bounds_moved, row_deleted, column_deleted, sides_set, bounds_set, offset_set}
 use Rattle.problem_model.specs.Showing.{coefficient_of, end_if, shown}
 use Rattle.problem_model.specs.Sparse.{Sparse}
 use Rattle.problem_model.specs.LeftOut.{column_left_out}
-use Rattle.problem_laws.proofs.AtIds.{without-dead, without-live, without-entries, losing-live, losing-entries, row_inside, column_inside, sides_inside, bounds_inside, sides_set-same, sides_set-other, bounds_set-same, bounds_set-other}
+use Rattle.problem_laws.proofs.AtIds.{without-dead, without-live, without-other, losing-live, row_inside, column_inside, sides_inside, bounds_inside, sides_set-same, sides_set-other, bounds_set-same, bounds_set-other}
+use Rattle.problem_laws.proofs.Entries.{losing-dense}
 use Rattle.problem_laws.proofs.Keeping.{length-lines_without, length-lines_losing}
 
 -- a coefficient by what it is made of: whether the row and the column are live, and the number there
@@ -29,11 +30,22 @@ cell_dead false a = refl
 same_cell : {r s c d : Bool} {a b : Number} → r ≡ s → c ≡ d → a ≡ b → cell r c a ≡ cell s d b
 same_cell e f g t = cell (e t) (f t) (g t)
 
+-- the numbers count where the column is live
+same_where_live : {r s c d : Bool} {a b : Number} → r ≡ s → c ≡ d → (c ≡ true → a ≡ b) → cell r c a ≡ cell s d b
+same_where_live {r} {s} {c} {d} {a} {b} e f g = by c refl
+  where
+    by : (x : Bool) → c ≡ x → cell r c a ≡ cell s d b
+    by true h = same_cell e f (g h)
+    by false h = ap (λ (y : Bool). cell r y a) h ∙ cell_dead r a ∙ sym (ap (λ (y : Bool). cell s y b) (sym f ∙ h) ∙ cell_dead s b)
+
 -- an end by what it is made of
 same_end_if : {a b : Bool} {e f : Option Number} → a ≡ b → e ≡ f → end_if a e ≡ end_if b f
 same_end_if g h t = end_if (g t) (h t)
 
 module _ (p : Sparse) (i : ℕ) (s : IsSparse p) (live : (row_at p i).live ≡ true) where
+  abbrev rows_left : List Line
+  rows_left = lines_without p.matrix.rows i
+
   row_there : i < length p.matrix.rows
   row_there = row_inside p i live
 
@@ -45,7 +57,7 @@ module _ (p : Sparse) (i : ℕ) (s : IsSparse p) (live : (row_at p i).live ≡ t
           ap (λ (b : Bool). cell b (column_at (row_deleted p i) j).live (dense (row_at (row_deleted p i) k).entries j)) (ap (λ (m : ℕ). (row_at (row_deleted p i) m).live) e ∙ without-dead p.matrix.rows i row_there)
           ∙ sym (ap (λ (m : ℕ). put (coefficient_of p) i (λ m. zero_ℚ) m j) e ∙ ap (λ (f : ℕ → Number). f j) (put-same (coefficient_of p) i (λ m. zero_ℚ)))
       by (inr n) =
-          same_cell (without-live p.matrix.rows i k n) (losing-live p.matrix.columns i j) (ap (λ (ts : List Term). dense ts j) (without-entries p.matrix.rows i row_there k))
+          same_cell (without-live p.matrix.rows i k n) (losing-live rows_left p.matrix.columns i j) (ap (λ (y : Line). dense y.entries j) (without-other p.matrix.rows i k n))
           ∙ sym (ap (λ (f : ℕ → Number). f j) (put-other (coefficient_of p) i (λ m. zero_ℚ) k n))
 
   row_end : (end_of : Sides → Option Number) (k : ℕ) → end_if (row_at (row_deleted p i) k).live (end_of (sides_at (row_deleted p i) k)) ≡ put (λ k. end_if (row_at p k).live (end_of (sides_at p k))) i None k
@@ -56,18 +68,21 @@ module _ (p : Sparse) (i : ℕ) (s : IsSparse p) (live : (row_at p i).live ≡ t
   pub shown-row_deleted : shown (row_deleted p i) ≡ without_row (shown p) i
   shown-row_deleted t = record {
     rows = length-lines_without p.matrix.rows i t;
-    columns = length-lines_losing p.matrix.columns i t;
+    columns = length-lines_losing rows_left p.matrix.columns i t;
     coefficient = λ k j. row_coefficient k j t;
     lower_side = λ k. row_end (λ s. s.lower) k t;
     upper_side = λ k. row_end (λ s. s.upper) k t;
-    lower_bound = λ j. end_if (losing-live p.matrix.columns i j t) (bounds_at p j).lower;
-    upper_bound = λ j. end_if (losing-live p.matrix.columns i j t) (bounds_at p j).upper;
-    whole = λ j. losing-live p.matrix.columns i j t && (bounds_at p j).whole;
-    costs = λ j. if losing-live p.matrix.columns i j t then cost_at p j else zero_ℚ;
+    lower_bound = λ j. end_if (losing-live rows_left p.matrix.columns i j t) (bounds_at p j).lower;
+    upper_bound = λ j. end_if (losing-live rows_left p.matrix.columns i j t) (bounds_at p j).upper;
+    whole = λ j. losing-live rows_left p.matrix.columns i j t && (bounds_at p j).whole;
+    costs = λ j. if losing-live rows_left p.matrix.columns i j t then cost_at p j else zero_ℚ;
     constant = p.constant;
   }
 
 module _ (p : Sparse) (j : ℕ) (s : IsSparse p) (live : (column_at p j).live ≡ true) where
+  abbrev columns_left : List Line
+  columns_left = lines_without p.matrix.columns j
+
   column_there : j < length p.matrix.columns
   column_there = column_inside p j live
 
@@ -75,7 +90,7 @@ module _ (p : Sparse) (j : ℕ) (s : IsSparse p) (live : (column_at p j).live �
   column_coefficient i = at_or_off (λ k. coefficient_of (column_deleted p j) i k ≡ put (coefficient_of p i) j zero_ℚ k) j
       (ap (λ (b : Bool). cell (row_at (column_deleted p j) i).live b (dense (row_at (column_deleted p j) i).entries j)) (without-dead p.matrix.columns j column_there)
       ∙ cell_dead (row_at (column_deleted p j) i).live (dense (row_at (column_deleted p j) i).entries j) ∙ sym (put-same (coefficient_of p i) j zero_ℚ))
-      (λ k n. same_cell (losing-live p.matrix.rows j i) (without-live p.matrix.columns j k n) (ap (λ (ts : List Term). dense ts k) (losing-entries p.matrix.rows j i))
+      (λ k n. same_where_live (losing-live columns_left p.matrix.rows j i) (without-live p.matrix.columns j k n) (losing-dense columns_left p.matrix.rows j i k)
       ∙ sym (put-other (coefficient_of p i) j zero_ℚ k n))
 
   -- what a column shows is that of before away from j, and none at j
@@ -89,11 +104,11 @@ module _ (p : Sparse) (j : ℕ) (s : IsSparse p) (live : (column_at p j).live �
 
   pub shown-column_deleted : shown (column_deleted p j) ≡ column_left_out (shown p) j
   shown-column_deleted t = record {
-    rows = length-lines_losing p.matrix.rows j t;
+    rows = length-lines_losing columns_left p.matrix.rows j t;
     columns = length-lines_without p.matrix.columns j t;
     coefficient = λ i k. column_coefficient i k t;
-    lower_side = λ i. end_if (losing-live p.matrix.rows j i t) (sides_at p i).lower;
-    upper_side = λ i. end_if (losing-live p.matrix.rows j i t) (sides_at p i).upper;
+    lower_side = λ i. end_if (losing-live columns_left p.matrix.rows j i t) (sides_at p i).lower;
+    upper_side = λ i. end_if (losing-live columns_left p.matrix.rows j i t) (sides_at p i).upper;
     lower_bound = λ k. column_shows None (λ b e k. end_if b e.lower) (λ e k. refl) k t;
     upper_bound = λ k. column_shows None (λ b e k. end_if b e.upper) (λ e k. refl) k t;
     whole = λ k. column_shows false (λ b e k. b && e.whole) (λ e k. refl) k t;

@@ -1,37 +1,46 @@
 -- The changes of what a problem holds, one at a time. The numbers of changes of its parts stay as they are.
-use Rattle.std.specs.Prelude.{ℕ, ◌+◌, ◌-◌, pred, false, List, length, map, slice_set, Option, if◌then◌else◌}
+use Rattle.std.specs.Prelude.{ℕ, ◌+◌, ◌-◌, ◌*◌, pred, nat_lt, false, List, [], length, map, slice_set, Option, if◌then◌else◌}
 use Rattle.rational.specs.Number.{Number}
 use Rattle.lp_model.specs.Sparse.{has}
 use Rattle.problem_model.specs.declared.line.Line.{Line}
 use Rattle.problem_model.specs.declared.line.Sides.{Sides}
 use Rattle.problem_model.specs.declared.line.Bounds.{Bounds}
-use Rattle.problem_model.specs.Matrices.{line_at}
+use Rattle.problem_model.specs.Matrices.{line_at, live_only}
 use Rattle.problem_model.specs.Problems.{sides_at, bounds_at}
 use Rattle.problem_model.specs.Entries.{put_term}
 use Rattle.problem_model.specs.Sparse.{Sparse}
 
--- a deleted line: what it had stays in place, and is no longer looked at
+-- a deleted line holds no entries
 abbrev pub deleted : Line → Line
-deleted l = record l { live = false }
+deleted l = record l { live = false; entries = []; live_entries = 0 }
 
--- a line when another one, k, is deleted: the entry at k no longer counts
-abbrev pub losing : ℕ → Line → Line
-losing k l = if has k l.entries then record l { live_entries = pred l.live_entries } else l
+-- a line of which fewer than half of the entries are live keeps the live ones alone
+abbrev pub thinned : List Line → Line → Line
+thinned others l = if nat_lt (2 * l.live_entries) (length l.entries) then record l { entries = live_only others l.entries } else l
 
--- one line is deleted, and each of the others loses its entry there
+-- a line when k, one of the others, is deleted: the entry at k no longer counts. The others are those after the deletion.
+abbrev pub losing : List Line → ℕ → Line → Line
+losing others k l = if has k l.entries then thinned others (record l { live_entries = pred l.live_entries }) else l
+
+-- one line is deleted
 abbrev pub lines_without : List Line → ℕ → List Line
 lines_without lines k = slice_set lines k (deleted (line_at lines k))
 
-abbrev pub lines_losing : List Line → ℕ → List Line
-lines_losing others k = map (losing k) others
+-- and each of the lines that cross it loses its entry there, where others are as they are after the deletion
+abbrev pub lines_losing : List Line → List Line → ℕ → List Line
+lines_losing others lines k = map (losing others k) lines
 
 -- row i is deleted with its sides
 abbrev pub row_deleted : Sparse → ℕ → Sparse
-row_deleted p i = record p { matrix = record { rows = lines_without p.matrix.rows i; columns = lines_losing p.matrix.columns i } }
+row_deleted p i =
+    let rows : List Line = lines_without p.matrix.rows i in
+    record p { matrix = record { rows = rows; columns = lines_losing rows p.matrix.columns i } }
 
 -- column j is deleted with its bounds and its cost
 abbrev pub column_deleted : Sparse → ℕ → Sparse
-column_deleted p j = record p { matrix = record { rows = lines_losing p.matrix.rows j; columns = lines_without p.matrix.columns j } }
+column_deleted p j =
+    let columns : List Line = lines_without p.matrix.columns j in
+    record p { matrix = record { rows = lines_losing columns p.matrix.rows j; columns = columns } }
 
 -- sides with the ends l and u
 abbrev pub sides_moved : Sides → Option Number → Option Number → Sides

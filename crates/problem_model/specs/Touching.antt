@@ -62,7 +62,7 @@ abbrev pub touched_by : Sparse → List Edit → Part → Bool
 touched_by p [] a = false
 touched_by p (e ∷ es) a = touches p e a || touched_by (edited p e) es a
 
--- the parts that are touched, as a list: the entries of a deleted line stay in place, so they can be read off after it too
+-- the parts that are touched, as a list, read off before the edit
 abbrev pub parts_touched : Sparse → Edit → List Part
 parts_touched p (DeleteRow i) = part.Row i ∷ part.Sides i ∷ map (λ (t : Term). part.Col t.id) (row_at p i).entries
 parts_touched p (DeleteColumn j) = part.Col j ∷ part.Bounds j ∷ map (λ (t : Term). part.Row t.id) (column_at p j).entries

@@ -3,7 +3,8 @@
 use fractions::ext::Ext;
 use lp_model::Terms;
 
-/// A row, whose entries name columns, or a column, whose entries name rows. Entries stay in place when what they name is deleted.
+/// A row, whose entries name columns, or a column, whose entries name rows. Entries may stay in place when what they name is deleted; one that
+/// isn't there has none.
 #[derive(Drop)]
 pub struct Line {
     /// Whether it is there.

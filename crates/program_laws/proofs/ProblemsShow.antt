@@ -85,15 +85,14 @@ module _ (program : ProgramData) (p : Sparse) (h : IsProblemOf program p) where
 
   -- ---- coefficients
   coefficient_shown : (i j : ℕ) → coefficient_of p i j ≡ dense (get_or program.columns j no_column).entries i
-  coefficient_shown i j = ap (λ (a : Number). cell (row_at p i).live (column_at p j).live a) (h.sound.matrix.agree i j) ∙ by (cases_lt i (length program.rows)) (cases_lt j (length program.columns))
-      ∙ ap (λ (ts : List Term). dense ts i) (entries_are j)
+  coefficient_shown i j = by (cases_lt i (length program.rows)) (cases_lt j (length program.columns)) ∙ ap (λ (ts : List Term). dense ts i) (entries_are j)
     where
       by : (i < length program.rows) ⊎ (length program.rows ≤ i) → (j < length program.columns) ⊎ (length program.columns ≤ j)
-          → cell (row_at p i).live (column_at p j).live (dense (column_at p j).entries i) ≡ dense (column_at p j).entries i
-      by (inl l) (inl m) = λ t. cell (row_live i l t) (column_live j m t) (dense (column_at p j).entries i)
-      by (inl l) (inr g) = ap (λ (y : Line). cell (row_at p i).live y.live (dense y.entries i)) (column_gone j g) ∙ cell_dead (row_at p i).live zero_ℚ
+          → cell (row_at p i).live (column_at p j).live (dense (row_at p i).entries j) ≡ dense (column_at p j).entries i
+      by (inl l) (inl m) = λ t. cell (row_live i l t) (column_live j m t) (h.sound.matrix.agree i j (row_live i l) (column_live j m) t)
+      by (inl l) (inr g) = ap (λ (y : Line). cell (row_at p i).live y.live (dense (row_at p i).entries j)) (column_gone j g) ∙ cell_dead (row_at p i).live (dense (row_at p i).entries j)
           ∙ sym (ap (λ (y : Line). dense y.entries i) (column_gone j g))
-      by (inr g) o = ap (λ (b : Bool). cell b (column_at p j).live (dense (column_at p j).entries i)) (row_dead i g)
+      by (inr g) o = ap (λ (b : Bool). cell b (column_at p j).live (dense (row_at p i).entries j)) (row_dead i g)
           ∙ sym (dense-absent i (column_at p j).entries (has-beyond (column_at p j).entries 0 (length p.matrix.rows) i (h.sound.matrix.columns.ascends j) (omega (arith, g, h.rows))))
 
   shows_signs : shown p ≡ with_signs program.sense (meaning program)

@@ -59,7 +59,7 @@ module _ (program : ProgramData) (p : Sparse) (s : IsSparse p) (o : IsOf program
       ap (λ (c : ColumnDef). dense c.entries a) (written_column-at program p s o b m)
       ∙ dense-renumbered p.matrix.rows a l (column_at p j).entries
       ∙ dense-live p.matrix.rows i (column_at p j).entries (id_live p.matrix.rows a l)
-      ∙ sym (s.matrix.agree i j)
+      ∙ sym (s.matrix.agree i j (id_live p.matrix.rows a l) (id_live p.matrix.columns b m))
       ∙ sym (both_live (row_at p i).live (column_at p j).live (dense (row_at p i).entries j) (id_live p.matrix.rows a l) (id_live p.matrix.columns b m))
 
   side : (end : RowDef → Option Number) (end_of : Sides → Option Number) (a : ℕ) → a < length (live_ids p.matrix.rows)

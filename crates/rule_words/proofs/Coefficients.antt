@@ -24,11 +24,11 @@ coefficient_in_row p i j = by (row_at p i).live
     by false = refl
 
 pub coefficient_in_column : (p : Sparse) (i j : ℕ) → IsMatrix p.matrix → coefficient_of p i j ≡ (if (column_at p j).live then dense (column_entries p j) i else zero_ℚ)
-coefficient_in_column p i j m = by (row_at p i).live (column_at p j).live (dense-live_only p.matrix.rows i (column_at p j).entries)
+coefficient_in_column p i j m = by (row_at p i).live (column_at p j).live refl refl (dense-live_only p.matrix.rows i (column_at p j).entries)
   where
-    by : (r c : Bool) → dense (column_entries p j) i ≡ (if r then dense (column_at p j).entries i else zero_ℚ)
+    by : (r c : Bool) → (row_at p i).live ≡ r → (column_at p j).live ≡ c → dense (column_entries p j) i ≡ (if r then dense (column_at p j).entries i else zero_ℚ)
         → (if r && c then dense (row_at p i).entries j else zero_ℚ) ≡ (if c then dense (column_entries p j) i else zero_ℚ)
-    by true true e = m.agree i j ∙ sym e
-    by true false e = refl
-    by false true e = sym e
-    by false false e = refl
+    by true true on off e = m.agree i j on off ∙ sym e
+    by true false on off e = refl
+    by false true on off e = sym e
+    by false false on off e = refl

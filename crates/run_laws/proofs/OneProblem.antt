@@ -12,7 +12,8 @@ use Rattle.problem_model.specs.Matrices.{line_at, no_line}
 use Rattle.problem_model.specs.Problems.{row_at}
 use Rattle.problem_model.specs.Programs.{IsProblemOf, line_of}
 use Rattle.problem_model.specs.Sparse.{Sparse}
-use Rattle.problem_laws.proofs.Terms.{dense-cons_other, dense-cons_same}
+use Rattle.problem_laws.proofs.Terms.{dense-absent, dense-cons_other, dense-cons_same, has-beyond}
+use Rattle.program_laws.proofs.ProblemsShow.{columns_length, row_live, column_live}
 
 -- ---- terms in order are told by the numbers at their ids
 same_term : (t u : Term) → t.id ≡ u.id → t.value ≡ u.value → t ≡ u
@@ -59,16 +60,25 @@ module _ (program : ProgramData) (p q : Sparse) (o : IsProblemOf program p) (r :
   long : length p.matrix.rows ≡ length q.matrix.rows
   long = o.rows ∙ sym r.rows
 
-  row_terms : (i : ℕ) → (row_at p i).entries ≡ (row_at q i).entries
-  row_terms i = terms_same (row_at p i).entries (row_at q i).entries 0 (length p.matrix.columns) (o.sound.matrix.rows.ascends i)
-      (subst (λ (k : ℕ). Ascends 0 k (row_at q i).entries) (sym (ap length columns_one)) (r.sound.matrix.rows.ascends i))
-      (λ j. o.sound.matrix.agree i j ∙ ap (λ (ls : List Line). dense (line_at ls j).entries i) columns_one ∙ sym (r.sound.matrix.agree i j))
+  row_terms : (i : ℕ) → i < length program.rows → (row_at p i).entries ≡ (row_at q i).entries
+  row_terms i l = terms_same (row_at p i).entries (row_at q i).entries 0 (length p.matrix.columns) (o.sound.matrix.rows.ascends i) ascends (λ j. by j (cases_lt j (length program.columns)))
+    where
+      ascends : Ascends 0 (length p.matrix.columns) (row_at q i).entries
+      ascends = subst (λ (k : ℕ). Ascends 0 k (row_at q i).entries) (sym (ap length columns_one)) (r.sound.matrix.rows.ascends i)
+
+      none : (ts : List Term) (j : ℕ) → Ascends 0 (length p.matrix.columns) ts → length program.columns ≤ j → dense ts j ≡ zero_ℚ
+      none ts j a g = dense-absent j ts (has-beyond ts 0 (length p.matrix.columns) j a (omega (arith, g, columns_length program p o)))
+
+      by : (j : ℕ) → (j < length program.columns) ⊎ (length program.columns ≤ j) → dense (row_at p i).entries j ≡ dense (row_at q i).entries j
+      by j (inl m) = o.sound.matrix.agree i j (row_live program p o i l) (column_live program p o j m) ∙ ap (λ (ls : List Line). dense (line_at ls j).entries i) columns_one
+          ∙ sym (r.sound.matrix.agree i j (row_live program q r i l) (column_live program q r j m))
+      by j (inr g) = none (row_at p i).entries j (o.sound.matrix.rows.ascends i) g ∙ sym (none (row_at q i).entries j ascends g)
 
   row_same : (i : ℕ) → row_at p i ≡ row_at q i
   row_same i = by (cases_lt i (length program.rows))
     where
       by : (i < length program.rows) ⊎ (length program.rows ≤ i) → row_at p i ≡ row_at q i
-      by (inl l) = o.live i l ∙ ap line_of (row_terms i) ∙ sym (r.live i l)
+      by (inl l) = o.live i l ∙ ap line_of (row_terms i l) ∙ sym (r.live i l)
       by (inr g) = get_or_past p.matrix.rows i no_line (omega (arith, g, o.rows)) ∙ sym (get_or_past q.matrix.rows i no_line (omega (arith, g, r.rows)))
 
   rows_one : p.matrix.rows ≡ q.matrix.rows

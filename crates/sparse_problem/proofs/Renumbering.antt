@@ -1,5 +1,5 @@
 -- One number of changes set in a list.
-use Rattle.std.proofs.Common.{◌≡◌, ◌≢◌, ℕ, nat_eq, ◌<◌, Bool, List, length, set, get_or, refl, sym, ap, ◌∙◌, arith, ◌⊎◌, inl, inr}
+use Rattle.std.proofs.Common.{◌≡◌, ◌≢◌, ℕ, nat_eq, ◌<◌, Bool, List, length, set, get_or, refl, sym, ap, ◌∙◌, subst, arith, ◌⊎◌, inl, inr}
 use Rattle.std.specs.Prelude.{if◌then◌else◌}
 use Rattle.std.proofs.lemmas.Bool.{eq-eqb, ne_eqb, cases_eq}
 use Rattle.std.proofs.lemmas.List.{ext_get_or, length-set, get_or-set_same, get_or-set_other, get_or_default}
@@ -8,12 +8,12 @@ use Rattle.problem_model.specs.declared.line.Sides.{Sides}
 use Rattle.problem_model.specs.declared.line.Bounds.{Bounds}
 use Rattle.problem_model.specs.declared.part.Part.TheVariants as part
 use Rattle.problem_model.specs.Matrices.{no_line, line_at}
-use Rattle.problem_model.specs.Problems.{no_sides, no_bounds}
+use Rattle.problem_model.specs.Problems.{no_sides, no_bounds, IsSparse}
 use Rattle.problem_model.specs.Parts.{changes_of}
 use Rattle.problem_model.specs.Raised.{each_at, numbered}
 use Rattle.problem_model.specs.Sparse.{Sparse}
-use Rattle.problem_laws.proofs.Numbering.{length-each_at, each_at-get}
-use Rattle.sparse_problem.specs.Renumbered.{changes_put}
+use Rattle.problem_laws.proofs.Numbering.{length-each_at, each_at-get, numbered_sparse}
+use Rattle.sparse_problem.specs.Renumbered.{number_put, changes_put}
 
 -- what has numbers of changes
 module _ {X : Type 0} (num : X → ℕ) (give : ℕ → X → X) (d : X) (keeps : (x : X) → give (num x) x ≡ x) (xs : List X) where
@@ -56,6 +56,10 @@ row_put p i n rows l e t = record p {
   bounds = sym (bounds_self p.bounds) t;
 }
 
+pub row_kept : (p : Sparse) (i n : ℕ) (rows : List Line) → IsSparse p → i < length p.matrix.rows → rows ≡ set p.matrix.rows i (record (line_at p.matrix.rows i) { changes = n })
+    → IsSparse (record p { matrix = record { rows = rows; columns = p.matrix.columns } })
+row_kept p i n rows s l e = subst IsSparse (sym (row_put p i n rows l e)) (numbered_sparse p (number_put p (part.Row i) n) s)
+
 pub column_put : (p : Sparse) (j n : ℕ) (columns : List Line) → j < length p.matrix.columns → columns ≡ set p.matrix.columns j (record (line_at p.matrix.columns j) { changes = n })
     → record p { matrix = record { rows = p.matrix.rows; columns = columns } } ≡ changes_put p (part.Col j) n
 column_put p j n columns l e t = record p {
@@ -63,6 +67,10 @@ column_put p j n columns l e t = record p {
   sides = sym (sides_self p.sides) t;
   bounds = sym (bounds_self p.bounds) t;
 }
+
+pub column_kept : (p : Sparse) (j n : ℕ) (columns : List Line) → IsSparse p → j < length p.matrix.columns → columns ≡ set p.matrix.columns j (record (line_at p.matrix.columns j) { changes = n })
+    → IsSparse (record p { matrix = record { rows = p.matrix.rows; columns = columns } })
+column_kept p j n columns s l e = subst IsSparse (sym (column_put p j n columns l e)) (numbered_sparse p (number_put p (part.Col j) n) s)
 
 pub sides_put : (p : Sparse) (i n : ℕ) (x d : Sides) → i < length p.sides → x ≡ get_or p.sides i d → record p { sides = set p.sides i (record x { changes = n }) } ≡ changes_put p (part.Sides i) n
 sides_put p i n x d l e t = record p {

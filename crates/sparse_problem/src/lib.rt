@@ -3,6 +3,7 @@
 
 mod entries;
 mod lines;
+mod living;
 mod made;
 mod moves;
 mod numbers;
@@ -11,6 +12,6 @@ mod transpose;
 mod written;
 
 pub use entries::{Held, Replaced};
-pub use lines::is_live;
+pub use living::is_live;
 pub use made::in_sense;
 pub use problem::Problem;

@@ -9,7 +9,8 @@ ghost use Rattle.sparse_problem.specs.Renumbered.{changes_put, IsThere};
 ghost use Rattle.problem_model.specs.Problems.{bounds_at, column_at, column_entries, cost_at, IsSparse, row_at, row_entries, sides_at};
 
 use crate::entries::{Replaced, give, with_entry};
-use crate::lines::{delete_line, first_live, is_live, live_entries_of, live_terms_of};
+use crate::lines::{delete_line, first_live, live_entries_of, live_terms_of};
+use crate::living::is_live;
 use crate::moves::{move_bounds, move_sides};
 use crate::numbers::{line_changes, number_line};
 use fractions::ext::Ext;
@@ -257,7 +258,8 @@ impl Problem {
         self.costs[j as usize] = cost;
     }
 
-    /// Deletes a row with its sides. The columns' entries there stay in place, and are live no more.
+    /// Deletes a row with its sides. The columns' entries there are live no more; a column that has fewer live entries than others keeps
+    /// those alone.
     pub fn delete_row(&mut self, i: u32)
         requires { (row_at self.old i).live ≡ true }
         ensures { self.new ≡ row_deleted self.old i }
@@ -265,7 +267,8 @@ impl Problem {
         delete_line(&mut self.rows, &mut self.columns, i);
     }
 
-    /// Deletes a column with its bounds and its cost. The rows' entries there stay in place, and are live no more.
+    /// Deletes a column with its bounds and its cost. The rows' entries there are live no more; a row that has fewer live entries than
+    /// others keeps those alone.
     pub fn delete_column(&mut self, j: u32)
         requires { (column_at self.old j).live ≡ true }
         ensures { self.new ≡ column_deleted self.old j }
