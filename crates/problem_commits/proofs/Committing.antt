@@ -25,7 +25,7 @@ use Rattle.sparse_problem.specs.Renumbered.{same_part, number_put, changes_put, 
 use Rattle.sparse_problem.proofs.Renumbering.{numbered_self}
 use Rattle.problem_commits.specs.declared.notes.Note.{Note}
 use Rattle.problem_commits.specs.Noting.{asked, certain, all_noted, is_other, has_changed, raised_note, all_raised}
-use Rattle.problem_commits.proofs.Noted.{names, IsTrueNote, notes_true, unnoted_stay}
+use Rattle.problem_commits.proofs.Noted.{names, same_part-is, IsTrueNote, notes_true, unnoted_stay}
 
 -- ---- numbers matter where there are parts
 numbered_ext : (q : Sparse) (f g : Part → ℕ) → ((a : Part) → IsThere q a → f a ≡ g a) → numbered q f ≡ numbered q g
@@ -61,31 +61,6 @@ put_part f b n a = if same_part b a then n else f a
 put_numbered : (q : Sparse) (f : Part → ℕ) (b : Part) (n : ℕ) → changes_put (numbered q f) b n ≡ numbered q (put_part f b n)
 put_numbered q f b n = numbered_twice q f (number_put (numbered q f) b n)
     ∙ numbered_ext q (number_put (numbered q f) b n) (put_part f b n) (λ a l. ap (λ (m : ℕ). if same_part b a then n else m) (changes_there q f a l))
-
-id_is : (k i : ℕ) → nat_eq k i ≡ true → k ≡ i
-id_is k i h = by (cases_eq k i)
-  where
-    by : (k ≡ i) ⊎ (k ≢ i) → k ≡ i
-    by (inl e) = e
-    by (inr n) = absurd (not_both h (ne_eqb k i n))
-
-pub same_part-is : (a b : Part) → same_part a b ≡ true → b ≡ a
-same_part-is (part.Row i) (part.Row k) h = ap part.Row (id_is k i h)
-same_part-is (part.Row i) (part.Sides k) h = absurd (not_both h refl)
-same_part-is (part.Row i) (part.Col j) h = absurd (not_both h refl)
-same_part-is (part.Row i) (part.Bounds j) h = absurd (not_both h refl)
-same_part-is (part.Sides i) (part.Sides k) h = ap part.Sides (id_is k i h)
-same_part-is (part.Sides i) (part.Row k) h = absurd (not_both h refl)
-same_part-is (part.Sides i) (part.Col j) h = absurd (not_both h refl)
-same_part-is (part.Sides i) (part.Bounds j) h = absurd (not_both h refl)
-same_part-is (part.Col j) (part.Col k) h = ap part.Col (id_is k j h)
-same_part-is (part.Col j) (part.Row i) h = absurd (not_both h refl)
-same_part-is (part.Col j) (part.Sides i) h = absurd (not_both h refl)
-same_part-is (part.Col j) (part.Bounds k) h = absurd (not_both h refl)
-same_part-is (part.Bounds j) (part.Bounds k) h = ap part.Bounds (id_is k j h)
-same_part-is (part.Bounds j) (part.Row i) h = absurd (not_both h refl)
-same_part-is (part.Bounds j) (part.Sides i) h = absurd (not_both h refl)
-same_part-is (part.Bounds j) (part.Col k) h = absurd (not_both h refl)
 
 turned : (b : Bool) (x y : ℕ) → (if b then x else y) ≡ (if not b then y else x)
 turned true x y = refl

@@ -1,43 +1,21 @@
 -- Entries set, and given back.
-use Rattle.std.proofs.Common.{◌≡◌, ℕ, suc, ◌+◌, ◌<◌, ◌≤◌, arith, true, List, [], ◌∷◌, ◌++◌, length, set, refl, sym, ap, ap₂, ◌∙◌, subst}
-use Rattle.std.proofs.lemmas.List.{ext_get_or, length-append, length-set, get_or-set_same, get_or-set_other}
-use Rattle.rational.specs.Number.{Number}
-use Rattle.rational.proofs.Totals.{at_or_off}
+use Rattle.std.proofs.Common.{◌≡◌, ℕ, suc, ◌<◌, ◌≤◌, arith, true, List, [], ◌∷◌, ◌++◌, length, refl, sym, ap, ◌∙◌, subst, append_assoc}
+use Rattle.std.specs.List.{All}
+use Rattle.std.proofs.lemmas.List.{map-append}
+use Rattle.std.proofs.lemmas.List.Elements.{All-nil, All-cons, All-head, All-tail, All-push, All-weaker}
+use Rattle.lp_model.specs.declared.terms.Term.{Term}
 use Rattle.problem_model.specs.declared.edit.Edit.{Edit}
 use Rattle.problem_model.specs.declared.edit.Edit.TheVariants.{SetEntry}
 use Rattle.problem_model.specs.Allowed.{AreAllowed, EntriesFirst}
 use Rattle.problem_model.specs.Applied.{applied}
+use Rattle.problem_model.specs.Edits.{entry_set}
 use Rattle.problem_model.specs.Offsets.{OffsetFits}
-use Rattle.problem_model.specs.declared.line.Line.{Line}
-use Rattle.problem_model.specs.Edits.{line_put, lines_put, entry_set}
-use Rattle.problem_model.specs.Matrices.{no_line, line_at}
-use Rattle.problem_model.specs.Problems.{row_at, column_at, IsSparse}
+use Rattle.problem_model.specs.Problems.{row_at, IsSparse}
 use Rattle.problem_model.specs.Sparse.{Sparse}
-use Rattle.problem_laws.proofs.AtIds.{row_inside, column_inside}
-use Rattle.problem_laws.proofs.EntriesKept.{put_long, entry_set_sparse}
+use Rattle.problem_laws.proofs.EntriesKept.{put_row_live}
 use Rattle.sparse_problem.specs.declared.entries.Replaced.{Replaced}
-use Rattle.sparse_problem.specs.Putting.{held_of, line_given, replaced_at, entries_given}
-use Rattle.problem_commits.specs.Restoring.{entry_count, restored, CanGive, CanRestore, IsTrail}
-
--- ---- one entry
-line_back : (lines : List Line) (m k : ℕ) (a : Number) → m < length lines → set (lines_put lines m k a) m (line_given (held_of (line_at lines m)) (line_at (lines_put lines m k a) m)) ≡ lines
-line_back lines m k a l = ext_get_or no_line (set (lines_put lines m k a) m x) lines (length-set (lines_put lines m k a) m x ∙ put_long lines m k a)
-    (λ n h. at_or_off (λ n. line_at (set (lines_put lines m k a) m x) n ≡ line_at lines n) m
-    (get_or-set_same (lines_put lines m k a) m x no_line (subst (λ (n : ℕ). m < n) (sym (put_long lines m k a)) l) ∙ ap (line_given (held_of (line_at lines m))) (get_or-set_same lines m (line_put k a (line_at lines m)) no_line l))
-    (λ n d. get_or-set_other (lines_put lines m k a) m n x no_line d ∙ get_or-set_other lines m n (line_put k a (line_at lines m)) no_line d) n)
-  where
-    x : Line
-    x = line_given (held_of (line_at lines m)) (line_at (lines_put lines m k a) m)
-
-pub entry_back : (p : Sparse) (i j : ℕ) (a : Number) → (row_at p i).live ≡ true → (column_at p j).live ≡ true → entries_given (entry_set p i j a) (replaced_at p i j) ≡ p
-entry_back p i j a row column t = record p { matrix = record { rows = line_back p.matrix.rows i j a (row_inside p i row) t; columns = line_back p.matrix.columns j i a (column_inside p j column) t } }
-
-pub entry_can : (p : Sparse) (i j : ℕ) (a : Number) → IsSparse p → (row_at p i).live ≡ true → (column_at p j).live ≡ true → CanGive (entry_set p i j a) (replaced_at p i j)
-entry_can p i j a s row column = record {
-  row = subst (λ (n : ℕ). i < n) (sym (put_long p.matrix.rows i j a)) (row_inside p i row);
-  column = subst (λ (n : ℕ). j < n) (sym (put_long p.matrix.columns j i a)) (column_inside p j column);
-  sound = subst IsSparse (sym (entry_back p i j a row column)) s;
-}
+use Rattle.sparse_problem.specs.Putting.{entries_given, entries_set, GivesBack, IdsAscend}
+use Rattle.problem_commits.specs.Restoring.{restored, run_of, CanGive, CanRestore, IsTrail, MayGoOn}
 
 -- ---- one more at the end
 restored_last : (rs : List Replaced) (r : Replaced) (q : Sparse) → restored (rs ++ r ∷ []) q ≡ restored rs (entries_given q r)
@@ -52,19 +30,12 @@ last_can : (rs : List Replaced) (r : Replaced) (q : Sparse) → CanRestore (rs +
 last_can [] r q c = (c.0, tt)
 last_can (x ∷ rs) r q c = let d = last_can rs r q c.1 in (d.0, (subst (λ (o : Sparse). CanGive o x) (restored_last rs r q) c.0, d.1))
 
-pub trail_more : (rs : List Replaced) (p q r : Sparse) (b : Replaced) (i j : ℕ) (a : Number) → IsSparse q → (row_at q i).live ≡ true → (column_at q j).live ≡ true → IsTrail rs p q
-    → r ≡ entry_set q i j a → b ≡ replaced_at q i j → IsTrail (rs ++ b ∷ []) p r
-trail_more rs p q r b i j a s row column t e f =
-    let back : entries_given r b ≡ q = ap₂ entries_given e f ∙ entry_back q i j a row column in
-    record {
-      back = restored_last rs b r ∙ ap (restored rs) back ∙ t.back;
-      can = can_last rs b r (subst (λ (o : Sparse). CanGive o b) (sym e) (subst (λ (x : Replaced). CanGive (entry_set q i j a) x) (sym f) (entry_can q i j a s row column))) (subst (CanRestore rs) (sym back) t.can);
-    }
-
--- what was pushed, by equations
-pub trail_pushed : (all rs : List Replaced) (p q r : Sparse) (b : Replaced) (i j : ℕ) (a : Number) → all ≡ rs ++ b ∷ [] → IsSparse q → (row_at q i).live ≡ true → (column_at q j).live ≡ true → IsTrail rs p q
-    → r ≡ entry_set q i j a → b ≡ replaced_at q i j → IsTrail all p r
-trail_pushed all rs p q r b i j a made s row column t e f = subst (λ (ls : List Replaced). IsTrail ls p r) (sym made) (trail_more rs p q r b i j a s row column t e f)
+-- what was replaced since leads back to q, and from there the others to p
+pub trail_more : (all rs : List Replaced) (p q r : Sparse) (b : Replaced) → all ≡ rs ++ b ∷ [] → IsSparse q → GivesBack b r q → IsTrail rs p q → IsTrail all p r
+trail_more all rs p q r b made s g t = subst (λ (ls : List Replaced). IsTrail ls p r) (sym made) (record {
+  back = restored_last rs b r ∙ ap (restored rs) g.back ∙ t.back;
+  can = can_last rs b r (record { rows = g.rows; column = g.column; sound = subst IsSparse (sym g.back) s }) (subst (CanRestore rs) (sym g.back) t.can);
+})
 
 pub give_last : (all rs : List Replaced) (r : Replaced) (q : Sparse) → all ≡ rs ++ r ∷ [] → CanRestore all q → CanGive q r × CanRestore rs (entries_given q r)
 give_last all rs r q e c = last_can rs r q (subst (λ (ls : List Replaced). CanRestore ls q) e c)
@@ -72,27 +43,68 @@ give_last all rs r q e c = last_can rs r q (subst (λ (ls : List Replaced). CanR
 pub restore_step : (all rs : List Replaced) (r : Replaced) (q o : Sparse) → all ≡ rs ++ r ∷ [] → o ≡ entries_given q r → restored rs o ≡ restored all q
 restore_step all rs r q o e f = ap (restored rs) f ∙ sym (restored_last rs r q) ∙ ap (λ (ls : List Replaced). restored ls q) (sym e)
 
--- where edits stand before one that sets an entry, and behind it
-pub record Standing (p : Sparse) (es : List Edit) (rs : List Replaced) (most : ℕ) (q : Sparse) (fs : List Edit) : Type 0 where
-  pub same : applied q fs ≡ applied p es
-  pub allowed : AreAllowed q fs
-  pub fits : OffsetFits q.offset fs
-  pub first : EntriesFirst fs
-  pub sound : IsSparse q
-  pub trail : IsTrail rs p q
-  pub room : length rs + entry_count fs ≤ most
+-- ---- runs of entries of one column
+-- terms are put at the end
+pub ascend_push : (m k : ℕ) (ts : List Term) (t : Term) → IdsAscend m ts → All (λ (u : Term). u.id ≤ k) ts → m ≤ t.id → k < t.id → IdsAscend m (ts ++ t ∷ [])
+ascend_push m k [] t a b l h = (l, tt)
+ascend_push m k (u ∷ us) t a b l h = (a.0, ascend_push (suc u.id) k us t a.1 (All-tail (λ (u : Term). u.id ≤ k) u us b) (let c : u.id ≤ k = All-head (λ (u : Term). u.id ≤ k) u us b in omega (arith, c, h)) h)
 
-pub standing_step : (p : Sparse) (es : List Edit) (rs all : List Replaced) (n m : ℕ) (q r : Sparse) (fs gs : List Edit) (i j : ℕ) (a : Number) (b : Replaced) → Standing p es rs n q fs → fs ≡ SetEntry i j a ∷ gs
-    → r ≡ entry_set q i j a → b ≡ replaced_at q i j → all ≡ rs ++ b ∷ [] → n ≤ m → Standing p es all m r gs
-standing_step p es rs all n m q r fs gs i j a b s e f g h k =
-    let here = subst (AreAllowed q) e s.allowed in
-    let back : entry_set q i j a ≡ r = sym f in
+-- where the terms of a run are taken: those taken ascend to the last one, and the edits left are behind them
+pub record Taking (j : ℕ) (before : List Term) (es : List Edit) (ts : List Term) (last : ℕ) (fs : List Edit) : Type 0 where
+  pub run : run_of j before ++ es ≡ run_of j ts ++ fs
+  pub ascends : IdsAscend 0 ts
+  pub most : All (λ (t : Term). t.id ≤ last) ts
+  pub shorter : length fs ≤ length es
+
+pub taking_step : (j : ℕ) (before : List Term) (es : List Edit) (ts us : List Term) (last : ℕ) (fs gs : List Edit) (t : Term) → Taking j before es ts last fs → fs ≡ SetEntry t.id j t.value ∷ gs → last < t.id → us ≡ ts ++ t ∷ [] → Taking j before es us t.id gs
+taking_step j before es ts us last fs gs t k e h f =
+    let more : run_of j (ts ++ t ∷ []) ≡ run_of j ts ++ run_of j (t ∷ []) = map-append (λ (u : Term). SetEntry u.id j u.value) ts (t ∷ []) in
+    let joined : (run_of j ts ++ run_of j (t ∷ [])) ++ gs ≡ run_of j ts ++ (SetEntry t.id j t.value ∷ gs) = simp append_assoc in
     record {
-      same = ap (λ (x : Sparse). applied x gs) f ∙ ap (applied q) (sym e) ∙ s.same;
-      allowed = subst (λ (x : Sparse). AreAllowed x gs) back here.1;
-      fits = subst (λ (x : Sparse). OffsetFits x.offset gs) back (subst (OffsetFits q.offset) e s.fits);
-      first = subst EntriesFirst e s.first;
-      sound = subst IsSparse back (entry_set_sparse q i j a s.sound here.0.0 here.0.1);
-      trail = trail_pushed all rs p q r b i j a h s.sound here.0.0 here.0.1 s.trail f g;
-      room = let c : entry_count fs ≡ suc (entry_count gs) = ap entry_count e in let l : length all ≡ length rs + 1 = ap length h ∙ length-append rs (b ∷ []) in omega (arith, c, l, k, s.room);
+      run = k.run ∙ ap (λ (xs : List Edit). run_of j ts ++ xs) e ∙ sym (ap (λ (xs : List Term). run_of j xs ++ gs) f ∙ ap (λ (xs : List Edit). xs ++ gs) more ∙ joined);
+      ascends = subst (IdsAscend 0) (sym f) (ascend_push 0 last ts t k.ascends k.most (omega arith) h);
+      most = subst (All (λ (u : Term). u.id ≤ t.id)) (sym f) (All-push (λ (u : Term). u.id ≤ t.id) ts t (All-weaker (λ (u : Term). u.id ≤ last) (λ (u : Term). u.id ≤ t.id) (λ u l. omega (arith, l, h)) ts k.most) (omega arith));
+      shorter = let n : length fs ≡ suc (length gs) = ap length e in omega (arith, n, k.shorter);
     }
+
+-- a run may be made where its edits may
+pub run_rows : (p : Sparse) (j : ℕ) (ts : List Term) (fs : List Edit) → AreAllowed p (run_of j ts ++ fs) → All (λ (t : Term). (row_at p t.id).live ≡ true) ts
+run_rows p j [] fs h = All-nil (λ (t : Term). (row_at p t.id).live ≡ true)
+run_rows p j (t ∷ ts) fs h = All-cons (λ (u : Term). (row_at p u.id).live ≡ true) t ts h.0.0
+    (All-weaker (λ (u : Term). (row_at (entry_set p t.id j t.value) u.id).live ≡ true) (λ (u : Term). (row_at p u.id).live ≡ true) (λ u e. sym (put_row_live p t.id j t.value h.0.0 u.id) ∙ e) ts
+    (run_rows (entry_set p t.id j t.value) j ts fs h.1))
+
+run_made : (p : Sparse) (j : ℕ) (ts : List Term) (fs : List Edit) → applied p (run_of j ts ++ fs) ≡ applied (entries_set p j ts) fs
+run_made p j [] fs = refl
+run_made p j (t ∷ ts) fs = run_made (entry_set p t.id j t.value) j ts fs
+
+run_allowed : (p : Sparse) (j : ℕ) (ts : List Term) (fs : List Edit) → AreAllowed p (run_of j ts ++ fs) → AreAllowed (entries_set p j ts) fs
+run_allowed p j [] fs h = h
+run_allowed p j (t ∷ ts) fs h = run_allowed (entry_set p t.id j t.value) j ts fs h.1
+
+run_fits : (p : Sparse) (j : ℕ) (ts : List Term) (fs : List Edit) → OffsetFits p.offset (run_of j ts ++ fs) → OffsetFits (entries_set p j ts).offset fs
+run_fits p j [] fs h = h
+run_fits p j (t ∷ ts) fs h = run_fits (entry_set p t.id j t.value) j ts fs h
+
+run_first : (j : ℕ) (ts : List Term) (fs : List Edit) → EntriesFirst (run_of j ts ++ fs) → EntriesFirst fs
+run_first j [] fs h = h
+run_first j (t ∷ ts) fs h = run_first j ts fs h
+
+pub run_same : (p q : Sparse) (j : ℕ) (ts : List Term) (es fs : List Edit) → es ≡ run_of j ts ++ fs → q ≡ entries_set p j ts → applied q fs ≡ applied p es
+run_same p q j ts es fs e f = ap (λ (x : Sparse). applied x fs) f ∙ sym (ap (applied p) e ∙ run_made p j ts fs)
+
+pub run_goes_on : (p q : Sparse) (j : ℕ) (ts : List Term) (es fs : List Edit) → es ≡ run_of j ts ++ fs → q ≡ entries_set p j ts → MayGoOn p es → MayGoOn q fs
+run_goes_on p q j ts es fs e f m = subst (λ (x : Sparse). MayGoOn x fs) (sym f) (record {
+  allowed = run_allowed p j ts fs (subst (AreAllowed p) e m.allowed);
+  fits = run_fits p j ts fs (subst (OffsetFits p.offset) e m.fits);
+  first = run_first j ts fs (subst EntriesFirst e m.first);
+})
+
+pub run_live : (p : Sparse) (j : ℕ) (ts : List Term) (es fs : List Edit) → es ≡ run_of j ts ++ fs → MayGoOn p es → All (λ (t : Term). (row_at p t.id).live ≡ true) ts
+run_live p j ts es fs e m = run_rows p j ts fs (subst (AreAllowed p) e m.allowed)
+
+-- where edits stand before one that sets an entry, and behind those that are made with it
+pub record Standing (p : Sparse) (es : List Edit) (rs : List Replaced) (q : Sparse) (fs : List Edit) : Type 0 where
+  pub same : applied q fs ≡ applied p es
+  pub may : MayGoOn q fs
+  pub trail : IsTrail rs p q

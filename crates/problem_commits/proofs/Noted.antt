@@ -1,7 +1,7 @@
 -- The notes of edits name each part that the edits change, and say of none that it changed for certain that did not.
 use Rattle.std.proofs.Common.{◌≡◌, ◌≢◌, ℕ, nat_eq, Bool, true, false, ◌||◌, ◌&&◌, get_or, List, [], ◌∷◌, ◌++◌, refl, sym, ap, ◌∙◌, ◌⊎◌, inl, inr}
 use Rattle.std.specs.Prelude.{if◌then◌else◌}
-use Rattle.std.proofs.lemmas.Bool.{eq-eqb, cases_eq}
+use Rattle.std.proofs.lemmas.Bool.{eq-eqb, ne_eqb, cases_eq}
 use Rattle.std.specs.List.{All}
 use Rattle.std.proofs.lemmas.List.Elements.{All-nil, All-cons, All-map, All-append}
 use Rattle.rational.specs.Number.{zero_ℚ}
@@ -28,11 +28,36 @@ use Rattle.problem_laws.proofs.Single.{sparse_edited}
 use Rattle.edit_laws.proofs.Untouched.{rows_hold, columns_hold, stays_edited}
 use Rattle.sparse_problem.specs.Renumbered.{same_part, IsThere}
 use Rattle.problem_commits.specs.declared.notes.Note.{Note}
-use Rattle.problem_commits.specs.Noting.{asked, certain, columns_noted, rows_noted, noted, all_noted}
+use Rattle.problem_commits.specs.Noting.{asked, certain, columns_noted, rows_noted, goes_on, column_noted, noted, all_noted}
 
 either : (a b : Bool) → (a || b) ≡ false → (a ≡ false) × (b ≡ false)
 either false b h = (refl, h)
 either true b h = absurd (not_both refl h)
+
+id_is : (k i : ℕ) → nat_eq k i ≡ true → k ≡ i
+id_is k i h = by (cases_eq k i)
+  where
+    by : (k ≡ i) ⊎ (k ≢ i) → k ≡ i
+    by (inl e) = e
+    by (inr n) = absurd (not_both h (ne_eqb k i n))
+
+pub same_part-is : (a b : Part) → same_part a b ≡ true → b ≡ a
+same_part-is (part.Row i) (part.Row k) h = ap part.Row (id_is k i h)
+same_part-is (part.Row i) (part.Sides k) h = absurd (not_both h refl)
+same_part-is (part.Row i) (part.Col j) h = absurd (not_both h refl)
+same_part-is (part.Row i) (part.Bounds j) h = absurd (not_both h refl)
+same_part-is (part.Sides i) (part.Sides k) h = ap part.Sides (id_is k i h)
+same_part-is (part.Sides i) (part.Row k) h = absurd (not_both h refl)
+same_part-is (part.Sides i) (part.Col j) h = absurd (not_both h refl)
+same_part-is (part.Sides i) (part.Bounds j) h = absurd (not_both h refl)
+same_part-is (part.Col j) (part.Col k) h = ap part.Col (id_is k j h)
+same_part-is (part.Col j) (part.Row i) h = absurd (not_both h refl)
+same_part-is (part.Col j) (part.Sides i) h = absurd (not_both h refl)
+same_part-is (part.Col j) (part.Bounds k) h = absurd (not_both h refl)
+same_part-is (part.Bounds j) (part.Bounds k) h = ap part.Bounds (id_is k j h)
+same_part-is (part.Bounds j) (part.Row i) h = absurd (not_both h refl)
+same_part-is (part.Bounds j) (part.Sides i) h = absurd (not_both h refl)
+same_part-is (part.Bounds j) (part.Col k) h = absurd (not_both h refl)
 
 -- whether a part is among those noted
 abbrev pub names : List Note → Part → Bool
@@ -105,7 +130,7 @@ module _ (p r : Sparse) (s : IsSparse p) (v : IsSparse r) (lives : Lives p r) wh
           let none : has j (row_entries p i) ≡ false = live_entries_name p i j s before (lives.columns j column) ∙ row_named p (column_entries p j) i h in
           rows_hold r (column_deleted r j) i (losing-live (column_deleted r j).matrix.columns r.matrix.rows j i) (column_deleted-row_entries r j (column_inside r j column) i ∙ without-absent j (row_entries r i) (ap (has j) same ∙ none))
 
-  pub unnoted : (e : Edit) (a : Part) → IsAllowed r e → names (noted p e) a ≡ false → contents_of r a ≡ contents_of p a → contents_of (edited r e) a ≡ contents_of r a
+  pub unnoted : (e : Edit) (a : Part) → IsAllowed r e → names (noted p e []) a ≡ false → contents_of r a ≡ contents_of p a → contents_of (edited r e) a ≡ contents_of r a
   unnoted (DeleteRow i) (part.Row k) h n e = stays_edited r (DeleteRow i) (part.Row k) v h (either (nat_eq k i) _ n).0
   unnoted (DeleteRow i) (part.Sides k) h n e = stays_edited r (DeleteRow i) (part.Sides k) v h (either (nat_eq k i) _ n).0
   unnoted (DeleteRow i) (part.Col j) h n e = column_apart i j h n e
@@ -123,11 +148,59 @@ module _ (p r : Sparse) (s : IsSparse p) (v : IsSparse r) (lives : Lives p r) wh
   unnoted (SetEntry i j w) (part.Col k) h n e = stays_edited r (SetEntry i j w) (part.Col k) v h (either (nat_eq k j) false n).0
   unnoted (SetEntry i j w) (part.Bounds k) h n e = stays_edited r (SetEntry i j w) (part.Bounds k) v h refl
 
+-- a column that is noted later is named there
+goes_named : (p : Sparse) (j : ℕ) (es : List Edit) → goes_on j es ≡ true → names (all_noted p es) (part.Col j) ≡ true
+goes_named p j [] h = absurd (not_both h refl)
+goes_named p j (DeleteRow i ∷ es) h = absurd (not_both h refl)
+goes_named p j (DeleteColumn k ∷ es) h = absurd (not_both h refl)
+goes_named p j (SetSides i l u ∷ es) h = absurd (not_both h refl)
+goes_named p j (SetBounds k l u ∷ es) h = absurd (not_both h refl)
+goes_named p j (AddOffset k ∷ es) h = absurd (not_both h refl)
+goes_named p j (SetCost k c ∷ es) h = absurd (not_both h refl)
+goes_named p j (SetEntry i k a ∷ es) h = by (cases_eq k j) (λ g. goes_named p j es g)
+  where
+    by : (k ≡ j) ⊎ (k ≢ j) → (goes_on j es ≡ true → names (all_noted p es) (part.Col j) ≡ true) → names (column_noted p k es ++ all_noted p es) (part.Col j) ≡ true
+    by (inr n) ih = absurd (not_both h (ne_eqb k j n))
+    by (inl e) ih = later (goes_on k es) (λ g. ih (ap (λ (m : ℕ). goes_on m es) (sym e) ∙ g)) refl
+      where
+        later : (b : Bool) → (goes_on k es ≡ true → names (all_noted p es) (part.Col j) ≡ true) → goes_on k es ≡ b → names ((if b then [] else asked p (part.Col k) ∷ []) ++ all_noted p es) (part.Col j) ≡ true
+        later true ih g = ih g
+        later false ih g = ap (λ (b : Bool). b || names (all_noted p es) (part.Col j)) (eq-eqb j k (sym e))
+
+-- what no note of edits names, no note of the first names, nor of the others
+entry_names : (p : Sparse) (i j : ℕ) (es : List Edit) (a : Part) → names (asked p (part.Row i) ∷ column_noted p j es ++ all_noted p es) a ≡ false
+    → (names (asked p (part.Row i) ∷ asked p (part.Col j) ∷ []) a ≡ false) × (names (all_noted p es) a ≡ false)
+entry_names p i j es a n =
+    let m = either (same_part (part.Row i) a) (names (column_noted p j es ++ all_noted p es) a) n in
+    let rest = names_append (column_noted p j es) (all_noted p es) a m.1 in (
+      neither (same_part (part.Row i) a) (same_part (part.Col j) a) m.0 (by (same_part (part.Col j) a) refl (goes_on j es) refl rest.0 rest.1),
+      rest.1,
+    )
+  where
+    neither : (b c : Bool) → b ≡ false → c ≡ false → (b || (c || false)) ≡ false
+    neither true c e f = absurd (not_both refl e)
+    neither false true e f = absurd (not_both refl f)
+    neither false false e f = refl
+
+    by : (b : Bool) → same_part (part.Col j) a ≡ b → (c : Bool) → goes_on j es ≡ c → names (if c then [] else asked p (part.Col j) ∷ []) a ≡ false → names (all_noted p es) a ≡ false → b ≡ false
+    by false e c g k l = refl
+    by true e true g k l = absurd (not_both (ap (names (all_noted p es)) (same_part-is (part.Col j) a e) ∙ goes_named p j es g) l)
+    by true e false g k l = absurd (not_both e (either (same_part (part.Col j) a) false k).0)
+
+none_names : (p : Sparse) (e : Edit) (es : List Edit) (a : Part) → names (all_noted p (e ∷ es)) a ≡ false → (names (noted p e []) a ≡ false) × (names (all_noted p es) a ≡ false)
+none_names p (DeleteRow i) es a n = names_append (noted p (DeleteRow i) []) (all_noted p es) a n
+none_names p (DeleteColumn j) es a n = names_append (noted p (DeleteColumn j) []) (all_noted p es) a n
+none_names p (SetSides i l u) es a n = names_append (noted p (SetSides i l u) []) (all_noted p es) a n
+none_names p (SetBounds j l u) es a n = names_append (noted p (SetBounds j l u) []) (all_noted p es) a n
+none_names p (AddOffset k) es a n = names_append (noted p (AddOffset k) []) (all_noted p es) a n
+none_names p (SetCost j c) es a n = names_append (noted p (SetCost j c) []) (all_noted p es) a n
+none_names p (SetEntry i j w) es a n = entry_names p i j es a n
+
 -- and by all of them
 all_unnoted : (p r : Sparse) (es : List Edit) (a : Part) → IsSparse p → IsSparse r → Lives p r → AreAllowed r es → names (all_noted p es) a ≡ false → contents_of r a ≡ contents_of p a → contents_of (applied r es) a ≡ contents_of p a
 all_unnoted p r [] a s v lives h n e = e
 all_unnoted p r (d ∷ es) a s v lives h n e =
-    let m = names_append (noted p d) (all_noted p es) a n in
+    let m = none_names p d es a n in
     all_unnoted p (edited r d) es a s (sparse_edited r d v h.0) (lives_more p r (edited r d) lives (lives_edited r d h.0)) h.1 m.1 (unnoted p r s v lives d a h.0 m.0 e ∙ e)
 
 pub unnoted_stay : (p : Sparse) (es : List Edit) (a : Part) → IsSparse p → AreAllowed p es → names (all_noted p es) a ≡ false → contents_of (applied p es) a ≡ contents_of p a
@@ -197,21 +270,24 @@ module _ (p q : Sparse) (s : IsSparse p) where
       rows = λ k d l. let live = column_entries-live p j k d l in certain_true p q (part.Row (get_or (column_entries p j) k d).id) (row_inside p _ live) (lost _ live (named_self (column_entries p j) (column_entries-tell p j s) (column_entries-none_zero p j s) k d l))
 
 -- the notes of an edit that is made on r, of which q comes in the end
-one_true : (p r q : Sparse) (e : Edit) → IsSparse p → Lives p r → Lives (edited r e) q → IsAllowed r e → All (IsTrueNote p q) (noted p e)
-one_true p r q (DeleteRow i) s lives after h = row_gone p q s i (lives.rows i h) (dead (row_at q i).live (row_at (row_deleted r i) i).live (after.rows i) (without-dead r.matrix.rows i (row_inside r i h)))
-one_true p r q (DeleteColumn j) s lives after h = column_gone p q s j (lives.columns j h) (dead (column_at q j).live (column_at (column_deleted r j) j).live (after.columns j) (without-dead r.matrix.columns j (column_inside r j h)))
-one_true p r q (SetSides i l u) s lives after h = All-cons (IsTrueNote p q) (asked p (part.Sides i)) [] (asked_true p q (part.Sides i) (sides_inside p i s (lives.rows i h))) (All-nil (IsTrueNote p q))
-one_true p r q (SetBounds j l u) s lives after h = All-cons (IsTrueNote p q) (asked p (part.Bounds j)) [] (asked_true p q (part.Bounds j) (bounds_inside p j s (lives.columns j h))) (All-nil (IsTrueNote p q))
-one_true p r q (AddOffset k) s lives after h = All-nil (IsTrueNote p q)
-one_true p r q (SetCost j c) s lives after h = All-cons (IsTrueNote p q) (asked p (part.Col j)) [] (asked_true p q (part.Col j) (column_inside p j (lives.columns j h))) (All-nil (IsTrueNote p q))
-one_true p r q (SetEntry i j w) s lives after h = All-cons (IsTrueNote p q) (asked p (part.Row i)) (asked p (part.Col j) ∷ []) (asked_true p q (part.Row i) (row_inside p i (lives.rows i h.0)))
-    (All-cons (IsTrueNote p q) (asked p (part.Col j)) [] (asked_true p q (part.Col j) (column_inside p j (lives.columns j h.1))) (All-nil (IsTrueNote p q)))
+one_true : (p r q : Sparse) (e : Edit) (es : List Edit) → IsSparse p → Lives p r → Lives (edited r e) q → IsAllowed r e → All (IsTrueNote p q) (noted p e es)
+one_true p r q (DeleteRow i) es s lives after h = row_gone p q s i (lives.rows i h) (dead (row_at q i).live (row_at (row_deleted r i) i).live (after.rows i) (without-dead r.matrix.rows i (row_inside r i h)))
+one_true p r q (DeleteColumn j) es s lives after h = column_gone p q s j (lives.columns j h) (dead (column_at q j).live (column_at (column_deleted r j) j).live (after.columns j) (without-dead r.matrix.columns j (column_inside r j h)))
+one_true p r q (SetSides i l u) es s lives after h = All-cons (IsTrueNote p q) (asked p (part.Sides i)) [] (asked_true p q (part.Sides i) (sides_inside p i s (lives.rows i h))) (All-nil (IsTrueNote p q))
+one_true p r q (SetBounds j l u) es s lives after h = All-cons (IsTrueNote p q) (asked p (part.Bounds j)) [] (asked_true p q (part.Bounds j) (bounds_inside p j s (lives.columns j h))) (All-nil (IsTrueNote p q))
+one_true p r q (AddOffset k) es s lives after h = All-nil (IsTrueNote p q)
+one_true p r q (SetCost j c) es s lives after h = All-cons (IsTrueNote p q) (asked p (part.Col j)) [] (asked_true p q (part.Col j) (column_inside p j (lives.columns j h))) (All-nil (IsTrueNote p q))
+one_true p r q (SetEntry i j w) es s lives after h = All-cons (IsTrueNote p q) (asked p (part.Row i)) (column_noted p j es) (asked_true p q (part.Row i) (row_inside p i (lives.rows i h.0))) (by (goes_on j es))
+  where
+    by : (b : Bool) → All (IsTrueNote p q) (if b then [] else asked p (part.Col j) ∷ [])
+    by true = All-nil (IsTrueNote p q)
+    by false = All-cons (IsTrueNote p q) (asked p (part.Col j)) [] (asked_true p q (part.Col j) (column_inside p j (lives.columns j h.1))) (All-nil (IsTrueNote p q))
 
 all_true : (p r : Sparse) (es : List Edit) → IsSparse p → IsSparse r → Lives p r → AreAllowed r es → All (IsTrueNote p (applied r es)) (all_noted p es)
 all_true p r [] s v lives h = All-nil (IsTrueNote p r)
 all_true p r (e ∷ es) s v lives h =
     let next = sparse_edited r e v h.0 in
-    All-append (IsTrueNote p (applied (edited r e) es)) (noted p e) (all_noted p es) (one_true p r (applied (edited r e) es) e s lives (lives_applied (edited r e) es next h.1) h.0)
+    All-append (IsTrueNote p (applied (edited r e) es)) (noted p e es) (all_noted p es) (one_true p r (applied (edited r e) es) e es s lives (lives_applied (edited r e) es next h.1) h.0)
     (all_true p (edited r e) es s next (lives_more p r (edited r e) lives (lives_edited r e h.0)) h.1)
 
 pub notes_true : (p : Sparse) (es : List Edit) → IsSparse p → AreAllowed p es → All (IsTrueNote p (applied p es)) (all_noted p es)

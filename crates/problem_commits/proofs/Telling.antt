@@ -18,8 +18,7 @@ use Rattle.edit_laws.proofs.Raising.{counted_committed}
 use Rattle.sparse_problem.specs.Renumbered.{same_part}
 use Rattle.problem_commits.specs.declared.notes.Note.{Note}
 use Rattle.problem_commits.specs.Noting.{all_noted, asked, certain, has_changed, is_other}
-use Rattle.problem_commits.proofs.Committing.{same_part-is}
-use Rattle.problem_commits.proofs.Noted.{IsTrueNote, names, notes_true, unnoted_stay}
+use Rattle.problem_commits.proofs.Noted.{IsTrueNote, names, notes_true, same_part-is, unnoted_stay}
 use Rattle.std.specs.Prelude.{if◌then◌else◌}
 use Rattle.problem_model.specs.declared.part.Contents.{Contents}
 use Rattle.edit_laws.proofs.SameContents.{is-same_contents, same_contents-is}

@@ -1,5 +1,5 @@
 -- Notes of parts that edits touch, as they stood before, and the numbers that rise by them.
-use Rattle.std.specs.Prelude.{Bool, true, not, List, [], ◌∷◌, ◌++◌, map, Option, Some, None, if◌then◌else◌}
+use Rattle.std.specs.Prelude.{ℕ, nat_eq, Bool, true, false, not, List, [], ◌∷◌, ◌++◌, map, Option, Some, None, if◌then◌else◌}
 use Rattle.lp_model.specs.declared.terms.Term.{Term}
 use Rattle.problem_model.specs.declared.edit.Edit.{Edit}
 use Rattle.problem_model.specs.declared.edit.Edit.TheVariants.{DeleteRow, DeleteColumn, SetSides, SetBounds, AddOffset, SetCost, SetEntry}
@@ -26,19 +26,34 @@ columns_noted p ts = map (λ t. certain p (part.Col t.id)) ts
 abbrev pub rows_noted : Sparse → List Term → List Note
 rows_noted p ts = map (λ t. certain p (part.Row t.id)) ts
 
--- the notes of one edit on the problem before all of them
-abbrev pub noted : Sparse → Edit → List Note
-noted p (DeleteRow i) = certain p (part.Row i) ∷ certain p (part.Sides i) ∷ columns_noted p (row_entries p i)
-noted p (DeleteColumn j) = certain p (part.Col j) ∷ certain p (part.Bounds j) ∷ rows_noted p (column_entries p j)
-noted p (SetSides i l u) = asked p (part.Sides i) ∷ []
-noted p (SetBounds j l u) = asked p (part.Bounds j) ∷ []
-noted p (AddOffset k) = []
-noted p (SetCost j c) = asked p (part.Col j) ∷ []
-noted p (SetEntry i j a) = asked p (part.Row i) ∷ asked p (part.Col j) ∷ []
+-- whether edits begin with one that sets an entry of column j
+abbrev pub goes_on : ℕ → List Edit → Bool
+goes_on j [] = false
+goes_on j (SetEntry i k a ∷ es) = nat_eq k j
+goes_on j (DeleteRow i ∷ es) = false
+goes_on j (DeleteColumn k ∷ es) = false
+goes_on j (SetSides i l u ∷ es) = false
+goes_on j (SetBounds k l u ∷ es) = false
+goes_on j (AddOffset k ∷ es) = false
+goes_on j (SetCost k c ∷ es) = false
+
+-- a column in which entries are set one after the other is noted once, with the last of them
+abbrev pub column_noted : Sparse → ℕ → List Edit → List Note
+column_noted p j es = if goes_on j es then [] else asked p (part.Col j) ∷ []
+
+-- the notes of one edit, behind which others come, on the problem before all of them
+abbrev pub noted : Sparse → Edit → List Edit → List Note
+noted p (DeleteRow i) es = certain p (part.Row i) ∷ certain p (part.Sides i) ∷ columns_noted p (row_entries p i)
+noted p (DeleteColumn j) es = certain p (part.Col j) ∷ certain p (part.Bounds j) ∷ rows_noted p (column_entries p j)
+noted p (SetSides i l u) es = asked p (part.Sides i) ∷ []
+noted p (SetBounds j l u) es = asked p (part.Bounds j) ∷ []
+noted p (AddOffset k) es = []
+noted p (SetCost j c) es = asked p (part.Col j) ∷ []
+noted p (SetEntry i j a) es = asked p (part.Row i) ∷ column_noted p j es
 
 abbrev pub all_noted : Sparse → List Edit → List Note
 all_noted p [] = []
-all_noted p (e ∷ es) = noted p e ++ all_noted p es
+all_noted p (e ∷ es) = noted p e es ++ all_noted p es
 
 -- whether a note's part holds something else in q
 abbrev pub is_other : Option Contents → Contents → Bool

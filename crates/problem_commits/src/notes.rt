@@ -4,7 +4,7 @@ ghost use Rattle.std.specs.Prelude.{◌≡◌, ◌++◌, ◌∷◌, [], map, IfO
 ghost use Rattle.problem_model.specs.Matrices.{live_only};
 ghost use Rattle.problem_model.specs.declared.edit.Edit.TheVariants as edit;
 ghost use Rattle.problem_model.specs.declared.part.Part.TheVariants as part;
-ghost use Rattle.problem_commits.specs.Noting.{all_noted, asked, certain, columns_noted, noted, rows_noted};
+ghost use Rattle.problem_commits.specs.Noting.{all_noted, asked, certain, column_noted, columns_noted, goes_on, noted, rows_noted};
 
 use crate::parts::read_contents;
 use lp_model::Term;
@@ -98,7 +98,7 @@ fn note_rows(notes: &mut Vec<Note>, problem: &Problem, terms: &[Term]) -> Result
 
 /// Notes a row that is deleted, its sides, and the columns that lose an entry.
 fn note_deleted_row(notes: &mut Vec<Note>, problem: &Problem, i: u32) -> Result<(), AllocError>
-    ensures { OnOk result (notes.new.items ≡ notes.old.items ++ noted problem.now (edit.DeleteRow i)) }
+    ensures { OnOk result (notes.new.items ≡ notes.old.items ++ noted problem.now (edit.DeleteRow i) []) }
 {
     note_certain(notes, problem, Part::Row(i))?;
     note_certain(notes, problem, Part::Sides(i))?;
@@ -110,7 +110,7 @@ fn note_deleted_row(notes: &mut Vec<Note>, problem: &Problem, i: u32) -> Result<
 
 /// Notes a column that is deleted, its bounds, and the rows that lose an entry.
 fn note_deleted_column(notes: &mut Vec<Note>, problem: &Problem, j: u32) -> Result<(), AllocError>
-    ensures { OnOk result (notes.new.items ≡ notes.old.items ++ noted problem.now (edit.DeleteColumn j)) }
+    ensures { OnOk result (notes.new.items ≡ notes.old.items ++ noted problem.now (edit.DeleteColumn j) []) }
 {
     note_certain(notes, problem, Part::Col(j))?;
     note_certain(notes, problem, Part::Bounds(j))?;
@@ -120,28 +120,43 @@ fn note_deleted_column(notes: &mut Vec<Note>, problem: &Problem, j: u32) -> Resu
     }
 }
 
-/// Notes the row and the column in which an entry crosses.
-fn ask_both(
+/// Whether edits begin with one that sets an entry of a column.
+fn goes_on(edits: &[Edit], j: u32) -> bool
+    ensures { result ≡ goes_on j edits.now }
+{
+    match edits {
+        [Edit::SetEntry { column, .. }, ..] => *column == j,
+        _ => false,
+    }
+}
+
+/// Notes the row and the column in which an entry crosses; the column with the last of its entries that are set one after the other.
+fn note_entry(
     notes: &mut Vec<Note>,
     alloc: Global,
     problem: &Problem,
     i: u32,
     j: u32,
+    after: &[Edit],
 ) -> Result<(), AllocError>
-    ensures { OnOk result (notes.new.items ≡ notes.old.items ++ asked problem.now (part.Row i) ∷ asked problem.now (part.Col j) ∷ []) }
+    ensures { OnOk result (notes.new.items ≡ notes.old.items ++ asked problem.now (part.Row i) ∷ column_noted problem.now j after.now) }
 {
     ask(notes, alloc, problem, Part::Row(i))?;
-    ask(notes, alloc, problem, Part::Col(j))
+    if !goes_on(after, j) {
+        ask(notes, alloc, problem, Part::Col(j))?;
+    }
+    Ok(())
 }
 
-/// Notes what an edit touches.
+/// Notes what an edit touches, behind which others come.
 fn note_edit(
     notes: &mut Vec<Note>,
     alloc: Global,
     problem: &Problem,
     edit: &Edit,
+    after: &[Edit],
 ) -> Result<(), AllocError>
-    ensures { OnOk result (notes.new.items ≡ notes.old.items ++ noted problem.now edit.now) }
+    ensures { OnOk result (notes.new.items ≡ notes.old.items ++ noted problem.now edit.now after.now) }
 {
     match edit {
         Edit::DeleteRow { row } => note_deleted_row(notes, problem, *row),
@@ -150,7 +165,9 @@ fn note_edit(
         Edit::SetBounds { column, .. } => ask(notes, alloc, problem, Part::Bounds(*column)),
         Edit::AddOffset { .. } => Ok(()),
         Edit::SetCost { column, .. } => ask(notes, alloc, problem, Part::Col(*column)),
-        Edit::SetEntry { row, column, .. } => ask_both(notes, alloc, problem, *row, *column),
+        Edit::SetEntry { row, column, .. } => note_entry(
+            notes, alloc, problem, *row, *column, after,
+        ),
     }
 }
 
@@ -161,7 +178,7 @@ pub fn note_all(alloc: Global, problem: &Problem, edits: &[Edit]) -> Result<Vec<
     let mut notes = Vec::new(alloc);
     let mut rest = edits;
     while let [edit, after @ ..] = rest {
-        note_edit(&mut notes, alloc, problem, edit)?;
+        note_edit(&mut notes, alloc, problem, edit, after)?;
         rest = after;
     }
     Ok(notes)

@@ -1,14 +1,15 @@
 //! Problems.
 
 ghost use Rattle.std.specs.Prelude.{◌≡◌, ◌<◌, ◌^◌, length, IfOk, OnErr, OnOk, true, [], ◌∷◌};
-ghost use Rattle.problem_model.specs.Edits.{bounds_set, column_deleted, cost_set, entry_set, offset_set, row_deleted, sides_set};
+ghost use Rattle.std.specs.List.{All};
+ghost use Rattle.problem_model.specs.Edits.{bounds_set, column_deleted, cost_set, offset_set, row_deleted, sides_set};
 ghost use Rattle.problem_model.specs.Parts.{changes_of};
 ghost use Rattle.problem_model.specs.declared.part.Part.TheVariants as part;
-ghost use Rattle.sparse_problem.specs.Putting.{replaced_at, entries_given};
+ghost use Rattle.sparse_problem.specs.Putting.{AreInside, entries_given, entries_set, GivesBack, IdsAscend};
 ghost use Rattle.sparse_problem.specs.Renumbered.{changes_put, IsThere};
 ghost use Rattle.problem_model.specs.Problems.{bounds_at, column_at, column_entries, cost_at, IsSparse, row_at, row_entries, sides_at};
 
-use crate::entries::{Replaced, give, with_entry};
+use crate::entries::{Replaced, exchange, exchange_all, give_back, line_with_terms, rows_with};
 use crate::lines::{delete_line, first_live, live_entries_of, live_terms_of};
 use crate::living::is_live;
 use crate::moves::{move_bounds, move_sides};
@@ -341,44 +342,40 @@ impl Problem {
         }
     }
 
-    /// Sets the entry in which a row and a column cross, and hands out the entries that both had. 0 leaves no entry there. The new lists
-    /// are made before the first of them is put in place.
+    /// Sets entries of a column, each in the row that its term names, and hands out the entries that these lines had. 0 leaves no entry.
+    /// The new lists, one for each line, are made before the first of them is put in place.
     ///
     /// # Errors
     /// Memory ran out. The problem is as it was.
-    pub fn set_entry(
+    pub fn set_entries(
         &mut self,
         alloc: Global,
-        i: u32,
         j: u32,
-        value: Frac,
+        terms: &[Term],
     ) -> Result<Replaced, AllocError>
-        requires row { (row_at self.old i).live ≡ true }
+        requires rows { All (λ t. (row_at self.old t.id).live ≡ true) terms.now }
         requires column { (column_at self.old j).live ≡ true }
-        ensures set { OnOk result (self.new ≡ entry_set self.old i j value) }
-        ensures before { IfOk result (λ c. c ≡ replaced_at self.old i j) }
+        requires ascends { IdsAscend 0 terms.now }
+        ensures set { OnOk result (self.new ≡ entries_set self.old j terms.now) }
+        ensures back { IfOk result (λ c. GivesBack c self.new self.old) }
         ensures err { OnErr result (self.new ≡ self.old) }
     {
-        let in_row = with_entry(alloc, &self.rows[i as usize], j, &value)?;
-        let in_column = with_entry(alloc, &self.columns[j as usize], i, &value)?;
-        let in_row = give(&mut self.rows[i as usize], in_row);
-        let in_column = give(&mut self.columns[j as usize], in_column);
-        Ok(Replaced {
-            row: i,
-            column: j,
-            in_row,
-            in_column,
-        })
+        let mut in_column = line_with_terms(alloc, self.columns.as_slice(), j, terms)?;
+        let mut in_rows = rows_with(alloc, self.rows.as_slice(), j, terms)?;
+        exchange(&mut self.columns, &mut in_column);
+        exchange_all(&mut self.rows, &mut in_rows);
+        Ok(Replaced { in_column, in_rows })
     }
 
-    /// Gives a row and a column the entries that they had.
+    /// Gives rows and a column the entries that they had.
     pub fn put_back(&mut self, before: Replaced)
-        requires row { before.row < length self.old.matrix.rows }
-        requires column { before.column < length self.old.matrix.columns }
+        requires rows { AreInside before.in_rows.items self.old.matrix.rows }
+        requires column { before.in_column.line < length self.old.matrix.columns }
         requires sound { IsSparse (entries_given self.old before) }
         ensures { self.new ≡ entries_given self.old before }
     {
-        give(&mut self.rows[before.row as usize], before.in_row);
-        give(&mut self.columns[before.column as usize], before.in_column);
+        let mut in_column = before.in_column;
+        exchange(&mut self.columns, &mut in_column);
+        give_back(&mut self.rows, before.in_rows);
     }
 }

@@ -4,8 +4,8 @@ use Rattle.problem_commits.specs.Restoring.{CanRestore}
 use Rattle.problem_commits.proofs.GivingBack.{give_last, restore_step}
 use Rattle.problem_commits.proofs.entries.restore.Goals as goal
 
-pub put_back-requires-clause-row : goal.put_back-requires-clause-row
-put_back-requires-clause-row c = let f = give_last c.loop-last.left.items c.pop.new.self.items c.in-Some.last c.loop-last.problem c.in-Some.ensures.items c.loop-last.invariant.can in f.0.row
+pub put_back-requires-clause-rows : goal.put_back-requires-clause-rows
+put_back-requires-clause-rows c = let f = give_last c.loop-last.left.items c.pop.new.self.items c.in-Some.last c.loop-last.problem c.in-Some.ensures.items c.loop-last.invariant.can in f.0.rows
 
 pub put_back-requires-clause-column : goal.put_back-requires-clause-column
 put_back-requires-clause-column c = let f = give_last c.loop-last.left.items c.pop.new.self.items c.in-Some.last c.loop-last.problem c.in-Some.ensures.items c.loop-last.invariant.can in f.0.column
