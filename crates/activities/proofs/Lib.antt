@@ -4,3 +4,4 @@ pub mod Reading
 pub mod Over
 pub mod Numerators
 pub mod Bridge
+pub mod Replaced

@@ -151,7 +151,7 @@ parts_of u d m h k l = ap (λ (n : ℕ). n / u) (sym (by u (d / u) (m / d) d m (
         turned u x y = omega arith
 
 module _ (d m : ℕ) (l : d ∣ m) where
-  numerator-scaled : (e : Option Number) → EndOver d e → numerator m e ≡ numerator d e *ℤ pos (m / d)
+  pub numerator-scaled : (e : Option Number) → EndOver d e → numerator m e ≡ numerator d e *ℤ pos (m / d)
   numerator-scaled None o = ring whole (pos (m / d) ∷ []) (num (pos 0)) (num (pos 0) :* v 0) refl
   numerator-scaled (Some q) o =
       ap (λ (n : ℕ). over_of q *ℤ pos n) (parts_of (under_of q) d m (under_of_positive q) o l)

@@ -5,3 +5,4 @@ pub mod CommonSums
 pub mod Prefixes
 pub mod Kept
 pub mod Walks
+pub mod KeptSides

@@ -1,10 +1,10 @@
 //! Sums of fractions over one denominator that have room in whatever order they are made.
 
-ghost use Rattle.std.specs.Prelude.{◌≡◌, ◌<◌, ◌^◌, ◌++◌, ◌∷◌, [], List, Option, IfSome, Some, None, Ok};
+ghost use Rattle.std.specs.Prelude.{◌≡◌, ◌<◌, ◌^◌, ◌++◌, ◌∷◌, [], ◌+ℤ◌, neg_ℤ, List, Option, IfSome, Some, None, Ok};
 ghost use Rattle.rational.specs.Number.{Number};
 ghost use Rattle.activities.specs.Spans.{end_at, ends_at};
 ghost use Rattle.activities.specs.RowSums.{row_sum};
-ghost use Rattle.activities.specs.CommonSums.{IsCommonMultiple, IsCommonSum};
+ghost use Rattle.activities.specs.CommonSums.{numerator, IsCommonMultiple, IsCommonSum};
 
 use crate::span::{Extreme, Span, end_of};
 use fractions::divisor::{gcd, quotient};
@@ -38,7 +38,7 @@ fn no_terms() -> CommonSum
 }
 
 /// A common multiple, if it has room.
-fn common_multiple(common: u128, other: u128) -> Option<u128>
+pub(crate) fn common_multiple(common: u128, other: u128) -> Option<u128>
     requires common { 0 < common }
     requires short { common < 2 ^ 127 }
     requires other { 0 < other }
@@ -132,6 +132,23 @@ pub(crate) fn told_activity(sum: &CommonSum) -> Ext
     }
 }
 
+/// The numerator of the sum without one of its finite terms, if it has room.
+pub(crate) fn less_numerator(sum: &CommonSum, number: &Frac) -> Option<Whole>
+    requires positive { 0 < sum.now.denominator }
+    requires short { sum.now.denominator < 2 ^ 127 }
+    ensures { IfSome result (λ z. z ≡ sum.now.total +ℤ neg_ℤ (numerator sum.now.denominator (Some number.now))) }
+{
+    let parts = number.parts();
+    let scale = quotient(sum.denominator, parts.den);
+    let Ok(term) = parts.num.scaled(scale) else {
+        return None;
+    };
+    match sum.total.plus(term.negated()) {
+        Ok(rest) => Some(rest),
+        Err(_) => None,
+    }
+}
+
 /// The sum without one of its finite terms.
 fn less_number(sum: &CommonSum, number: &Frac) -> Option<Ext>
     requires positive { 0 < sum.now.denominator }
@@ -141,14 +158,7 @@ fn less_number(sum: &CommonSum, number: &Frac) -> Option<Ext>
     if sum.infinite != 0 {
         return Some(Ext::none());
     }
-    let parts = number.parts();
-    let scale = quotient(sum.denominator, parts.den);
-    let Ok(term) = parts.num.scaled(scale) else {
-        return None;
-    };
-    let Ok(rest) = sum.total.plus(term.negated()) else {
-        return None;
-    };
+    let rest = less_numerator(sum, number)?;
     Some(Ext::at(Frac::ratio_of(rest, sum.denominator)))
 }
 

@@ -6,6 +6,7 @@
 
 mod common;
 pub mod exact;
+mod kept_sides;
 pub mod laws;
 mod prefixes;
 mod problem_rows;
@@ -13,6 +14,7 @@ mod row_sums;
 mod span;
 mod sums;
 
+pub use kept_sides::{Terms, terms_of};
 pub use problem_rows::{greatest, least};
 pub use row_sums::RowSums;
 pub use span::{Extreme, Span};

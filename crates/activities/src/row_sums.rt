@@ -1,14 +1,16 @@
 //! The sums of one row, made in one pass.
 
-ghost use Rattle.std.specs.Prelude.{◌≡◌, ◌<◌, ◌+◌, ◌++◌, length, take, drop, IfOk, IfSome, Ok};
+ghost use Rattle.std.specs.Prelude.{◌≡◌, ◌<◌, ◌+◌, ◌++◌, length, take, drop, IfOk, IfSome, IsTrue, Ok, Some};
 ghost use Rattle.rational.specs.Number.{zero_ℚ};
 ghost use Rattle.activities.specs.Kept.{IsKept};
 ghost use Rattle.activities.specs.CommonSums.{IsCommonSum};
 ghost use Rattle.activities.specs.Prefixes.{sums_before as all_before};
 ghost use Rattle.activities.specs.RowSums.{activity as activity_by, rest as rest_without, row_sum, sum_from as sum_on};
-ghost use Rattle.activities.specs.Spans.{AreSpans, ends_at, span_at, spans_of as spans_with};
+ghost use Rattle.activities.specs.Spans.{AreSpans, end_at, ends_at, span_at, spans_of as spans_with};
+ghost use Rattle.activities.specs.KeptSides.{KeepsWith};
 
 use crate::common::{CommonSum, common_sum, told_activity, told_rest};
+use crate::kept_sides::keeps_replaced;
 use crate::prefixes::{continued_from, sums_before};
 use crate::span::{Extreme, Span, end_of, spans_of};
 use crate::sums::{all_finite, sum_from};
@@ -94,6 +96,47 @@ fn common_rest(sum: &CommonSum, extreme: Extreme, spans: &[Span], place: usize) 
         return None;
     };
     told_rest(sum, &end)
+}
+
+/// Whether the rest by a sum of all keeps a side with another number beside it.
+fn common_keeps(
+    sum: &CommonSum,
+    extreme: Extreme,
+    spans: &[Span],
+    place: usize,
+    term: &Frac,
+    other: &Frac,
+    side: &Frac,
+) -> bool
+    requires spans { AreSpans 0 spans.now }
+    requires sum { IsCommonSum (ends_at extreme spans.now) sum.now }
+    requires place { place < length spans.now }
+    requires term { end_at extreme (span_at spans.now place) ≡ Some term.now }
+    ensures { IsTrue result → KeepsWith extreme side.now other.now (rest_without extreme (span_at spans.now place).id spans.now) }
+{
+    keeps_replaced(sum, extreme, term, other, side)
+}
+
+/// Whether the rest keeps a side with another number beside it, where a sum of all tells.
+fn keeps_with(
+    kept: &Kept,
+    extreme: Extreme,
+    spans: &[Span],
+    place: usize,
+    term: &Frac,
+    other: &Frac,
+    side: &Frac,
+) -> bool
+    requires spans { AreSpans 0 spans.now }
+    requires kept { IsKept (ends_at extreme spans.now) kept.now }
+    requires place { place < length spans.now }
+    requires term { end_at extreme (span_at spans.now place) ≡ Some term.now }
+    ensures { IsTrue result → KeepsWith extreme side.now other.now (rest_without extreme (span_at spans.now place).id spans.now) }
+{
+    match kept {
+        Kept::Common(sum) => common_keeps(sum, extreme, spans, place, term, other, side),
+        Kept::Before(_) => false,
+    }
 }
 
 /// The sum before a place, of those before each term.
@@ -217,6 +260,34 @@ impl RowSums {
         match extreme {
             Extreme::Least => rest_off(&self.least, extreme, self.spans.as_slice(), place),
             Extreme::Greatest => rest_off(&self.greatest, extreme, self.spans.as_slice(), place),
+        }
+    }
+    /// Whether the rest keeps a side, the lower one with the greatest and the upper one with the least, with another number beside it in
+    /// place of the entry's own term. This takes one comparison of integers; it is `false` also where the row's sum does not tell.
+    pub fn keeps(
+        &self,
+        extreme: Extreme,
+        place: usize,
+        term: &Frac,
+        other: &Frac,
+        side: &Frac,
+    ) -> bool
+        requires place { place < length self.now }
+        requires term { end_at extreme (span_at self.now place) ≡ Some term.now }
+        ensures { IsTrue result → KeepsWith extreme side.now other.now (rest_without extreme (span_at self.now place).id self.now) }
+    {
+        let spans = self.spans.as_slice();
+        match extreme {
+            Extreme::Least => keeps_with(&self.least, extreme, spans, place, term, other, side),
+            Extreme::Greatest => keeps_with(
+                &self.greatest,
+                extreme,
+                spans,
+                place,
+                term,
+                other,
+                side,
+            ),
         }
     }
 }

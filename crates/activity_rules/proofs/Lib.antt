@@ -1,3 +1,4 @@
 pub mod Looks
 pub mod Tightened
 pub mod InfiniteEnds
+pub mod Slackness

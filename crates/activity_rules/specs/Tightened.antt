@@ -1,5 +1,5 @@
 -- The bounds that a row implies, by its entries with the bounds of their columns.
-use Rattle.std.specs.Prelude.{ℕ, Bool, true, false, ◌&&◌, ◌||◌, Option, Some, None, List, [], ◌∷◌, ◌++◌, if◌then◌else◌}
+use Rattle.std.specs.Prelude.{◌≡◌, ℕ, Bool, true, false, ◌&&◌, ◌||◌, Option, Some, None, List, [], ◌∷◌, ◌++◌, if◌then◌else◌}
 use Rattle.std.specs.List.{flat_map}
 use Rattle.undo_records.specs.declared.side.Side.{Side}
 use Rattle.undo_records.specs.declared.side.Side.TheVariants.{Lower, Upper}
@@ -10,8 +10,9 @@ use Rattle.activities.specs.declared.span.Span.{Span}
 use Rattle.rational.specs.Number.{Number}
 use Rattle.activities.specs.declared.span.Extreme.{Extreme}
 use Rattle.activities.specs.declared.span.Extreme.TheVariants.{Least, Greatest}
-use Rattle.activities.specs.RowSums.{all_finite}
-use Rattle.activities.specs.Spans.{ends_at, spans_of}
+use Rattle.activities.specs.KeptSides.{KeepsWith}
+use Rattle.activities.specs.RowSums.{all_finite, rest}
+use Rattle.activities.specs.Spans.{end_at, ends_at, spans_of}
 use Rattle.activity_laws.specs.TightenedBound.{has_two, implied, is_better, new_bound, old_bound}
 use Rattle.activity_rules.specs.Looks.{is_uncrossed}
 
@@ -53,3 +54,18 @@ may_tell extreme (Some b) ss = at_most_one_infinite (ends_at extreme ss)
 -- this holds of the lower side, or of the upper one
 abbrev pub may_tighten : Sides → List Span → Bool
 may_tighten b ss = may_tell Greatest b.lower ss || may_tell Least b.upper ss
+
+-- the rest that goes with the side from which a bound follows: for an entry above 0 the lower bound follows from the lower side
+abbrev pub source_of : Side → Bool → Extreme
+source_of Lower true = Greatest
+source_of Lower false = Least
+source_of Upper true = Least
+source_of Upper false = Greatest
+
+abbrev pub other : Extreme → Extreme
+other Least = Greatest
+other Greatest = Least
+
+-- the row keeps a side with the entry's column at its other end beside the rest that goes with the side
+abbrev pub IsSlack : Extreme → Number → Span → List Span → Type 0
+IsSlack extreme side s ss = (t : Number) × (end_at (other extreme) s ≡ Some t) × KeepsWith extreme side t (rest extreme s.id ss)

@@ -2,9 +2,11 @@
 
 ghost use Rattle.std.specs.Prelude.{◌≡◌, ◌≢◌, ℕ, List};
 ghost use Rattle.rational.specs.Number.{zero_ℚ};
+ghost use Rattle.rational.specs.Compare.{lt_ℚ};
 ghost use Rattle.activities.specs.declared.span.Span.{Span};
 ghost use Rattle.activities.specs.RowSums.{rest};
 ghost use Rattle.activity_laws.specs.TightenedBound.{implied, is_better as better_by, left_over as left_by, old_bound as old_by};
+ghost use Rattle.activity_rules.specs.Tightened.{source_of};
 
 use activities::Extreme;
 use activities::exact::{difference, quotient};
@@ -41,7 +43,8 @@ pub fn left_over(entry: &Frac, side: &Ext, rest: Result<Ext, Past>) -> Ext
 /// The rest and the side of a row from which a bound of a column with this entry follows: for an entry above 0 the lower bound follows from
 /// the lower side, for one below 0 from the upper one.
 pub fn source(side: Side, entry: &Frac, sides: &Sides) -> (Extreme, Ext)
-    ensures { (j : ℕ) (ss : List Span) → left_by entry.now result.1 (rest result.0 j ss) ≡ implied side j entry.now sides.now.lower sides.now.upper ss }
+    ensures bound { (j : ℕ) (ss : List Span) → left_by entry.now result.1 (rest result.0 j ss) ≡ implied side j entry.now sides.now.lower sides.now.upper ss }
+    ensures extreme { result.0 ≡ source_of side (lt_ℚ zero_ℚ entry.now) }
 {
     let is_lower = match side {
         Side::Lower => entry.is_positive(),
