@@ -76,10 +76,10 @@ use Rattle.written_ids.proofs.NewIds.{contents_at, edit_at, id_of, none_at, one_
 use Rattle.written_ids.proofs.Pairs.{all_pairs, at_pairs}
 use Rattle.written_ids.proofs.Standing.{AreThere, IsThere, one_part, two_parts}
 use Rattle.written_laws.specs.Left.{AreOpenAlike}
-use Rattle.written_laws.proofs.Activities.{bound_there, bounds_read_at, bounds_read_there, forcing_row_alike, forcing_row_edits, out_of_reach_alike, redundant_row_alike, redundant_row_edits, redundant_side_alike, redundant_side_edits, row_there, tightened_alike, tightened_edits, tightened_there}
-use Rattle.written_laws.proofs.DominatedColumn.{dominated_alike, lines_there, sides_of_both_at, sides_of_both_there}
-use Rattle.written_laws.proofs.Locks.{fixed_by_cost_alike, place_kept, ray_alike}
-use Rattle.written_laws.proofs.TightenedCoefficient.{coefficient_alike, coefficient_computes, coefficient_edits, coefficient_there}
+use Rattle.written_rules.proofs.Activities.{bound_there, bounds_read_at, bounds_read_there, forcing_row_alike, forcing_row_edits, out_of_reach_alike, redundant_row_alike, redundant_row_edits, redundant_side_alike, redundant_side_edits, row_there, tightened_alike, tightened_edits, tightened_there}
+use Rattle.written_rules.proofs.DominatedColumn.{dominated_alike, lines_there, sides_of_both_at, sides_of_both_there}
+use Rattle.written_rules.proofs.Locks.{fixed_by_cost_alike, place_kept, ray_alike}
+use Rattle.written_rules.proofs.TightenedCoefficient.{coefficient_alike, coefficient_computes, coefficient_edits, coefficient_there}
 
 -- ---- instances at other ids
 abbrev pub reduction_at : Ids → Reduction → Reduction
