@@ -1,9 +1,11 @@
 -- The laws of the tables by cases: one line a rule.
-use Rattle.std.proofs.Common.{◌≡◌, ◌<◌, ℕ, false, true, List, [], ◌∷◌, ◌++◌, Option, Some, None, length, map, refl, sym, ap, subst, arith, true≢false}
+use Rattle.std.proofs.Common.{◌≡◌, ◌⊎◌, inl, inr, ◌<◌, ◌&&◌, nat_eq, ap₂, ℕ, false, true, List, [], ◌∷◌, ◌++◌, Option, Some, None, length, map, refl, sym, ap, subst, arith, true≢false}
 use Rattle.std.specs.List.{All, Contains, filter}
+use Rattle.std.proofs.lemmas.Bool.{and_parts, eqb-true}
 use Rattle.rational.specs.Number.{Number}
 use Rattle.fractions.specs.declared.Numbers.{Numbers}
 use Rattle.lp_model.specs.declared.program.Sense.{Sense}
+use Rattle.lp_model.specs.declared.terms.Term.{Term}
 use Rattle.lp_model.specs.LinearProgram.{LinearProgram}
 use Rattle.lp_model.specs.Reductions.{Reduces}
 use Rattle.lp_model.specs.Vectors.{Vector}
@@ -21,7 +23,7 @@ use Rattle.undo_records.specs.declared.side.Side.TheVariants.{Lower, Upper}
 use Rattle.problem_model.specs.declared.line.Bounds.{Bounds}
 use Rattle.problem_model.specs.Offsets.{OffsetFits}
 use Rattle.undo_records.specs.declared.undo.Undo.{Undo}
-use Rattle.problem_model.specs.Problems.{bounds_at, IsSparse, row_entries}
+use Rattle.problem_model.specs.Problems.{bounds_at, column_entries, IsSparse, row_entries}
 use Rattle.problem_model.specs.Showing.{shown}
 use Rattle.problem_model.specs.Sparse.{Sparse}
 use Rattle.problem_laws.proofs.AtIds.{row_inside, column_inside}
@@ -53,22 +55,27 @@ use Rattle.dual_laws.proofs.FixedByCost as fixed_by_cost
 use Rattle.dual_laws.proofs.DominatedColumn as dominated_column
 use Rattle.dual_laws.proofs.Forms.{dominated_more_rests, dominated_rests, fixed_by_cost_rests, ray_rests, RestsOnLines, RestsOnSeen, sides_named_rest}
 use Rattle.dual_laws.proofs.Ray as ray
+use Rattle.aggregation_laws.specs.DoubletonEquation.{are_at}
+use Rattle.aggregation_laws.proofs.DoubletonEquation as doubleton_equation
+use Rattle.column_laws.proofs.SoleEntry.{IsSole}
+use Rattle.column_laws.proofs.FreeColumn as free_column
+use Rattle.column_laws.proofs.SlackColumn as slack_column
 use Rattle.presolve_model.specs.declared.instance.Instance.{Instance}
 use Rattle.presolve_model.specs.declared.instance.Instance.TheVariants as at
 use Rattle.presolve_model.specs.declared.instance.Reduction.{Reduction}
-use Rattle.presolve_model.specs.declared.instance.Reduction.TheVariants.{EmptyRow, SingletonRow, FixedColumn, RoundBounds, RedundantRow, RedundantSide, ForcingRow, TightenedBound, TightenedCoefficient, FixedByCost, DominatedColumn, EmptyColumn}
+use Rattle.presolve_model.specs.declared.instance.Reduction.TheVariants.{EmptyRow, SingletonRow, FixedColumn, RoundBounds, RedundantRow, RedundantSide, ForcingRow, TightenedBound, TightenedCoefficient, FixedByCost, DominatedColumn, DoubletonEquation, FreeColumn, SlackColumn, EmptyColumn}
 use Rattle.presolve_model.specs.declared.instance.Verdict.{Verdict}
 use Rattle.presolve_model.specs.declared.instance.Verdict.TheVariants.{CrossedBounds, CrossedSides, OutOfReach, Ray}
 use Rattle.presolve_model.specs.Changes.{ChangeFits, ChangeIsWritten}
 use Rattle.presolve_model.specs.Enabled.{enabled_on, reading_of}
 use Rattle.presolve_model.specs.declared.instance.Rule.{Rule}
 use Rattle.presolve_model.specs.declared.instance.Rule.TheVariants as rule
-use Rattle.presolve_model.specs.Instances.{goes_by_form, id_at, id_count, instances_from, is_open, lets_by, reach_of, rests_on_reading, rule_at, rule_of, tallied}
+use Rattle.presolve_model.specs.Instances.{both_orders, goes_by_form, id_at, id_count, instances_from, is_open, lets_by, reach_of, rests_on_reading, rule_at, rule_of, sole_row, tallied}
 use Rattle.presolve_model.specs.Meanings.{Meant, says_no_point}
 use Rattle.presolve_model.specs.Order.{verdict_order, reduction_order}
 use Rattle.presolve_model.specs.Tables.{Computes, edits, holds, more, record_of}
 use Rattle.presolve_model.specs.Tallies.{AreCountsOf, Counts, IsTally, Open}
-use Rattle.presolve_model.proofs.Lists.{contains_bound, contains_filter, contains_id, contains_map, contains_pair}
+use Rattle.presolve_model.proofs.Lists.{either_true, contains_bound, contains_filter, contains_id, contains_map, contains_pair}
 use Rattle.presolve_model.proofs.Readings.{found_told}
 use Rattle.presolve_model.proofs.Tallying.{counts_long, tally_more, tally_same}
 
@@ -86,12 +93,29 @@ reductions_owe p (TightenedBound i j side) s e = tightened_bound.owes p i j side
 reductions_owe p (TightenedCoefficient i j) s e = tightened_coefficient.owes p i j s e
 reductions_owe p (FixedByCost j) s e = fixed_by_cost.owes p j s e
 reductions_owe p (DominatedColumn i j k) s e = dominated_column.owes p i j k s e
+reductions_owe p (DoubletonEquation i j k) s e = doubleton_equation.owes p i j k s e
+reductions_owe p (FreeColumn j i) s e = free_column.owes p j i s e
+reductions_owe p (SlackColumn j i) s e = slack_column.owes p j i s e
 reductions_owe p (EmptyColumn j) s e = empty_column.owes p j s e
 
 -- ---- each enabled instance that is open is among those of its rule and its first id, which is the problem's
 pub record IsListed (opens : Open) (p : Sparse) (e : Instance) : Type 0 where
   pub within : id_at e < id_count p (rule_at e)
   pub there : Contains (instances_from opens p (rule_at e) (id_at e)) e
+
+-- two columns of a row are among its orders, and the one row of a column is that
+contains_order : (ts : List Term) (j k : ℕ) → are_at j k ts ≡ true → Contains (both_orders ts) (j, k)
+contains_order [] j k h = absurd (true≢false (sym h))
+contains_order (t ∷ []) j k h = absurd (true≢false (sym h))
+contains_order (t ∷ u ∷ v ∷ ts) j k h = absurd (true≢false (sym h))
+contains_order (t ∷ u ∷ []) j k h = by (either_true (nat_eq t.id j && nat_eq u.id k) (nat_eq t.id k && nat_eq u.id j) h)
+  where
+    by : ((nat_eq t.id j && nat_eq u.id k) ≡ true) ⊎ ((nat_eq t.id k && nat_eq u.id j) ≡ true) → Contains (both_orders (t ∷ u ∷ [])) (j, k)
+    by (inl e) = let b = and_parts (nat_eq t.id j) (nat_eq u.id k) e in (0, omega arith, ap₂ (λ (x y : ℕ). (x, y)) (eqb-true t.id j b.0) (eqb-true u.id k b.1))
+    by (inr e) = let b = and_parts (nat_eq t.id k) (nat_eq u.id j) e in (1, omega arith, ap₂ (λ (x y : ℕ). (x, y)) (eqb-true u.id j b.1) (eqb-true t.id k b.0))
+
+contains_sole : (i : ℕ) (ts : List Term) → IsSole i ts → Contains (sole_row ts) i
+contains_sole i ts h = subst (λ (us : List Term). Contains (sole_row us) i) (sym h.one) (0, omega arith, h.at)
 
 alone : (opens : Open) (p : Sparse) (e : Instance) → id_at e < id_count p (rule_at e) → instances_from opens p (rule_at e) (id_at e) ≡ e ∷ [] → IsListed opens p e
 alone opens p e l h = record { within = l; there = subst (λ es. Contains es e) (sym h) (0, omega arith, refl) }
@@ -118,6 +142,18 @@ reductions_listed opens p (DominatedColumn i j k) o e = let d = dominated_column
   within = row_inside p i d.row_live;
   there = contains_map (λ x. at.Reduction (DominatedColumn i x.0 x.1)) (pairs_of (row_entries p i)) (j, k) (contains_pair (row_entries p i) j k d.first_in d.second_in);
 }
+reductions_listed opens p (DoubletonEquation i j k) o e = let d = doubleton_equation.said p i j k e in record {
+  within = row_inside p i d.row_on;
+  there = contains_map (λ x. at.Reduction (DoubletonEquation i x.0 x.1)) (both_orders (row_entries p i)) (j, k) (contains_order (row_entries p i) j k d.at);
+}
+reductions_listed opens p (FreeColumn j i) o e = let d = (free_column.said p j i e).column in record {
+  within = column_inside p j d.live;
+  there = contains_map (λ i. at.Reduction (FreeColumn j i)) (sole_row (column_entries p j)) i (contains_sole i (column_entries p j) d.sole_there);
+}
+reductions_listed opens p (SlackColumn j i) o e = let d = slack_column.said p j i e in record {
+  within = column_inside p j d.column_live;
+  there = contains_map (λ i. at.Reduction (SlackColumn j i)) (sole_row (column_entries p j)) i (contains_sole i (column_entries p j) d.sole_there);
+}
 reductions_listed opens p (EmptyColumn j) o e = alone opens p (at.Reduction (EmptyColumn j)) (column_inside p j (empty_column.said p j e).live) refl
 
 pub verdicts_listed : (opens : Open) (p : Sparse) (v : Verdict) → enabled_on p (at.Verdict v) ≡ true → IsListed opens p (at.Verdict v)
@@ -139,7 +175,10 @@ reductions_ordered (TightenedBound i j side) = (7, omega arith, refl)
 reductions_ordered (TightenedCoefficient i j) = (8, omega arith, refl)
 reductions_ordered (FixedByCost j) = (9, omega arith, refl)
 reductions_ordered (DominatedColumn i j k) = (10, omega arith, refl)
-reductions_ordered (EmptyColumn j) = (11, omega arith, refl)
+reductions_ordered (DoubletonEquation i j k) = (11, omega arith, refl)
+reductions_ordered (FreeColumn j i) = (12, omega arith, refl)
+reductions_ordered (SlackColumn j i) = (13, omega arith, refl)
+reductions_ordered (EmptyColumn j) = (14, omega arith, refl)
 
 pub verdicts_ordered : (v : Verdict) → Contains verdict_order (rule_at (at.Verdict v))
 verdicts_ordered (CrossedBounds j) = (0, omega arith, refl)
@@ -241,6 +280,9 @@ refusals_rest numbers p q (TightenedBound i j side) t e h = tightened_alike numb
 refusals_rest numbers p q (TightenedCoefficient i j) t e h = coefficients_alike numbers p q i j e h
 refusals_rest numbers p q (FixedByCost j) t e h = absurd (true≢false (sym t))
 refusals_rest numbers p q (DominatedColumn i j k) t e h = absurd (true≢false (sym t))
+refusals_rest numbers p q (DoubletonEquation i j k) t e h = absurd (true≢false (sym t))
+refusals_rest numbers p q (FreeColumn j i) t e h = absurd (true≢false (sym t))
+refusals_rest numbers p q (SlackColumn j i) t e h = absurd (true≢false (sym t))
 refusals_rest numbers p q (EmptyColumn j) t e h = absurd (true≢false (sym t))
 
 pub verdicts_do_not_rest : (v : Verdict) → rests_on_reading (rule_at (at.Verdict v)) ≡ true → ⊥
@@ -270,6 +312,9 @@ forms_suffice (at.Reduction (TightenedBound i j side)) t = absurd (true≢false 
 forms_suffice (at.Reduction (TightenedCoefficient i j)) t = absurd (true≢false (sym t))
 forms_suffice (at.Reduction (FixedByCost j)) t = record { more = sides_named_rest; holds = fixed_by_cost_rests }
 forms_suffice (at.Reduction (DominatedColumn i j k)) t = record { more = dominated_more_rests; holds = dominated_rests j k }
+forms_suffice (at.Reduction (DoubletonEquation i j k)) t = absurd (true≢false (sym t))
+forms_suffice (at.Reduction (FreeColumn j i)) t = absurd (true≢false (sym t))
+forms_suffice (at.Reduction (SlackColumn j i)) t = absurd (true≢false (sym t))
 forms_suffice (at.Reduction (EmptyColumn j)) t = absurd (true≢false (sym t))
 
 -- of those whose refusals rest on what is read more is looked at than the form
@@ -294,6 +339,9 @@ records_tallied p (TightenedBound i j side) c us e a h =
 records_tallied p (TightenedCoefficient i j) c us e a h = tally_same c us (record_of (TightenedCoefficient i j) p) (λ k s. refl) h
 records_tallied p (FixedByCost j) c us e a h = tally_same c us (record_of (FixedByCost j) p) (λ k s. refl) h
 records_tallied p (DominatedColumn i j k) c us e a h = tally_same c us (record_of (DominatedColumn i j k) p) (λ k s. refl) h
+records_tallied p (DoubletonEquation i j k) c us e a h = tally_same c us (record_of (DoubletonEquation i j k) p) (λ k s. refl) h
+records_tallied p (FreeColumn j i) c us e a h = tally_same c us (record_of (FreeColumn j i) p) (λ k s. refl) h
+records_tallied p (SlackColumn j i) c us e a h = tally_same c us (record_of (SlackColumn j i) p) (λ k s. refl) h
 records_tallied p (EmptyColumn j) c us e a h = tally_same c us (record_of (EmptyColumn j) p) (λ k s. refl) h
 
 pub tallied_long : (r : Reduction) (c : Counts) (n : ℕ) → AreCountsOf n c → AreCountsOf n (tallied r c)
@@ -308,4 +356,7 @@ tallied_long (TightenedBound i j side) c n a = counts_long c n j side a
 tallied_long (TightenedCoefficient i j) c n a = a
 tallied_long (FixedByCost j) c n a = a
 tallied_long (DominatedColumn i j k) c n a = a
+tallied_long (DoubletonEquation i j k) c n a = a
+tallied_long (FreeColumn j i) c n a = a
+tallied_long (SlackColumn j i) c n a = a
 tallied_long (EmptyColumn j) c n a = a

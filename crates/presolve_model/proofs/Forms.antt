@@ -1,13 +1,13 @@
 -- Where only the form of ends is looked at, an instance reads the same parts where their entries are the same, and is enabled where it was on
 -- a problem of which each form lets it.
-use Rattle.std.proofs.Common.{◌≡◌, true, List, [], ◌∷◌, ◌++◌, map, take, length, refl, sym, ap, ap₂, ◌∙◌, subst}
+use Rattle.std.proofs.Common.{◌≡◌, true, List, [], ◌∷◌, ◌++◌, map, refl, sym, ap, ap₂, ◌∙◌}
 use Rattle.std.proofs.lemmas.Simd.{map-map}
 use Rattle.problem_model.specs.declared.part.Contents.{Contents}
 use Rattle.problem_model.specs.declared.part.Part.{Part}
 use Rattle.problem_model.specs.Parts.{contents_of}
 use Rattle.problem_model.specs.Sparse.{Sparse}
 use Rattle.dual_laws.specs.declared.form.Form.{Form}
-use Rattle.dual_laws.specs.Forms.{EachLets, line_of, Seen, seen, seen_at}
+use Rattle.dual_laws.specs.Forms.{EachLets, line_of, seen, seen_at}
 use Rattle.presolve_model.specs.declared.instance.Instance.{Instance}
 use Rattle.presolve_model.specs.Enabled.{enabled_on, reads}
 use Rattle.presolve_model.specs.Instances.{goes_by_form, lets_by, reach_of, rule_at}

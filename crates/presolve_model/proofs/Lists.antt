@@ -1,5 +1,6 @@
 -- What lists contain.
 use Rattle.std.proofs.Common.{◌≡◌, ◌≢◌, ◌⊎◌, inl, inr, ℕ, Bool, true, false, cond, zero, suc, ◌<◌, List, [], ◌∷◌, ◌++◌, length, map, get_or, ap, ap₂, refl, sym, ◌∙◌, subst, arith, true≢false}
+use Rattle.std.specs.Prelude.{◌||◌}
 use Rattle.std.specs.List.{All, Contains, filter, flat_map}
 use Rattle.std.proofs.lemmas.Bool.{cases_eq}
 use Rattle.std.proofs.lemmas.List.Elements.{All-nil, All-cons, All-head, All-tail, Contains-append_left, Contains-append_right}
@@ -56,6 +57,11 @@ contains_filter t (z ∷ xs) x (suc k, l, e) h = by (t z) (contains_filter t xs 
     by : (b : Bool) → Contains (filter t xs) x → Contains (cond b (z ∷ filter t xs) (filter t xs)) x
     by true (i, m, d) = (suc i, omega (arith, m), d)
     by false c = c
+
+-- one of two
+pub either_true : (a b : Bool) → (a || b) ≡ true → (a ≡ true) ⊎ (b ≡ true)
+either_true true b e = inl refl
+either_true false b e = inr e
 
 -- an id that terms have is among those of the terms
 pub contains_id : (ts : List Term) (j : ℕ) → has j ts ≡ true → Contains (map (λ t. t.id) ts) j

@@ -1,23 +1,34 @@
 -- The instances of a rule with a first id that are open, and which rule and which first id an instance has.
 use Rattle.std.specs.Prelude.{◌≡◌, ℕ, Bool, true, false, List, [], ◌∷◌, length, map, if◌then◌else◌}
 use Rattle.std.specs.List.{filter}
-use Rattle.problem_model.specs.Problems.{row_entries}
+use Rattle.lp_model.specs.declared.terms.Term.{Term}
+use Rattle.problem_model.specs.Problems.{column_entries, row_entries}
 use Rattle.problem_model.specs.Sparse.{Sparse}
 use Rattle.activity_laws.specs.TightenedBound.{bounds_of}
 use Rattle.dual_laws.specs.DominatedColumn.{pairs_of}
 use Rattle.dual_laws.specs.declared.form.Form.{Form}
 use Rattle.dual_laws.specs.Forms.{LetsByCost, LetsInPairs}
 use Rattle.presolve_model.specs.declared.instance.Reduction.{Reduction}
-use Rattle.presolve_model.specs.declared.instance.Reduction.TheVariants.{EmptyRow, SingletonRow, FixedColumn, RoundBounds, RedundantRow, RedundantSide, ForcingRow, TightenedBound, TightenedCoefficient, FixedByCost, DominatedColumn, EmptyColumn}
+use Rattle.presolve_model.specs.declared.instance.Reduction.TheVariants.{EmptyRow, SingletonRow, FixedColumn, RoundBounds, RedundantRow, RedundantSide, ForcingRow, TightenedBound, TightenedCoefficient, FixedByCost, DominatedColumn, DoubletonEquation, FreeColumn, SlackColumn, EmptyColumn}
 use Rattle.presolve_model.specs.declared.instance.Verdict.{Verdict}
 use Rattle.presolve_model.specs.declared.instance.Verdict.TheVariants.{CrossedBounds, CrossedSides, OutOfReach, Ray}
 use Rattle.presolve_model.specs.declared.instance.Reach.{Reach}
-use Rattle.presolve_model.specs.declared.instance.Reach.TheVariants.{OwnRow, OwnColumn, RowsOfBounds, ColumnsOfSides, RowsOfBoth}
+use Rattle.presolve_model.specs.declared.instance.Reach.TheVariants.{OwnRow, OwnColumn, RowsOfBounds, ColumnsOfSides, RowsOfBoth, SoleColumns}
 use Rattle.presolve_model.specs.declared.instance.Rule.{Rule}
 use Rattle.presolve_model.specs.declared.instance.Rule.TheVariants as rule
 use Rattle.presolve_model.specs.declared.instance.Instance.{Instance}
 use Rattle.presolve_model.specs.declared.instance.Instance.TheVariants as at
 use Rattle.presolve_model.specs.Tallies.{Counts, counted, Open}
+
+-- the two columns that terms name, in either order, where they are two
+abbrev pub both_orders : List Term → List (ℕ × ℕ)
+both_orders (t ∷ u ∷ []) = (t.id, u.id) ∷ (u.id, t.id) ∷ []
+both_orders other = []
+
+-- the row that a term names, where it is the only one
+abbrev pub sole_row : List Term → List ℕ
+sole_row (t ∷ []) = t.id ∷ []
+sole_row other = []
 
 -- the instances of a rule with this first id that are open, in order
 abbrev pub instances_from : Open → Sparse → Rule → ℕ → List Instance
@@ -36,6 +47,9 @@ instances_from opens p rule.TightenedBound i = map (λ x. at.Reduction (Tightene
 instances_from opens p rule.TightenedCoefficient i = map (λ j. at.Reduction (TightenedCoefficient i j)) (map (λ t. t.id) (row_entries p i))
 instances_from opens p rule.FixedByCost j = at.Reduction (FixedByCost j) ∷ []
 instances_from opens p rule.DominatedColumn i = map (λ x. at.Reduction (DominatedColumn i x.0 x.1)) (pairs_of (row_entries p i))
+instances_from opens p rule.DoubletonEquation i = map (λ x. at.Reduction (DoubletonEquation i x.0 x.1)) (both_orders (row_entries p i))
+instances_from opens p rule.FreeColumn j = map (λ i. at.Reduction (FreeColumn j i)) (sole_row (column_entries p j))
+instances_from opens p rule.SlackColumn j = map (λ i. at.Reduction (SlackColumn j i)) (sole_row (column_entries p j))
 instances_from opens p rule.EmptyColumn j = at.Reduction (EmptyColumn j) ∷ []
 
 -- where the first id of an enabled instance is, seen from a part that it reads
@@ -55,6 +69,9 @@ reach_of rule.TightenedBound = RowsOfBounds
 reach_of rule.TightenedCoefficient = RowsOfBounds
 reach_of rule.FixedByCost = ColumnsOfSides
 reach_of rule.DominatedColumn = RowsOfBoth
+reach_of rule.DoubletonEquation = RowsOfBounds
+reach_of rule.FreeColumn = SoleColumns
+reach_of rule.SlackColumn = SoleColumns
 reach_of rule.EmptyColumn = OwnColumn
 
 -- whether it is a row; else it is a column
@@ -64,6 +81,7 @@ is_at_rows OwnColumn = false
 is_at_rows RowsOfBounds = true
 is_at_rows ColumnsOfSides = false
 is_at_rows RowsOfBoth = true
+is_at_rows SoleColumns = false
 
 -- whether the first ids of a rule are those of rows; else they are those of columns
 abbrev pub is_of_rows : Rule → Bool
@@ -76,6 +94,7 @@ goes_by_form OwnColumn = false
 goes_by_form RowsOfBounds = false
 goes_by_form ColumnsOfSides = true
 goes_by_form RowsOfBoth = true
+goes_by_form SoleColumns = false
 
 -- what of a form lets a rule apply that another one doesn't, for those that look only at forms
 abbrev pub lets_by : Reach → Form → Form → Type 0
@@ -84,6 +103,7 @@ lets_by OwnColumn f g = f ≡ g
 lets_by RowsOfBounds f g = f ≡ g
 lets_by ColumnsOfSides f g = LetsByCost f g
 lets_by RowsOfBoth f g = LetsInPairs f g
+lets_by SoleColumns f g = f ≡ g
 
 -- whether a refusal of a rule's instances, for a number that is past or can't be written, rests on what they read alone
 abbrev pub rests_on_reading : Rule → Bool
@@ -102,6 +122,9 @@ rests_on_reading rule.TightenedBound = true
 rests_on_reading rule.TightenedCoefficient = true
 rests_on_reading rule.FixedByCost = false
 rests_on_reading rule.DominatedColumn = false
+rests_on_reading rule.DoubletonEquation = false
+rests_on_reading rule.FreeColumn = false
+rests_on_reading rule.SlackColumn = false
 rests_on_reading rule.EmptyColumn = false
 
 -- whether all instances of a rule with a first id read the same parts, so that the first one that is applied leaves the others stale
@@ -126,6 +149,9 @@ rule_of (TightenedBound i j side) = rule.TightenedBound
 rule_of (TightenedCoefficient i j) = rule.TightenedCoefficient
 rule_of (FixedByCost j) = rule.FixedByCost
 rule_of (DominatedColumn i j k) = rule.DominatedColumn
+rule_of (DoubletonEquation i j k) = rule.DoubletonEquation
+rule_of (FreeColumn j i) = rule.FreeColumn
+rule_of (SlackColumn j i) = rule.SlackColumn
 rule_of (EmptyColumn j) = rule.EmptyColumn
 
 abbrev pub first_id : Reduction → ℕ
@@ -140,6 +166,9 @@ first_id (TightenedBound i j side) = i
 first_id (TightenedCoefficient i j) = i
 first_id (FixedByCost j) = j
 first_id (DominatedColumn i j k) = i
+first_id (DoubletonEquation i j k) = i
+first_id (FreeColumn j i) = j
+first_id (SlackColumn j i) = j
 first_id (EmptyColumn j) = j
 
 abbrev pub verdict_rule : Verdict → Rule

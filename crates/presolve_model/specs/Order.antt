@@ -10,4 +10,5 @@ abbrev pub reduction_order : List Rule
 reduction_order =
     rule.EmptyRow ∷ rule.SingletonRow ∷ rule.FixedColumn ∷ rule.RoundBounds
     ∷ rule.RedundantRow ∷ rule.RedundantSide ∷ rule.ForcingRow ∷ rule.TightenedBound
-    ∷ rule.TightenedCoefficient ∷ rule.FixedByCost ∷ rule.DominatedColumn ∷ rule.EmptyColumn ∷ []
+    ∷ rule.TightenedCoefficient ∷ rule.FixedByCost ∷ rule.DominatedColumn ∷ rule.DoubletonEquation
+    ∷ rule.FreeColumn ∷ rule.SlackColumn ∷ rule.EmptyColumn ∷ []

@@ -23,8 +23,11 @@ use Rattle.coef_laws.specs.TightenedCoefficient as tightened_coefficient
 use Rattle.dual_laws.specs.FixedByCost as fixed_by_cost
 use Rattle.dual_laws.specs.DominatedColumn as dominated_column
 use Rattle.dual_laws.specs.Ray as ray
+use Rattle.aggregation_laws.specs.DoubletonEquation as doubleton_equation
+use Rattle.column_laws.specs.FreeColumn as free_column
+use Rattle.column_laws.specs.SlackColumn as slack_column
 use Rattle.presolve_model.specs.declared.instance.Reduction.{Reduction}
-use Rattle.presolve_model.specs.declared.instance.Reduction.TheVariants.{EmptyRow, SingletonRow, FixedColumn, RoundBounds, RedundantRow, RedundantSide, ForcingRow, TightenedBound, TightenedCoefficient, FixedByCost, DominatedColumn, EmptyColumn}
+use Rattle.presolve_model.specs.declared.instance.Reduction.TheVariants.{EmptyRow, SingletonRow, FixedColumn, RoundBounds, RedundantRow, RedundantSide, ForcingRow, TightenedBound, TightenedCoefficient, FixedByCost, DominatedColumn, DoubletonEquation, FreeColumn, SlackColumn, EmptyColumn}
 use Rattle.presolve_model.specs.declared.instance.Verdict.{Verdict}
 use Rattle.presolve_model.specs.declared.instance.Verdict.TheVariants.{CrossedBounds, CrossedSides, OutOfReach, Ray}
 use Rattle.presolve_model.specs.declared.instance.Instance.{Instance}
@@ -43,6 +46,9 @@ heads_of (TightenedBound i j side) = rows.heads i
 heads_of (TightenedCoefficient i j) = rows.heads i
 heads_of (FixedByCost j) = fixed_by_cost.heads j
 heads_of (DominatedColumn i j k) = dominated_column.heads i j k
+heads_of (DoubletonEquation i j k) = doubleton_equation.heads i j k
+heads_of (FreeColumn j i) = free_column.heads j i
+heads_of (SlackColumn j i) = slack_column.heads j i
 heads_of (EmptyColumn j) = empty_column.heads j
 
 -- what it reads by what the heads hold
@@ -58,6 +64,9 @@ more_of (TightenedBound i j side) cs = bounds_named cs
 more_of (TightenedCoefficient i j) cs = bounds_named cs
 more_of (FixedByCost j) cs = sides_named cs
 more_of (DominatedColumn i j k) cs = dominated_column.more cs
+more_of (DoubletonEquation i j k) cs = no_more cs
+more_of (FreeColumn j i) cs = bounds_named cs
+more_of (SlackColumn j i) cs = no_more cs
 more_of (EmptyColumn j) cs = no_more cs
 
 -- its condition on what it read
@@ -73,6 +82,9 @@ holds_of (TightenedBound i j side) cs = tightened_bound.holds j side cs
 holds_of (TightenedCoefficient i j) cs = tightened_coefficient.holds j cs
 holds_of (FixedByCost j) cs = fixed_by_cost.holds cs
 holds_of (DominatedColumn i j k) cs = dominated_column.holds j k cs
+holds_of (DoubletonEquation i j k) cs = doubleton_equation.holds j k cs
+holds_of (FreeColumn j i) cs = free_column.holds j i cs
+holds_of (SlackColumn j i) cs = slack_column.holds i cs
 holds_of (EmptyColumn j) cs = empty_column.holds cs
 
 -- its edits
@@ -88,6 +100,9 @@ edits (TightenedBound i j side) p = tightened_bound.edits p i j side
 edits (TightenedCoefficient i j) p = tightened_coefficient.edits p i j
 edits (FixedByCost j) p = fixed_by_cost.edits p j
 edits (DominatedColumn i j k) p = dominated_column.edits p k
+edits (DoubletonEquation i j k) p = doubleton_equation.edits p i j k
+edits (FreeColumn j i) p = free_column.edits p j i
+edits (SlackColumn j i) p = slack_column.edits p j i
 edits (EmptyColumn j) p = empty_column.edits p j
 
 -- its record, of the problem before it
@@ -103,6 +118,9 @@ record_of (TightenedBound i j side) p = tightened_bound.record_of p i j side
 record_of (TightenedCoefficient i j) p = tightened_coefficient.record_of p i j
 record_of (FixedByCost j) p = fixed_by_cost.record_of p j
 record_of (DominatedColumn i j k) p = dominated_column.record_of i j k
+record_of (DoubletonEquation i j k) p = doubleton_equation.record_of p i j k
+record_of (FreeColumn j i) p = free_column.record_of p j i
+record_of (SlackColumn j i) p = slack_column.record_of p j i
 record_of (EmptyColumn j) p = empty_column.record_of p j
 
 -- the numbers that it computes have room
@@ -118,6 +136,9 @@ Computes (TightenedBound i j side) p = tightened_bound.Computes p i j side
 Computes (TightenedCoefficient i j) p = tightened_coefficient.Computes p i j
 Computes (FixedByCost j) p = fixed_by_cost.Computes p j
 Computes (DominatedColumn i j k) p = dominated_column.Computes p k
+Computes (DoubletonEquation i j k) p = doubleton_equation.Computes p i j k
+Computes (FreeColumn j i) p = free_column.Computes p j i
+Computes (SlackColumn j i) p = slack_column.Computes p j i
 Computes (EmptyColumn j) p = empty_column.Computes p j
 
 -- ---- verdicts

@@ -35,6 +35,12 @@ pub enum Rule {
     FixedByCost,
     /// K11: a column that another one can stand in for stays at its lower bound.
     DominatedColumn,
+    /// K12: a column of an equation of two is put elsewhere by the other one.
+    DoubletonEquation,
+    /// K13: a continuous column with one entry, whose bounds its row implies, leaves with the row.
+    FreeColumn,
+    /// K14: a continuous column with one entry leaves as a slack of its row.
+    SlackColumn,
     /// K17: a column without entries is fixed where it costs least.
     EmptyColumn,
 }
@@ -53,6 +59,9 @@ pub enum Reach {
     /// It is a row: that of the part, one in which the column of the part stands, or one of a column that stands in the row whose sides the
     /// part is. Of ends only the form is looked at.
     RowsOfBoth,
+    /// It is a column with one entry: that of the part, or one that stands in a row to which the part leads: that of the part, or one in which
+    /// the column stands whose bounds the part is.
+    SoleColumns,
 }
 
 /// A rule that changes the problem, at rows and columns by original id.
@@ -80,6 +89,12 @@ pub enum Reduction {
     FixedByCost { column: u32 },
     /// K11: in a row that has both, `better` stands in for `column`.
     DominatedColumn { row: u32, better: u32, column: u32 },
+    /// K12: `row` puts `other` in the place of `column`.
+    DoubletonEquation { row: u32, column: u32, other: u32 },
+    /// K13: `column` leaves with `row`.
+    FreeColumn { column: u32, row: u32 },
+    /// K14: `column` leaves as a slack of `row`.
+    SlackColumn { column: u32, row: u32 },
     /// K17.
     EmptyColumn { column: u32 },
 }
