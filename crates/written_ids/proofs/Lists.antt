@@ -30,6 +30,12 @@ pub map_across : {X X' Y Y' : Type 0} (f : X → X') (old : X → Y) (g : Y → 
 map_across f old g new e [] = refl
 map_across f old g new e (x ∷ xs) = ap₂ ◌∷◌ (e x) (map_across f old g new e xs)
 
+-- where that is so of the items that are there
+pub map_where : {X X' Y Y' : Type 0} (f : X → X') (old : X → Y) (g : Y → Y') (new : X' → Y') (xs : List X) → All (λ x. new (f x) ≡ g (old x)) xs
+    → map new (map f xs) ≡ map g (map old xs)
+map_where f old g new [] h = refl
+map_where f old g new (x ∷ xs) h = ap₂ ◌∷◌ (All-head (λ x. new (f x) ≡ g (old x)) x xs h) (map_where f old g new xs (All-tail (λ x. new (f x) ≡ g (old x)) x xs h))
+
 pub flat_across : {X X' Y Y' : Type 0} (f : X → X') (old : X → List Y) (g : Y → Y') (new : X' → List Y') → ((x : X) → new (f x) ≡ map g (old x))
     → (xs : List X) → flat_map new (map f xs) ≡ map g (flat_map old xs)
 flat_across f old g new e [] = refl

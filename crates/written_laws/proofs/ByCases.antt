@@ -51,6 +51,9 @@ use Rattle.activity_laws.specs.TightenedBound.{bounds_of}
 use Rattle.activity_laws.proofs.Rows.{said}
 use Rattle.activity_laws.proofs.TightenedBound as tightened_bound
 use Rattle.coef_laws.proofs.Changing as coefficients
+use Rattle.column_laws.proofs.FreeColumn as free_column
+use Rattle.column_laws.proofs.SlackColumn as slack_column
+use Rattle.aggregation_laws.proofs.DoubletonEquation as doubleton_equation
 use Rattle.dual_laws.specs.DominatedColumn.{pairs_of}
 use Rattle.dual_laws.proofs.FixedByCost as fixed_by_cost
 use Rattle.dual_laws.proofs.DominatedColumn as dominated_column
@@ -58,13 +61,13 @@ use Rattle.dual_laws.proofs.Ray as ray
 use Rattle.presolve_model.specs.declared.instance.Instance.{Instance}
 use Rattle.presolve_model.specs.declared.instance.Instance.TheVariants as at
 use Rattle.presolve_model.specs.declared.instance.Reduction.{Reduction}
-use Rattle.presolve_model.specs.declared.instance.Reduction.TheVariants.{EmptyRow, SingletonRow, FixedColumn, RoundBounds, RedundantRow, RedundantSide, ForcingRow, TightenedBound, TightenedCoefficient, FixedByCost, DominatedColumn, EmptyColumn}
+use Rattle.presolve_model.specs.declared.instance.Reduction.TheVariants.{EmptyRow, SingletonRow, FixedColumn, RoundBounds, RedundantRow, RedundantSide, ForcingRow, TightenedBound, TightenedCoefficient, FixedByCost, DominatedColumn, DoubletonEquation, FreeColumn, SlackColumn, EmptyColumn}
 use Rattle.presolve_model.specs.declared.instance.Rule.{Rule}
 use Rattle.presolve_model.specs.declared.instance.Rule.TheVariants as rule
 use Rattle.presolve_model.specs.declared.instance.Verdict.{Verdict}
 use Rattle.presolve_model.specs.declared.instance.Verdict.TheVariants.{CrossedBounds, CrossedSides, OutOfReach, Ray}
 use Rattle.presolve_model.specs.Enabled.{enabled_on}
-use Rattle.presolve_model.specs.Instances.{instances_from, is_of_rows, is_open}
+use Rattle.presolve_model.specs.Instances.{both_orders, instances_from, is_of_rows, is_open, sole_row}
 use Rattle.presolve_model.specs.Tables.{Computes, edits, heads_of, holds_by, holds_of, looked_at_by, more_by, more_of}
 use Rattle.presolve_model.specs.Tallies.{Open}
 use Rattle.written_ids.specs.NewIds.{Ids, new_ids, term_at, terms_at}
@@ -73,13 +76,15 @@ use Rattle.written_ids.proofs.Ends.{all_bounds_live, all_ids_live, at_ids, bound
 use Rattle.written_ids.proofs.Lists.{all_both, all_one, all_two, both_by, both_then, filter_across, map_across}
 use Rattle.written_ids.proofs.Naming.{entries_read, sides_read_at, sides_read_there}
 use Rattle.written_ids.proofs.NewIds.{contents_at, edit_at, id_of, none_at, one_at, part_at}
-use Rattle.written_ids.proofs.Pairs.{all_pairs, at_pairs}
+use Rattle.written_ids.proofs.Pairs.{all_pairs, at_pairs, pair_at}
 use Rattle.written_ids.proofs.Standing.{AreThere, IsThere, one_part, two_parts}
 use Rattle.written_laws.specs.Left.{AreOpenAlike}
-use Rattle.written_laws.proofs.Activities.{bound_there, bounds_read_at, bounds_read_there, forcing_row_alike, forcing_row_edits, out_of_reach_alike, redundant_row_alike, redundant_row_edits, redundant_side_alike, redundant_side_edits, row_there, tightened_alike, tightened_edits, tightened_there}
-use Rattle.written_laws.proofs.DominatedColumn.{dominated_alike, lines_there, sides_of_both_at, sides_of_both_there}
-use Rattle.written_laws.proofs.Locks.{fixed_by_cost_alike, place_kept, ray_alike}
-use Rattle.written_laws.proofs.TightenedCoefficient.{coefficient_alike, coefficient_computes, coefficient_edits, coefficient_there}
+use Rattle.written_rules.proofs.Activities.{bound_there, bounds_read_at, bounds_read_there, forcing_row_alike, forcing_row_edits, out_of_reach_alike, redundant_row_alike, redundant_row_edits, redundant_side_alike, redundant_side_edits, row_there, tightened_alike, tightened_edits, tightened_there}
+use Rattle.written_rules.proofs.DominatedColumn.{dominated_alike, lines_there, sides_of_both_at, sides_of_both_there}
+use Rattle.written_rules.proofs.DoubletonEquation.{doubleton_alike, doubleton_computes, doubleton_edits, pair_there}
+use Rattle.written_rules.proofs.Locks.{fixed_by_cost_alike, place_kept, ray_alike}
+use Rattle.written_rules.proofs.SoleColumns.{free_column_alike, free_column_computes, free_column_edits, free_there, slack_column_alike, slack_column_computes, slack_column_edits, slack_there}
+use Rattle.written_rules.proofs.TightenedCoefficient.{coefficient_alike, coefficient_computes, coefficient_edits, coefficient_there}
 
 -- ---- instances at other ids
 abbrev pub reduction_at : Ids → Reduction → Reduction
@@ -94,6 +99,9 @@ reduction_at n (TightenedBound i j side) = TightenedBound (n.row i) (n.column j)
 reduction_at n (TightenedCoefficient i j) = TightenedCoefficient (n.row i) (n.column j)
 reduction_at n (FixedByCost j) = FixedByCost (n.column j)
 reduction_at n (DominatedColumn i j k) = DominatedColumn (n.row i) (n.column j) (n.column k)
+reduction_at n (DoubletonEquation i j k) = DoubletonEquation (n.row i) (n.column j) (n.column k)
+reduction_at n (FreeColumn j i) = FreeColumn (n.column j) (n.row i)
+reduction_at n (SlackColumn j i) = SlackColumn (n.column j) (n.row i)
 reduction_at n (EmptyColumn j) = EmptyColumn (n.column j)
 
 abbrev pub verdict_at : Ids → Verdict → Verdict
@@ -137,6 +145,9 @@ reduction_heads n (TightenedBound i j side) = refl
 reduction_heads n (TightenedCoefficient i j) = refl
 reduction_heads n (FixedByCost j) = refl
 reduction_heads n (DominatedColumn i j k) = refl
+reduction_heads n (DoubletonEquation i j k) = refl
+reduction_heads n (FreeColumn j i) = refl
+reduction_heads n (SlackColumn j i) = refl
 reduction_heads n (EmptyColumn j) = refl
 
 pub verdict_heads : (n : Ids) (v : Verdict) → looked_at_by (verdict_at n v) ≡ map (part_at n) (looked_at_by v)
@@ -159,6 +170,9 @@ module _ (n : Ids) (p : Sparse) (o : AreOneToOne n p) where
   reduction_more (TightenedCoefficient i j) = bounds_read_at n p i
   reduction_more (FixedByCost j) = sides_read_at n p j
   reduction_more (DominatedColumn i j k) = sides_of_both_at n p o j k
+  reduction_more (DoubletonEquation i j k) = refl
+  reduction_more (FreeColumn j i) = bounds_read_at n p i
+  reduction_more (SlackColumn j i) = refl
   reduction_more (EmptyColumn j) = refl
 
   pub verdict_more : (v : Verdict) → more_by (verdict_at n v) (map (contents_at n) (map (contents_of p) (looked_at_by v))) ≡ map (part_at n) (more_by v (map (contents_of p) (looked_at_by v)))
@@ -180,6 +194,9 @@ reduction_names p (TightenedBound i j side) = bounds_read_there p i
 reduction_names p (TightenedCoefficient i j) = bounds_read_there p i
 reduction_names p (FixedByCost j) = sides_read_there p j
 reduction_names p (DominatedColumn i j k) = sides_of_both_there p j k
+reduction_names p (DoubletonEquation i j k) = All-nil (IsThere p)
+reduction_names p (FreeColumn j i) = bounds_read_there p i
+reduction_names p (SlackColumn j i) = All-nil (IsThere p)
 reduction_names p (EmptyColumn j) = All-nil (IsThere p)
 
 pub verdict_names : (p : Sparse) (v : Verdict) → All (IsThere p) (more_by v (map (contents_of p) (looked_at_by v)))
@@ -231,6 +248,9 @@ module _ (n : Ids) (p : Sparse) (o : AreOneToOne n p) where
   reduction_holds (TightenedCoefficient i j) h = coefficient_alike n p o i j (h 2 (Row i) (omega arith))
   reduction_holds (FixedByCost j) h = fixed_by_cost_alike n (contents_of p (Col j)) (contents_of p (Bounds j)) (map (contents_of p) (sides_of (entries_read p j)))
   reduction_holds (DominatedColumn i j k) h = dominated_alike n p o i j k (h 1 (Row i) (omega arith)) (h 2 (Row i) (omega arith)) (h 0 (Row i) (omega arith))
+  reduction_holds (DoubletonEquation i j k) h = doubleton_alike n p o i j k (h 2 (Row i) (omega arith)) (h 3 (Row i) (omega arith)) (h 0 (Row i) (omega arith))
+  reduction_holds (FreeColumn j i) h = free_column_alike n p o j i (h 0 (Row i) (omega arith)) (h 2 (Row i) (omega arith))
+  reduction_holds (SlackColumn j i) h = slack_column_alike n p o j i (h 0 (Row i) (omega arith)) (h 2 (Row i) (omega arith))
   reduction_holds (EmptyColumn j) h = empty_column_alike n (contents_of p (Col j)) (contents_of p (Bounds j))
 
   pub verdict_holds : (v : Verdict) → AreThere p (looked_at_by v)
@@ -253,6 +273,9 @@ reduction_there p (TightenedBound i j side) e = tightened_there p i j side e
 reduction_there p (TightenedCoefficient i j) e = coefficient_there p i j e
 reduction_there p (FixedByCost j) e = let on = (fixed_by_cost.said p j e).live in all_two (IsThere p) (Col j) (Bounds j) on on
 reduction_there p (DominatedColumn i j k) e = let o = dominated_column.said p i j k e in lines_there p i j k o.row_live o.first_live o.second_live
+reduction_there p (DoubletonEquation i j k) e = let o = doubleton_equation.said p i j k e in pair_there p i j k o.row_on o.first_on o.second_on
+reduction_there p (FreeColumn j i) e = let o = free_column.said p j i e in free_there p j i o.row_live o.column.live
+reduction_there p (SlackColumn j i) e = let o = slack_column.said p j i e in slack_there p j i o.row_live o.column_live
 reduction_there p (EmptyColumn j) e = let on = (empty_column.said p j e).live in all_two (IsThere p) (Col j) (Bounds j) on on
 
 pub verdict_there : (p : Sparse) (v : Verdict) → enabled_on p (at.Verdict v) ≡ true → All (IsThere p) (looked_at_by v)
@@ -277,6 +300,9 @@ reduction_back n m (TightenedBound i j side) h = λ t. TightenedBound (h 0 (Row 
 reduction_back n m (TightenedCoefficient i j) h = λ t. TightenedCoefficient (h 0 (Row i) (omega arith) t) (h 2 (Row i) (omega arith) t)
 reduction_back n m (FixedByCost j) h = ap (λ k. FixedByCost k) (All-head (ComesBack n m) (Col j) (Bounds j ∷ []) h)
 reduction_back n m (DominatedColumn i j k) h = λ t. DominatedColumn (h 0 (Row i) (omega arith) t) (h 1 (Row i) (omega arith) t) (h 2 (Row i) (omega arith) t)
+reduction_back n m (DoubletonEquation i j k) h = λ t. DoubletonEquation (h 0 (Row i) (omega arith) t) (h 2 (Row i) (omega arith) t) (h 3 (Row i) (omega arith) t)
+reduction_back n m (FreeColumn j i) h = λ t. FreeColumn (h 2 (Row i) (omega arith) t) (h 0 (Row i) (omega arith) t)
+reduction_back n m (SlackColumn j i) h = λ t. SlackColumn (h 2 (Row i) (omega arith) t) (h 0 (Row i) (omega arith) t)
 reduction_back n m (EmptyColumn j) h = ap (λ k. EmptyColumn k) (All-head (ComesBack n m) (Col j) (Bounds j ∷ []) h)
 
 pub verdict_back : (n m : Ids) (v : Verdict) → All (ComesBack n m) (looked_at_by v) → verdict_at n (verdict_at m v) ≡ v
@@ -358,6 +384,9 @@ module _ (n : Ids) (p q : Sparse) (s : LinesStand n p q) where
   edits_stand (TightenedCoefficient i j) e = coefficient_edits n p q s i j (coefficients.row_live p i j e) (coefficients.column_live p i j e)
   edits_stand (FixedByCost j) e = ap (λ (o : Option Number). SetBounds (n.column j) o o ∷ []) (place_kept n p q s j (fixed_by_cost.said p j e).live)
   edits_stand (DominatedColumn i j k) e = let c = s.column k (dominated_column.said p i j k e).second_live in λ t. SetBounds (n.column k) (c.lower t) (c.lower t) ∷ []
+  edits_stand (DoubletonEquation i j k) e = let o = doubleton_equation.said p i j k e in doubleton_edits n p q s i j k o.row_on o.first_on o.second_on
+  edits_stand (FreeColumn j i) e = let o = free_column.said p j i e in free_column_edits n p q s j i o.row_live o.column.live
+  edits_stand (SlackColumn j i) e = let o = slack_column.said p j i e in slack_column_edits n p q s j i o.row_live o.column_live
   edits_stand (EmptyColumn j) e = ap (λ (o : Option Number). SetBounds (n.column j) o o ∷ []) (place_same j (empty_column.said p j e).live)
 
   pub computes_stand : (r : Reduction) → enabled_on p (at.Reduction r) ≡ true → Computes r p ↔ Computes (reduction_at n r) q
@@ -373,6 +402,9 @@ module _ (n : Ids) (p q : Sparse) (s : LinesStand n p q) where
   computes_stand (TightenedCoefficient i j) e = coefficient_computes n p q s i j (coefficients.row_live p i j e) (coefficients.column_live p i j e)
   computes_stand (FixedByCost j) e = (λ h. h, λ h. h)
   computes_stand (DominatedColumn i j k) e = (λ h. h, λ h. h)
+  computes_stand (DoubletonEquation i j k) e = let o = doubleton_equation.said p i j k e in doubleton_computes n p q s i j k o.row_on o.first_on o.second_on
+  computes_stand (FreeColumn j i) e = let o = free_column.said p j i e in free_column_computes n p q s j i o.row_live o.column.live
+  computes_stand (SlackColumn j i) e = let o = slack_column.said p j i e in slack_column_computes n p q s j i o.row_live o.column_live
   computes_stand (EmptyColumn j) e = (λ h. h, λ h. h)
 
 -- ---- a bound that is open at its new id, and every other instance
@@ -451,6 +483,75 @@ coefficients_at_line p i = let js = ids_in (row_entries p i) in
     All-map (IsAtLine p rule.TightenedCoefficient i) (coefficient_in i) js (λ a d l.
     let j = get_or js a d in with_column p rule.TightenedCoefficient i j (coefficient_in i j) refl refl (all_ids_live p i a d l))
 
+-- K12 has one for each order of the two columns of a row
+abbrev doubleton_in : ℕ → ℕ × ℕ → Instance
+doubleton_in i x = at.Reduction (DoubletonEquation i x.0 x.1)
+
+both_orders_at : (f : ℕ → ℕ) (ts : List Term) → both_orders (terms_at f ts) ≡ map (pair_at f) (both_orders ts)
+both_orders_at f [] = refl
+both_orders_at f (t ∷ []) = refl
+both_orders_at f (t ∷ u ∷ []) = refl
+both_orders_at f (t ∷ u ∷ v ∷ ts) = refl
+
+all_orders : (P : ℕ → Type 0) (ts : List Term) → All (λ t. P t.id) ts → All (λ (x : ℕ × ℕ). P x.0 × P x.1) (both_orders ts)
+all_orders P [] h = All-nil (λ (x : ℕ × ℕ). P x.0 × P x.1)
+all_orders P (t ∷ []) h = All-nil (λ (x : ℕ × ℕ). P x.0 × P x.1)
+all_orders P (t ∷ u ∷ []) h =
+    let a = All-head (λ t. P t.id) t (u ∷ []) h in
+    let b = All-head (λ t. P t.id) u [] (All-tail (λ t. P t.id) t (u ∷ []) h) in
+    all_two (λ (x : ℕ × ℕ). P x.0 × P x.1) (t.id, u.id) (u.id, t.id) (a, b) (b, a)
+all_orders P (t ∷ u ∷ v ∷ ts) h = All-nil (λ (x : ℕ × ℕ). P x.0 × P x.1)
+
+doubletons_stand : (p q : Sparse) → LinesStand (new_ids p) p q → (i : ℕ) → (row_at p i).live ≡ true
+    → map (doubleton_in (rank p.matrix.rows i)) (both_orders (row_entries q (rank p.matrix.rows i))) ≡ map (instance_at (new_ids p)) (map (doubleton_in i) (both_orders (row_entries p i)))
+doubletons_stand p q s i on = let n = new_ids p in let ts = row_entries p i in
+    ap (λ us. map (doubleton_in (n.row i)) (both_orders us)) (s.row i on).entries
+    ∙ ap (map (doubleton_in (n.row i))) (both_orders_at n.column ts)
+    ∙ map_across (pair_at n.column) (doubleton_in i) (instance_at n) (doubleton_in (n.row i)) (λ x. refl) (both_orders ts)
+
+doubletons_at_line : (p : Sparse) (i : ℕ) → All (IsAtLine p rule.DoubletonEquation i) (map (doubleton_in i) (both_orders (row_entries p i)))
+doubletons_at_line p i = let pairs = both_orders (row_entries p i) in
+    All-map (IsAtLine p rule.DoubletonEquation i) (doubleton_in i) pairs (λ a d l.
+    let x = get_or pairs a d in
+    let on = all_orders (λ j. (column_at p j).live ≡ true) (row_entries p i) (row_entries-live p i) a d l in
+    (λ h. pair_there p i x.0 x.1 h on.0 on.1, λ h. h 0 (Row i) (omega arith)))
+
+-- K13 and K14 have one for a column with one entry, at the row of that
+abbrev free_in : ℕ → ℕ → Instance
+free_in j i = at.Reduction (FreeColumn j i)
+
+abbrev slack_in : ℕ → ℕ → Instance
+slack_in j i = at.Reduction (SlackColumn j i)
+
+sole_row_at : (f : ℕ → ℕ) (ts : List Term) → sole_row (terms_at f ts) ≡ map f (sole_row ts)
+sole_row_at f [] = refl
+sole_row_at f (t ∷ []) = refl
+sole_row_at f (t ∷ u ∷ ts) = refl
+
+sole_row_live : (p : Sparse) (j : ℕ) → All (λ i. (row_at p i).live ≡ true) (sole_row (column_entries p j))
+sole_row_live p j = by (column_entries p j) (column_entries-live p j)
+  where
+    by : (ts : List Term) → All (λ t. (row_at p t.id).live ≡ true) ts → All (λ i. (row_at p i).live ≡ true) (sole_row ts)
+    by [] h = All-nil (λ i. (row_at p i).live ≡ true)
+    by (t ∷ []) h = all_one (λ i. (row_at p i).live ≡ true) t.id (All-head (λ t. (row_at p t.id).live ≡ true) t [] h)
+    by (t ∷ u ∷ ts) h = All-nil (λ i. (row_at p i).live ≡ true)
+
+soles_stand : (p q : Sparse) → LinesStand (new_ids p) p q → (j : ℕ) → (column_at p j).live ≡ true
+    → (old new : ℕ → Instance) → ((i : ℕ) → new (rank p.matrix.rows i) ≡ instance_at (new_ids p) (old i))
+    → map new (sole_row (column_entries q (rank p.matrix.columns j))) ≡ map (instance_at (new_ids p)) (map old (sole_row (column_entries p j)))
+soles_stand p q s j on old new e = let n = new_ids p in let ts = column_entries p j in
+    ap (λ us. map new (sole_row us)) (s.column j on).entries
+    ∙ ap (map new) (sole_row_at n.row ts)
+    ∙ map_across n.row old (instance_at n) new e (sole_row ts)
+
+free_at_line : (p : Sparse) (j : ℕ) → All (IsAtLine p rule.FreeColumn j) (map (free_in j) (sole_row (column_entries p j)))
+free_at_line p j = let rows = sole_row (column_entries p j) in
+    All-map (IsAtLine p rule.FreeColumn j) (free_in j) rows (λ a d l. (λ h. free_there p j (get_or rows a d) (sole_row_live p j a d l) h, λ h. h 2 (Col j) (omega arith)))
+
+slack_at_line : (p : Sparse) (j : ℕ) → All (IsAtLine p rule.SlackColumn j) (map (slack_in j) (sole_row (column_entries p j)))
+slack_at_line p j = let rows = sole_row (column_entries p j) in
+    All-map (IsAtLine p rule.SlackColumn j) (slack_in j) rows (λ a d l. (λ h. slack_there p j (get_or rows a d) (sole_row_live p j a d l) h, λ h. h 2 (Col j) (omega arith)))
+
 pub instances_stand : (old : Open) (p : Sparse) (new : Open) (q : Sparse) → LinesStand (new_ids p) p q → AreOpenAlike old p new → (kind : Rule) (k : ℕ) → (line_at (lines_of p kind) k).live ≡ true
     → instances_from new q kind (rank (lines_of p kind) k) ≡ map (instance_at (new_ids p)) (instances_from old p kind k)
 instances_stand old p new q s a rule.CrossedBounds k on = refl
@@ -468,6 +569,9 @@ instances_stand old p new q s a rule.TightenedBound k on = tightened_stand old p
 instances_stand old p new q s a rule.TightenedCoefficient k on = coefficients_stand p q s k on
 instances_stand old p new q s a rule.FixedByCost k on = refl
 instances_stand old p new q s a rule.DominatedColumn k on = dominated_stand p q s k on
+instances_stand old p new q s a rule.DoubletonEquation k on = doubletons_stand p q s k on
+instances_stand old p new q s a rule.FreeColumn k on = soles_stand p q s k on (free_in k) (free_in (rank p.matrix.columns k)) (λ i. refl)
+instances_stand old p new q s a rule.SlackColumn k on = soles_stand p q s k on (slack_in k) (slack_in (rank p.matrix.columns k)) (λ i. refl)
 instances_stand old p new q s a rule.EmptyColumn k on = refl
 
 pub instances_at_line : (opens : Open) (p : Sparse) (kind : Rule) (k : ℕ) → All (IsAtLine p kind k) (instances_from opens p kind k)
@@ -486,4 +590,7 @@ instances_at_line opens p rule.TightenedBound k = tightened_at_line opens p k
 instances_at_line opens p rule.TightenedCoefficient k = coefficients_at_line p k
 instances_at_line opens p rule.FixedByCost k = all_one (IsAtLine p rule.FixedByCost k) (at.Reduction (FixedByCost k)) (two_parts p (Col k) (Bounds k) (λ h. h))
 instances_at_line opens p rule.DominatedColumn k = dominated_at_line p k
+instances_at_line opens p rule.DoubletonEquation k = doubletons_at_line p k
+instances_at_line opens p rule.FreeColumn k = free_at_line p k
+instances_at_line opens p rule.SlackColumn k = slack_at_line p k
 instances_at_line opens p rule.EmptyColumn k = all_one (IsAtLine p rule.EmptyColumn k) (at.Reduction (EmptyColumn k)) (two_parts p (Col k) (Bounds k) (λ h. h))

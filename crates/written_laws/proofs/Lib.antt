@@ -1,8 +1,4 @@
 pub mod ComingBack
-pub mod Locks
-pub mod DominatedColumn
-pub mod Activities
-pub mod TightenedCoefficient
 pub mod ByCases
 pub mod Tabled
 pub mod Counting

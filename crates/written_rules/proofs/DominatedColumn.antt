@@ -27,7 +27,7 @@ use Rattle.written_ids.proofs.Naming.{entries_read, entries_read_at, entries_rea
 use Rattle.written_ids.proofs.NewIds.{contents_at, part_at}
 use Rattle.written_ids.proofs.OneToOne.{NamesLive, dense_at, equal_at, has_at}
 use Rattle.written_ids.proofs.Standing.{AreThere, IsThere, held}
-use Rattle.written_laws.proofs.Locks.{are_uncrossed_at}
+use Rattle.written_rules.proofs.Locks.{are_uncrossed_at}
 
 -- ---- the rows of both columns
 -- the terms of us whose ids are not among those of ts

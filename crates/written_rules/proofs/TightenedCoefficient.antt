@@ -25,7 +25,7 @@ use Rattle.written_ids.proofs.Lists.{both_by}
 use Rattle.written_ids.proofs.NewIds.{contents_at, edit_at}
 use Rattle.written_ids.proofs.Standing.{AreThere}
 use Rattle.written_ids.proofs.Spans.{NamesAlike, on_row_at, rest_by, span_by, spans_by, spans_stand, test_by}
-use Rattle.written_laws.proofs.Activities.{bound_there, entry_by, spans_alike}
+use Rattle.written_rules.proofs.Activities.{bound_there, entry_by, spans_alike}
 
 -- ---- how a row is tightened
 module _ (f : ℕ → ℕ) (j : ℕ) (ss : List Span) (h : All (NamesAlike f j) ss) where

@@ -1,0 +1,28 @@
+//! What single rules say at the ids of a written program: no table of rules stands here. The functions here do nothing when they run: each
+//! states a law of the definitions, and its check proves it.
+#![tactic(auto)]
+
+ghost use Rattle.std.specs.Prelude.{◌≡◌, ◌↔◌, ℕ, true};
+ghost use Rattle.problem_model.specs.Problems.{column_at, row_at};
+ghost use Rattle.problem_model.specs.Sparse.{Sparse};
+ghost use Rattle.aggregation_laws.specs.DoubletonEquation as doubleton_equation;
+ghost use Rattle.column_laws.specs.FreeColumn as free_column;
+ghost use Rattle.column_laws.specs.SlackColumn as slack_column;
+ghost use Rattle.written_ids.specs.NewIds.{Ids};
+ghost use Rattle.written_ids.specs.Standing.{LinesStand};
+
+/// A column can be substituted by an equation of two columns at their new ids where it can be at their old ones, and the numbers that this
+/// computes have room there where they have it here.
+pub fn doubleton_equations_stand()
+    ensures { (n : Ids) (p q : Sparse) (i j k : ℕ) → LinesStand n p q → (row_at p i).live ≡ true → (column_at p j).live ≡ true → (column_at p k).live ≡ true → (doubleton_equation.enabled q (n.row i) (n.column j) (n.column k) ≡ doubleton_equation.enabled p i j k) × (doubleton_equation.Computes p i j k ↔ doubleton_equation.Computes q (n.row i) (n.column j) (n.column k)) }
+{}
+
+/// So it is of a column that can leave with the row of its one entry,
+pub fn free_columns_stand()
+    ensures { (n : Ids) (p q : Sparse) (j i : ℕ) → LinesStand n p q → (row_at p i).live ≡ true → (column_at p j).live ≡ true → (free_column.enabled q (n.column j) (n.row i) ≡ free_column.enabled p j i) × (free_column.Computes p j i ↔ free_column.Computes q (n.column j) (n.row i)) }
+{}
+
+/// and of one that can leave as a slack of that row.
+pub fn slack_columns_stand()
+    ensures { (n : Ids) (p q : Sparse) (j i : ℕ) → LinesStand n p q → (row_at p i).live ≡ true → (column_at p j).live ≡ true → (slack_column.enabled q (n.column j) (n.row i) ≡ slack_column.enabled p j i) × (slack_column.Computes p j i ↔ slack_column.Computes q (n.column j) (n.row i)) }
+{}
