@@ -47,7 +47,7 @@ const BOUNDED: [Column; 4] = [
 ];
 
 /// Where each rule is enabled.
-const FOUND: [(Rule, &[u32]); 16] = [
+const FOUND: [(Rule, &[u32]); 19] = [
     (Rule::CrossedBounds, &[3]),
     (Rule::CrossedSides, &[2]),
     (Rule::OutOfReach, &[]),
@@ -63,6 +63,9 @@ const FOUND: [(Rule, &[u32]); 16] = [
     (Rule::TightenedCoefficient, &[]),
     (Rule::FixedByCost, &[0, 2]),
     (Rule::DominatedColumn, &[]),
+    (Rule::DoubletonEquation, &[]),
+    (Rule::FreeColumn, &[]),
+    (Rule::SlackColumn, &[]),
     (Rule::EmptyColumn, &[2]),
 ];
 
@@ -169,11 +172,14 @@ fn id_of(instance: Instance) -> u32 {
         | Instance::Reduction(Reduction::TightenedBound { row, .. })
         | Instance::Reduction(Reduction::TightenedCoefficient { row, .. })
         | Instance::Reduction(Reduction::DominatedColumn { row, .. })
+        | Instance::Reduction(Reduction::DoubletonEquation { row, .. })
         | Instance::Verdict(Verdict::CrossedSides { row })
         | Instance::Verdict(Verdict::OutOfReach { row }) => row,
         Instance::Reduction(Reduction::FixedColumn { column })
         | Instance::Reduction(Reduction::RoundBounds { column })
         | Instance::Reduction(Reduction::FixedByCost { column })
+        | Instance::Reduction(Reduction::FreeColumn { column, .. })
+        | Instance::Reduction(Reduction::SlackColumn { column, .. })
         | Instance::Reduction(Reduction::EmptyColumn { column })
         | Instance::Verdict(Verdict::Ray { column })
         | Instance::Verdict(Verdict::CrossedBounds { column }) => column,
