@@ -1,5 +1,5 @@
 -- Entries set, and given back.
-use Rattle.std.proofs.Common.{◌≡◌, ℕ, suc, ◌<◌, ◌≤◌, arith, true, List, [], ◌∷◌, ◌++◌, length, refl, sym, ap, ◌∙◌, subst, append_assoc}
+use Rattle.std.proofs.Common.{◌≡◌, ◌≢◌, ℕ, suc, ◌<◌, ◌≤◌, arith, true, List, [], ◌∷◌, ◌++◌, length, refl, sym, ap, ◌∙◌, subst, append_assoc}
 use Rattle.std.specs.List.{All}
 use Rattle.std.proofs.lemmas.List.{map-append}
 use Rattle.std.proofs.lemmas.List.Elements.{All-nil, All-cons, All-head, All-tail, All-push, All-weaker}
@@ -15,7 +15,7 @@ use Rattle.problem_model.specs.Sparse.{Sparse}
 use Rattle.problem_laws.proofs.EntriesKept.{put_row_live}
 use Rattle.sparse_problem.specs.declared.entries.Replaced.{Replaced}
 use Rattle.sparse_problem.specs.Putting.{entries_given, entries_set, GivesBack, IdsAscend}
-use Rattle.problem_commits.specs.Restoring.{restored, run_of, CanGive, CanRestore, IsTrail, MayGoOn}
+use Rattle.problem_commits.specs.Restoring.{restored, run_of, IsRun, NoneBehind, CanGive, CanRestore, IsTrail, MayGoOn}
 
 -- ---- one more at the end
 restored_last : (rs : List Replaced) (r : Replaced) (q : Sparse) → restored (rs ++ r ∷ []) q ≡ restored rs (entries_given q r)
@@ -49,11 +49,19 @@ pub ascend_push : (m k : ℕ) (ts : List Term) (t : Term) → IdsAscend m ts →
 ascend_push m k [] t a b l h = (l, tt)
 ascend_push m k (u ∷ us) t a b l h = (a.0, ascend_push (suc u.id) k us t a.1 (All-tail (λ (u : Term). u.id ≤ k) u us b) (let c : u.id ≤ k = All-head (λ (u : Term). u.id ≤ k) u us b in omega (arith, c, h)) h)
 
+ascend_last : (m : ℕ) (ts : List Term) (t u : Term) → IdsAscend m ((ts ++ t ∷ []) ++ u ∷ []) → t.id < u.id
+ascend_last m [] t u h = let l : suc t.id ≤ u.id = h.1.0 in omega (arith, l)
+ascend_last m (x ∷ xs) t u h = ascend_last (suc x.id) xs t u h.1
+
+pub top_first : (ts : List Term) (s t : Term) → ts ≡ s ∷ [] → IdsAscend 0 (ts ++ t ∷ []) → s.id < t.id
+top_first ts s t e h = ascend_last 0 [] s t (subst (λ (xs : List Term). IdsAscend 0 (xs ++ t ∷ [])) e h)
+
 -- where the terms of a run are taken: those taken ascend to the last one, and the edits left are behind them
 pub record Taking (j : ℕ) (before : List Term) (es : List Edit) (ts : List Term) (last : ℕ) (fs : List Edit) : Type 0 where
   pub run : run_of j before ++ es ≡ run_of j ts ++ fs
   pub ascends : IdsAscend 0 ts
   pub most : All (λ (t : Term). t.id ≤ last) ts
+  pub top : (t : Term) → IdsAscend 0 (ts ++ t ∷ []) → last < t.id
   pub shorter : length fs ≤ length es
 
 pub taking_step : (j : ℕ) (before : List Term) (es : List Edit) (ts us : List Term) (last : ℕ) (fs gs : List Edit) (t : Term) → Taking j before es ts last fs → fs ≡ SetEntry t.id j t.value ∷ gs → last < t.id → us ≡ ts ++ t ∷ [] → Taking j before es us t.id gs
@@ -64,8 +72,16 @@ taking_step j before es ts us last fs gs t k e h f =
       run = k.run ∙ ap (λ (xs : List Edit). run_of j ts ++ xs) e ∙ sym (ap (λ (xs : List Term). run_of j xs ++ gs) f ∙ ap (λ (xs : List Edit). xs ++ gs) more ∙ joined);
       ascends = subst (IdsAscend 0) (sym f) (ascend_push 0 last ts t k.ascends k.most (omega arith) h);
       most = subst (All (λ (u : Term). u.id ≤ t.id)) (sym f) (All-push (λ (u : Term). u.id ≤ t.id) ts t (All-weaker (λ (u : Term). u.id ≤ last) (λ (u : Term). u.id ≤ t.id) (λ u l. omega (arith, l, h)) ts k.most) (omega arith));
+      top = λ u a. ascend_last 0 ts t u (subst (λ (xs : List Term). IdsAscend 0 (xs ++ u ∷ [])) f a);
       shorter = let n : length fs ≡ suc (length gs) = ap length e in omega (arith, n, k.shorter);
     }
+
+none_goes_on : (j i : ℕ) (fs : List Edit) → NoneBehind j i fs → (t : Term) → i < t.id → (gs : List Edit) → fs ≢ SetEntry t.id j t.value ∷ gs
+none_goes_on j i fs n t l gs e = let c : t.id ≤ i = subst (NoneBehind j i) e n refl in omega (arith, c, l)
+
+-- and where no more are taken
+pub run_taken : (j : ℕ) (before : List Term) (es : List Edit) (ts : List Term) (last : ℕ) (fs : List Edit) → Taking j before es ts last fs → NoneBehind j last fs → IsRun j ts (run_of j before ++ es) fs
+run_taken j before es ts last fs k n = record { whole = k.run; ascends = k.ascends; longest = λ t a gs. none_goes_on j last fs n t (k.top t a) gs }
 
 -- a run may be made where its edits may
 pub run_rows : (p : Sparse) (j : ℕ) (ts : List Term) (fs : List Edit) → AreAllowed p (run_of j ts ++ fs) → All (λ (t : Term). (row_at p t.id).live ≡ true) ts

@@ -1,5 +1,5 @@
 -- Entries that were set, and what stood there before, with which a problem can be restored.
-use Rattle.std.specs.Prelude.{◌≡◌, ℕ, ◌<◌, ⊤, List, [], ◌∷◌, length, map}
+use Rattle.std.specs.Prelude.{◌≡◌, ◌≢◌, ℕ, ◌<◌, ◌≤◌, ⊤, List, [], ◌∷◌, ◌++◌, length, map}
 use Rattle.lp_model.specs.declared.terms.Term.{Term}
 use Rattle.problem_model.specs.declared.edit.Edit.{Edit}
 use Rattle.problem_model.specs.declared.edit.Edit.TheVariants.{DeleteRow, DeleteColumn, SetSides, SetBounds, AddOffset, SetCost, SetEntry}
@@ -9,11 +9,28 @@ use Rattle.problem_model.specs.Offsets.{OffsetFits}
 use Rattle.problem_model.specs.Problems.{IsSparse}
 use Rattle.problem_model.specs.Sparse.{Sparse}
 use Rattle.sparse_problem.specs.declared.entries.Replaced.{Replaced}
-use Rattle.sparse_problem.specs.Putting.{AreInside, entries_given}
+use Rattle.sparse_problem.specs.Putting.{AreInside, entries_given, IdsAscend}
 
 -- edits that set entries of column j: the numbers of terms, in the rows that these name
 abbrev pub run_of : ℕ → List Term → List Edit
 run_of j ts = map (λ t. SetEntry t.id j t.value) ts
+
+-- the first of the edits sets no entry of column j in a row behind row i
+abbrev pub NoneBehind : ℕ → ℕ → List Edit → Type 0
+NoneBehind j i (SetEntry k m a ∷ es) = m ≡ j → k ≤ i
+NoneBehind j i [] = ⊤
+NoneBehind j i (DeleteRow k ∷ es) = ⊤
+NoneBehind j i (DeleteColumn k ∷ es) = ⊤
+NoneBehind j i (SetSides k l u ∷ es) = ⊤
+NoneBehind j i (SetBounds k l u ∷ es) = ⊤
+NoneBehind j i (AddOffset k ∷ es) = ⊤
+NoneBehind j i (SetCost k c ∷ es) = ⊤
+
+-- edits begin with entries of column j at the terms' ids, which ascend, and no more edits do so: the others are behind them
+pub record IsRun (j : ℕ) (ts : List Term) (es fs : List Edit) : Type 0 where
+  pub whole : es ≡ run_of j ts ++ fs
+  pub ascends : IdsAscend 0 ts
+  pub longest : (t : Term) → IdsAscend 0 (ts ++ t ∷ []) → (gs : List Edit) → fs ≢ SetEntry t.id j t.value ∷ gs
 
 -- the first of the edits sets no entry
 abbrev pub HasNoEntry : List Edit → Type 0

@@ -8,8 +8,9 @@ ghost use Rattle.problem_model.specs.Applied.{applied};
 ghost use Rattle.problem_model.specs.Offsets.{OffsetFits};
 ghost use Rattle.problem_model.specs.Problems.{column_at, row_at};
 ghost use Rattle.problem_model.specs.Sparse.{Sparse};
+ghost use Rattle.lp_model.specs.declared.terms.Term.{Term};
 ghost use Rattle.sparse_problem.specs.Putting.{entries_set, IdsAscend};
-ghost use Rattle.problem_commits.specs.Restoring.{CanRestore, GoesOn, HasNoEntry, IsTrail, MayGoOn, restored, run_of};
+ghost use Rattle.problem_commits.specs.Restoring.{CanRestore, GoesOn, HasNoEntry, IsRun, IsTrail, MayGoOn, NoneBehind, restored, run_of};
 
 use crate::edits::make_all;
 use fractions::frac::Frac;
@@ -48,22 +49,32 @@ fn first_entry<'a>(edits: &'a [Edit]) -> Option<(EntryEdit, &'a [Edit])>
 fn next_term<'a>(edits: &'a [Edit], column: u32, last: u32) -> Option<(Term, &'a [Edit])>
     ensures edit { IfSome result (λ r. edits.entry.now ≡ edit.SetEntry r.0.id column r.0.value ∷ r.1.now) }
     ensures behind { IfSome result (λ r. last < r.0.id) }
+    ensures none { IfNone result (NoneBehind column last edits.entry.now) }
 {
-    match first_entry(edits) {
-        Some((entry, after)) => {
-            if entry.column == column && last < entry.row {
-                Some((
-                    Term {
-                        id: entry.row,
-                        value: entry.value,
-                    },
-                    after,
-                ))
-            } else {
-                None
+    match edits {
+        [
+            Edit::SetEntry {
+                row,
+                column: other,
+                value,
+            },
+            after @ ..,
+        ] => {
+            if *other != column {
+                return None;
             }
+            if *row <= last {
+                return None;
+            }
+            Some((
+                Term {
+                    id: *row,
+                    value: *value,
+                },
+                after,
+            ))
         }
-        None => None,
+        _ => None,
     }
 }
 
@@ -76,8 +87,8 @@ fn take_run<'a>(
 ) -> Result<&'a [Edit], AllocError>
     requires last { All (λ t. t.id ≤ last) terms.old.items }
     requires ascends { IdsAscend 0 terms.old.items }
-    ensures run { IfOk result (λ left. run_of column terms.old.items ++ edits.entry.now ≡ run_of column terms.new.items ++ left.now) }
-    ensures ascends { OnOk result (IdsAscend 0 terms.new.items) }
+    requires top { (t : Term) → IdsAscend 0 (terms.old.items ++ t ∷ []) → last < t.id }
+    ensures run { IfOk result (λ left. IsRun column terms.new.items (run_of column terms.old.items ++ edits.entry.now) left.now) }
     ensures shorter { IfOk result (λ left. length left.now ≤ length edits.entry.now) }
 {
     let mut last = last;
@@ -91,15 +102,15 @@ fn take_run<'a>(
     Ok(rest)
 }
 
-/// The terms of edits that set entries of one column in ascending rows, of which this is the first, and the edits behind them.
+/// The terms of the longest run of edits that set entries of one column in ascending rows, of which this is the first, and the edits
+/// behind them.
 fn first_run<'a>(
     terms: &mut Vec<Term>,
     entry: &EntryEdit,
     after: &'a [Edit],
 ) -> Result<&'a [Edit], AllocError>
     requires none { terms.old.items ≡ [] }
-    ensures run { IfOk result (λ left. edit.SetEntry entry.now.row entry.now.column entry.now.value ∷ after.entry.now ≡ run_of entry.now.column terms.new.items ++ left.now) }
-    ensures ascends { OnOk result (IdsAscend 0 terms.new.items) }
+    ensures run { IfOk result (λ left. IsRun entry.now.column terms.new.items (edit.SetEntry entry.now.row entry.now.column entry.now.value ∷ after.entry.now) left.now) }
     ensures shorter { IfOk result (λ left. length left.now ≤ length after.entry.now) }
 {
     terms.push(Term {
