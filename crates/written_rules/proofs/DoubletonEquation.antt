@@ -152,9 +152,6 @@ module _ (n : Ids) (p q : Sparse) (s : LinesStand n p q) (i j k : ℕ) (on : (ro
       )
 
   -- all
-  joined_at : (c : Number) (l u : Option Number) (m : Number) → column_joined row gone kept c l u m ≡ map (edit_at n) (column_joined i j k c l u m)
-  joined_at c l u m = refl
-
   pub doubleton_edits : edits q row gone kept ≡ map (edit_at n) (edits p i j k)
   doubleton_edits =
       let f : Number = factor p i j k in

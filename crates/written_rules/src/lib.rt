@@ -17,12 +17,14 @@ pub fn doubleton_equations_stand()
     ensures { (n : Ids) (p q : Sparse) (i j k : ℕ) → LinesStand n p q → (row_at p i).live ≡ true → (column_at p j).live ≡ true → (column_at p k).live ≡ true → (doubleton_equation.enabled q (n.row i) (n.column j) (n.column k) ≡ doubleton_equation.enabled p i j k) × (doubleton_equation.Computes p i j k ↔ doubleton_equation.Computes q (n.row i) (n.column j) (n.column k)) }
 {}
 
-/// So it is of a column that can leave with the row of its one entry,
+/// A column can leave with the row of its one entry at their new ids where it can at their old ones, and the numbers that this computes have
+/// room there where they have it here.
 pub fn free_columns_stand()
     ensures { (n : Ids) (p q : Sparse) (j i : ℕ) → LinesStand n p q → (row_at p i).live ≡ true → (column_at p j).live ≡ true → (free_column.enabled q (n.column j) (n.row i) ≡ free_column.enabled p j i) × (free_column.Computes p j i ↔ free_column.Computes q (n.column j) (n.row i)) }
 {}
 
-/// and of one that can leave as a slack of that row.
+/// A column can leave as a slack of the row of its one entry at their new ids where it can at their old ones, and the numbers that this
+/// computes have room there where they have it here.
 pub fn slack_columns_stand()
     ensures { (n : Ids) (p q : Sparse) (j i : ℕ) → LinesStand n p q → (row_at p i).live ≡ true → (column_at p j).live ≡ true → (slack_column.enabled q (n.column j) (n.row i) ≡ slack_column.enabled p j i) × (slack_column.Computes p j i ↔ slack_column.Computes q (n.column j) (n.row i)) }
 {}
