@@ -6,8 +6,8 @@ ghost use Rattle.presolve_model.specs.Enabled.{enabled_on};
 ghost use Rattle.presolve_model.specs.Tables.{edits, record_of, Computes};
 ghost use Rattle.presolve_model.specs.declared.instance.Instance.TheVariants as at;
 
-use aggregation_rules::doubleton_equation;
 use activity_rules::{forcing_row, out_of_reach, redundant_row, redundant_side, tightened_bound};
+use aggregation_rules::doubleton_equation;
 use coef_rules::tightened_coefficient;
 use column_rules::{free_column, slack_column};
 use dual_rules::{dominated_column, fixed_by_cost, ray};

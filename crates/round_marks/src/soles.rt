@@ -22,11 +22,7 @@ fn add_if_sole(problem: &Problem, column: u32, ids: &mut Vec<u32>) -> Result<(),
 }
 
 /// Adds those of some columns that have one entry.
-pub fn add_soles(
-    problem: &Problem,
-    columns: &[u32],
-    ids: &mut Vec<u32>,
-) -> Result<(), AllocError>
+pub fn add_soles(problem: &Problem, columns: &[u32], ids: &mut Vec<u32>) -> Result<(), AllocError>
     ensures { OnOk result (ids.new.items ≡ ids.old.items ++ soles problem.now columns.now) }
 {
     let mut rest = columns;
