@@ -11,9 +11,10 @@
 //! - `run WORD ..`: runs the presolver with these words
 //! - `program NAME FORMAT NUMBERS`: reads the program of a file's text, and writes it
 //! - `records NAME`: reads the records of a file's text, and writes them
-//! - `each NAME TAIL`: the last of these three again for each line that follows, as if the line, and then the tail, stood behind the
+//! - `rule NAME WORD ..`: applies the reduction that the words name, as a record names it, to the program of a file's text, by itself
+//! - `each NAME TAIL`: the last of these again for each line that follows, as if the line, and then the tail, stood behind the
 //!   text of that file
-//! - `begin NAME`: the last of these three again for each proper beginning of the text of that file
+//! - `begin NAME`: the last of these again for each proper beginning of the text of that file
 //! - `numbers`: reads each line that follows as a number, decimal and as a fraction, and writes it
 //!
 //! A line of text has `|` in front, or `>` where no line feed ends it. Lines that begin with `#`, and empty ones, are for the reader.
@@ -21,6 +22,7 @@
 
 mod again;
 mod request;
+mod rule;
 mod runs;
 mod script;
 mod shown;

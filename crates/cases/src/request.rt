@@ -1,9 +1,10 @@
 //! What is asked of the files of a case.
 
-use crate::again;
 use crate::runs::Case;
+use crate::{again, rule};
 use anyhow::{Result, anyhow};
 use mps_profile::dialect::Dialect;
+use presolve_model::Reduction;
 
 /// A request; files are named by their places.
 #[derive(Clone, Copy)]
@@ -15,6 +16,8 @@ pub enum Request {
     Program(usize, Dialect),
     /// The records of a text, written.
     Records(usize),
+    /// A reduction of the program of a text, by itself.
+    Rule(usize, Reduction),
 }
 
 impl Request {
@@ -25,6 +28,7 @@ impl Request {
             Request::Run => case.run(rt),
             Request::Program(place, dialect) => again::program(rt, case.bytes_at(place)?, dialect),
             Request::Records(place) => again::records(rt, case.bytes_at(place)?),
+            Request::Rule(place, reduction) => rule::applied(rt, case.bytes_at(place)?, reduction),
         }
     }
 }

@@ -1,8 +1,8 @@
 //! The script, line by line.
 
-use crate::again;
 use crate::request::Request;
 use crate::runs::Case;
+use crate::{again, rule};
 use anyhow::{Context, Result, anyhow};
 use fractions::Numbers;
 use std::alloc::Global;
@@ -72,6 +72,7 @@ impl Script {
             "begin" => self.beginnings(rt, rest),
             "program" => self.program(rt, rest),
             "records" => self.records(rt, rest),
+            "rule" => self.rule(rt, rest),
             "numbers" => {
                 self.text = Text::Number;
                 Ok(())
@@ -165,6 +166,13 @@ impl Script {
 
     fn records(&mut self, rt: &HostRuntime, name: &str) -> Result<()> {
         self.request = Request::Records(self.case.place(name)?);
+        self.request.answer(rt, &self.case)
+    }
+
+    fn rule(&mut self, rt: &HostRuntime, rest: &str) -> Result<()> {
+        let (name, words) = rest.split_once(' ').context("a name and a reduction")?;
+        println!(rt; "{words}")?;
+        self.request = Request::Rule(self.case.place(name)?, rule::reduction(words)?);
         self.request.answer(rt, &self.case)
     }
 
