@@ -1,3 +1,3 @@
 pub mod Looks
 pub mod Ends
-pub mod Walks
+pub mod EntryWalks

@@ -1,19 +1,22 @@
 -- What the looks at two columns say.
 use Rattle.std.proofs.Common.{◌≡◌, ◌≢◌, ℕ, Bool, true, false, not, ◌&&◌, nat_eq, List, [], ◌∷◌, Option, Some, None, is_none, sym, refl, ap, ◌∙◌, true≢false}
 use Rattle.std.specs.Prelude.{if◌then◌else◌}
+use Rattle.std.specs.List.{All}
 use Rattle.rational.specs.Number.{Number, zero_ℚ, ◌*ℚ◌}
 use Rattle.rational.specs.Compare.{eq_ℚ}
 use Rattle.rational.specs.Division.{◌/ℚ◌}
 use Rattle.lp_model.specs.declared.terms.Term.{Term}
 use Rattle.problem_model.specs.declared.part.Contents.TheVariants as holding
+use Rattle.problem_model.specs.Matrices.{live_only}
 use Rattle.problem_model.specs.Problems.{IsSparse, bounds_at, column_at, column_entries, cost_at}
 use Rattle.problem_model.specs.Sparse.{Sparse}
+use Rattle.problem_laws.proofs.Entries.{column_entries-none_zero}
 use Rattle.activities.specs.Exact.{fits}
-use Rattle.rule_words.specs.Entries.{has_none}
-use Rattle.rule_words.proofs.EndTestsSay.{not_true}
 use Rattle.parallel_column_laws.specs.ParallelColumns.{are_in_order, are_of_a_kind, are_times, enabled, factor, factor_of, is_multiple, is_parallel}
 use Rattle.parallel_column_laws.proofs.ParallelColumns as law
-use Rattle.parallel_columns.specs.Looks.{are_two, factor_if, first_number, held, joins_if, over_if}
+use Rattle.parallel_columns.specs.Looks.{are_two, factor_if, held, joins_if}
+use Rattle.parallel_columns.specs.Walks.{first_over}
+use Rattle.parallel_columns.proofs.EntryWalks.{first_made}
 
 -- ---- what a condition that holds says
 pub first_live : (p : Sparse) (j k : ℕ) → enabled p j k ≡ true → (column_at p j).live ≡ true
@@ -25,14 +28,12 @@ second_live p j k e = (law.said p j k e).second_live
 pub factor_some : (p : Sparse) (j k : ℕ) → IsSparse p → enabled p j k ≡ true → factor p j k ≢ zero_ℚ
 factor_some p j k s e = law.factor_some p s j k (law.said p j k e)
 
--- there is a quotient of the first entries
-made : (ts us : List Term) → not (has_none ts) ≡ true → fits (factor_of ts us) ≡ true → are_times (factor_of ts us) ts us ≡ true → over_if (first_number ts) (first_number us) ≡ Some (factor_of ts us)
-made [] us h r e = absurd (not_true h)
-made (t ∷ ts) [] h r e = absurd (not_true e)
-made (t ∷ ts) (u ∷ us) h r e = ap (λ (b : Bool). if b then Some (t.value /ℚ u.value) else None) r
+pub none_zero : (p : Sparse) (k : ℕ) → IsSparse p → All (λ t. t.value ≢ zero_ℚ) (live_only p.matrix.rows (column_at p k).entries)
+none_zero p k s = column_entries-none_zero p k s
 
+-- there is a quotient of the first entries
 factor_made : (p : Sparse) (j k : ℕ) → enabled p j k ≡ true → factor_if p j k ≡ Some (factor p j k)
-factor_made p j k e = let f = law.said p j k e in made (column_entries p j) (column_entries p k) f.some f.room f.entries
+factor_made p j k e = let f = law.said p j k e in first_made (column_entries p j) (column_entries p k) f.some f.room f.entries
 
 pub not_none : (p : Sparse) (j k : ℕ) (o : Option Number) → enabled p j k ≡ true → o ≡ factor_if p j k → o ≡ None → ⊥
 not_none p j k o e f g = true≢false (ap is_none (sym g ∙ f ∙ factor_made p j k e))
@@ -50,7 +51,7 @@ and_none false = refl
 -- the test of a quotient that is made, where it is of the first entries
 by_first : (R : Option Number → Bool) (K : Number → Bool) (o : Bool) (ts us : List Term) (c d : Number) → R None ≡ false
     → ((s : Number) → R (Some s) ≡ (o && (K s && (eq_ℚ c (s *ℚ d) && are_times s ts us))))
-    → (o && (K (factor_of ts us) && is_multiple (factor_of ts us) ts c us d)) ≡ R (over_if (first_number ts) (first_number us))
+    → (o && (K (factor_of ts us) && is_multiple (factor_of ts us) ts c us d)) ≡ R (first_over ts us)
 by_first R K o [] us c d n h = none_of o (K (factor_of [] us)) ∙ sym n
 by_first R K o (t ∷ ts) [] c d n h =
     let s = factor_of (t ∷ ts) [] in

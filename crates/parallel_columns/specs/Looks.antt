@@ -1,35 +1,22 @@
 -- What is looked at of two columns.
-use Rattle.std.specs.Prelude.{ℕ, Bool, false, not, ◌&&◌, if◌then◌else◌, nat_eq, List, [], ◌∷◌, Option, Some, None}
+use Rattle.std.specs.Prelude.{ℕ, Bool, false, not, ◌&&◌, nat_eq, Option, Some, None}
 use Rattle.rational.specs.Number.{Number, ◌*ℚ◌}
 use Rattle.rational.specs.Compare.{eq_ℚ}
-use Rattle.rational.specs.Division.{◌/ℚ◌}
-use Rattle.lp_model.specs.declared.terms.Term.{Term}
 use Rattle.problem_model.specs.declared.line.Bounds.{Bounds}
 use Rattle.problem_model.specs.declared.part.Contents.{Contents}
 use Rattle.problem_model.specs.declared.part.Contents.TheVariants as holding
 use Rattle.problem_model.specs.Problems.{bounds_at, column_at, column_entries, cost_at}
 use Rattle.problem_model.specs.Sparse.{Sparse}
-use Rattle.activities.specs.Exact.{fits}
 use Rattle.parallel_column_laws.specs.ParallelColumns.{are_in_order, are_of_a_kind, are_times}
+use Rattle.parallel_columns.specs.Walks.{first_over}
 
 -- both are live, and they differ
 abbrev pub are_two : Sparse → ℕ → ℕ → Bool
 are_two p j k = (column_at p j).live && ((column_at p k).live && not (nat_eq j k))
 
--- the number of the first term
-abbrev pub first_number : List Term → Option Number
-first_number [] = None
-first_number (t ∷ ts) = Some t.value
-
--- a number over another, where both are there and that has room
-abbrev pub over_if : Option Number → Option Number → Option Number
-over_if None d = None
-over_if (Some n) None = None
-over_if (Some n) (Some d) = if fits (n /ℚ d) then Some (n /ℚ d) else None
-
 -- the first entry of column j over that of column k
 abbrev pub factor_if : Sparse → ℕ → ℕ → Option Number
-factor_if p j k = over_if (first_number (column_entries p j)) (first_number (column_entries p k))
+factor_if p j k = first_over (column_entries p j) (column_entries p k)
 
 -- the bounds of a live column, as a part that holds them
 abbrev pub held : Bounds → Contents

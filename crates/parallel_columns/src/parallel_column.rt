@@ -8,10 +8,10 @@ ghost use Rattle.rule_words.specs.Answers.{Changes};
 ghost use Rattle.parallel_column_laws.specs.ParallelColumns.{edits, enabled, record_of, Computes};
 ghost use Rattle.parallel_columns.specs.Looks.{are_two as two_are, factor_if as factor_there, is_times as times_is, joins_by, joins_if};
 
-use crate::entries::{are_times, entries_of_column, is_product};
 use crate::factor::{factor_if, factor_of};
 use crate::joined_bounds::{Range, joined_bounds};
 use crate::kinds::{are_in_order, are_of_a_kind};
+use crate::walks::{are_times, entries_of, is_product};
 use fractions::frac::Frac;
 use problem_model::{Edit, Refusal};
 use rule_words::Change;
@@ -34,10 +34,10 @@ fn is_times(problem: &Problem, column: u32, other: u32, factor: &Frac) -> bool
 {
     is_product(&problem.cost(column), factor, &problem.cost(other))
         && are_times(
-            problem,
+            problem.rows(),
             factor,
-            entries_of_column(problem, column),
-            entries_of_column(problem, other),
+            entries_of(problem.columns(), column),
+            entries_of(problem.columns(), other),
         )
 }
 

@@ -1,10 +1,10 @@
 use Rattle.std.proofs.Common.{◌≡◌, length}
 use Rattle.parallel_columns.specs.Walks.{from_live}
-use Rattle.parallel_columns.proofs.entries.from_live.Given as goal
+use Rattle.parallel_columns.proofs.walks.from_live.Given as goal
 
 -- the first that is wanted is among those that are left
 abbrev pub invariant-loop-rest : goal.invariant-loop-rest
-invariant-loop-rest l = from_live l.problem.matrix.rows l.rest ≡ from_live l.problem.matrix.rows l.entries
+invariant-loop-rest l = from_live l.lines l.rest ≡ from_live l.lines l.entries
 
 abbrev pub decreases-loop-rest : goal.decreases-loop-rest
 decreases-loop-rest l = length l.rest

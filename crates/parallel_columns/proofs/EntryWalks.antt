@@ -1,10 +1,12 @@
--- A walk along the entries of two columns.
+-- A walk along the entries of two columns or of two rows.
 use Rattle.std.proofs.Common.{◌≡◌, ◌≢◌, suc, ◌≤◌, ◌<◌, Bool, true, false, not, ◌&&◌, nat_eq, List, [], ◌∷◌, length, get_or, Some, None, Result, Ok, Err, is_ok, sym, refl, ap, ap₂, ◌∙◌, subst, true≢false, arith}
 use Rattle.std.specs.Prelude.{if◌then◌else◌}
 use Rattle.std.specs.List.{All}
 use Rattle.std.proofs.lemmas.List.Elements.{All-head}
+use Rattle.std.proofs.lemmas.Option.{none-some, same_Some}
 use Rattle.rational.specs.Number.{Number, zero_ℚ, ◌*ℚ◌}
 use Rattle.rational.specs.Compare.{eq_ℚ}
+use Rattle.rational.specs.Division.{◌/ℚ◌}
 use Rattle.rational.specs.Lowest.{Fits}
 use Rattle.rational.proofs.Comparisons.{eq_ℚ-is}
 use Rattle.fractions.specs.declared.Past.{Past}
@@ -16,9 +18,8 @@ use Rattle.activities.specs.Exact.{fits, if_room}
 use Rattle.activities.proofs.Rooms.{fits-is}
 use Rattle.rule_words.specs.Entries.{has_none}
 use Rattle.rule_words.proofs.EndTestsSay.{not_true}
-use Rattle.parallel_column_laws.specs.ParallelColumns.{are_times}
-use Rattle.parallel_columns.specs.Looks.{first_number}
-use Rattle.parallel_columns.specs.Walks.{after_first, begin_alike, from_live}
+use Rattle.parallel_column_laws.specs.ParallelColumns.{are_times, factor_of}
+use Rattle.parallel_columns.specs.Walks.{after_first, begin_alike, first_number, first_over, from_live}
 
 -- terms are none, or the first names a live line
 abbrev pub begins_live : List Line → List Term → Bool
@@ -37,6 +38,18 @@ past_product n q r e f g h = by (fits q) refl (eq_ℚ n q) refl
         told : Err e ≡ Ok q → ⊥
         told m = true≢false (ap is_ok (sym m))
     by false k true l = absurd (not_both ((fits-is q).1 (subst Fits ((eq_ℚ-is n q).0 l) f)) k)
+
+-- ---- first numbers
+-- they aren't 0
+pub first_not_zero : (ts : List Term) (q : Number) → All (λ t. t.value ≢ zero_ℚ) ts → Some q ≡ first_number ts → q ≢ zero_ℚ
+first_not_zero [] q a e = absurd (none-some q (sym e))
+first_not_zero (t ∷ ts) q a e = λ z. All-head (λ (t : Term). t.value ≢ zero_ℚ) t ts a (sym (same_Some q t.value e) ∙ z)
+
+-- there is a quotient of them
+pub first_made : (ts us : List Term) → not (has_none ts) ≡ true → fits (factor_of ts us) ≡ true → are_times (factor_of ts us) ts us ≡ true → first_over ts us ≡ Some (factor_of ts us)
+first_made [] us h r e = absurd (not_true h)
+first_made (t ∷ ts) [] h r e = absurd (not_true e)
+first_made (t ∷ ts) (u ∷ us) h r e = ap (λ (b : Bool). if b then Some (t.value /ℚ u.value) else None) r
 
 -- ---- where terms begin
 module _ (lines : List Line) where
@@ -90,9 +103,6 @@ module _ (lines : List Line) where
 
   pub number_some : (ts us : List Term) (t : Term) → us ≡ from_live lines ts → 1 ≤ length us → t ≡ get_or us 0 t → Some t.value ≡ first_number (live_only lines ts)
   number_some ts us t e l g = ap first_number (sym (first_some ts us t e l g))
-
-  pub number_not_zero : (ts us : List Term) (t : Term) → us ≡ from_live lines ts → 1 ≤ length us → t ≡ get_or us 0 t → All (λ t. t.value ≢ zero_ℚ) (live_only lines ts) → t.value ≢ zero_ℚ
-  number_not_zero ts us t e l g a = All-head (λ (t : Term). t.value ≢ zero_ℚ) t (live_only lines (after_first us)) (subst (All (λ (t : Term). t.value ≢ zero_ℚ)) (first_some ts us t e l g) a)
 
   -- ---- one step
   all_parts : (a b c : Bool) → (a && b) ≡ true → (a && (b && c)) ≡ c
