@@ -1,0 +1,13 @@
+use Rattle.std.proofs.Common.{◌≡◌, true, rules}
+use Rattle.problem_model.specs.Problems.{column_at}
+use Rattle.problem_laws.proofs.Entries.{column_entries-none_zero}
+use Rattle.line_groups.proofs.KeyLaws.{read_none_zero}
+use Rattle.line_groups.proofs.keys.key_of_column.Goals as goal
+
+pub key_of-requires : goal.key_of-requires
+key_of-requires c =
+    let p = c.args.problem.now in
+    let live : (column_at p c.args.column).live ≡ true = search rules in
+    let entries : c.as_slice-terms.result.now ≡ c.index-columns-column.result.entries = search rules in
+    read_none_zero p.matrix.columns p.matrix.rows c.columns.result.now c.rows.result.now c.args.column c.index-columns-column.result c.as_slice-terms.result.now
+    (column_entries-none_zero p c.args.column c.is_sparse.ensures) live c.columns.ensures c.rows.ensures c.index-columns-column.is entries

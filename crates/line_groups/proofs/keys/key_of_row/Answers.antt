@@ -1,0 +1,13 @@
+use Rattle.std.proofs.Common.{◌≡◌, true, rules}
+use Rattle.problem_model.specs.Problems.{row_at}
+use Rattle.problem_laws.proofs.Entries.{row_entries-none_zero}
+use Rattle.line_groups.proofs.KeyLaws.{read_none_zero}
+use Rattle.line_groups.proofs.keys.key_of_row.Goals as goal
+
+pub key_of-requires : goal.key_of-requires
+key_of-requires c =
+    let p = c.args.problem.now in
+    let live : (row_at p c.args.row).live ≡ true = search rules in
+    let entries : c.as_slice-terms.result.now ≡ c.index-rows-row.result.entries = search rules in
+    read_none_zero p.matrix.rows p.matrix.columns c.rows.result.now c.columns.result.now c.args.row c.index-rows-row.result c.as_slice-terms.result.now
+    (row_entries-none_zero p c.args.row c.is_sparse.ensures) live c.rows.ensures c.columns.ensures c.index-rows-row.is entries

@@ -1,0 +1,4 @@
+pub mod Ascending
+pub mod Keys
+pub mod Groups
+pub mod Steps
