@@ -35,6 +35,14 @@ pub fn reduction(words: &str) -> Result<Reduction> {
             column: first,
             row: second,
         }),
+        "K15" => Ok(Reduction::ParallelRows {
+            row: first,
+            other: second,
+        }),
+        "K16" => Ok(Reduction::ParallelColumns {
+            column: first,
+            other: second,
+        }),
         _ => Err(anyhow!("an unknown rule {code}")),
     }
 }

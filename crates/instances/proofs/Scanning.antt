@@ -21,7 +21,7 @@ use Rattle.dual_laws.specs.DominatedColumn.{pairs_of}
 use Rattle.presolve_model.specs.Tallies.{Open}
 use Rattle.presolve_model.specs.declared.instance.Instance.{Instance}
 use Rattle.presolve_model.specs.declared.instance.Instance.TheVariants as at
-use Rattle.presolve_model.specs.declared.instance.Reduction.TheVariants.{DominatedColumn, DoubletonEquation, FreeColumn, SlackColumn, TightenedBound, TightenedCoefficient}
+use Rattle.presolve_model.specs.declared.instance.Reduction.TheVariants.{DominatedColumn, DoubletonEquation, FreeColumn, SlackColumn, ParallelColumns, ParallelRows, TightenedBound, TightenedCoefficient}
 
 gone : (lines : List Line) (k : ℕ) → length lines ≤ k → (line_at lines k).live ≡ false
 gone lines k l = ap (λ (line : Line). line.live) (get_or_past lines k no_line l)
@@ -108,6 +108,8 @@ past opens p rule.DominatedColumn k l = none_pass (enabled_on p) (λ x. at.Reduc
 past opens p rule.DoubletonEquation k l = none_pass (enabled_on p) (λ x. at.Reduction (DoubletonEquation k x.0 x.1)) (both_orders (row_entries p k)) (λ x. rw (gone p.matrix.rows k l) refl)
 past opens p rule.FreeColumn k l = none_pass (enabled_on p) (λ i. at.Reduction (FreeColumn k i)) (sole_row (column_entries p k)) (λ i. free_gone p k i (gone p.matrix.columns k l))
 past opens p rule.SlackColumn k l = none_pass (enabled_on p) (λ i. at.Reduction (SlackColumn k i)) (sole_row (column_entries p k)) (λ i. slack_gone p k i (gone p.matrix.columns k l))
+past opens p rule.ParallelRows k l = none_pass (enabled_on p) (λ m. at.Reduction (ParallelRows k m)) (range_with_len 0 (length p.matrix.rows)) (λ m. rw (gone p.matrix.rows k l) refl)
+past opens p rule.ParallelColumns k l = none_pass (enabled_on p) (λ m. at.Reduction (ParallelColumns k m)) (range_with_len 0 (length p.matrix.columns)) (λ m. rw (gone p.matrix.columns k l) refl)
 past opens p rule.EmptyColumn k l = rw (gone p.matrix.columns k l) refl
 
 pub found_past : (opens : Open) (p : Sparse) (version : ℕ) (rule : Rule) (k : ℕ) → id_count p rule ≤ k → found_at opens p version rule (k ∷ []) ≡ []

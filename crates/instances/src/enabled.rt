@@ -11,6 +11,8 @@ use aggregation_rules::doubleton_equation;
 use coef_rules::tightened_coefficient;
 use column_rules::{free_column, slack_column};
 use dual_rules::{dominated_column, fixed_by_cost, ray};
+use parallel_columns::parallel_column;
+use parallel_rows::parallel_row;
 use presolve_model::{Instance, Reduction, Verdict};
 use problem_model::Refusal;
 use rule_words::Change;
@@ -49,6 +51,10 @@ fn is_reduction_enabled(problem: &Problem, reduction: Reduction) -> bool
         }
         Reduction::FreeColumn { column, row } => free_column::is_enabled(problem, column, row),
         Reduction::SlackColumn { column, row } => slack_column::is_enabled(problem, column, row),
+        Reduction::ParallelRows { row, other } => parallel_row::is_enabled(problem, row, other),
+        Reduction::ParallelColumns { column, other } => {
+            parallel_column::is_enabled(problem, column, other)
+        }
         Reduction::EmptyColumn { column } => empty_column::is_enabled(problem, column),
     }
 }
@@ -108,6 +114,12 @@ pub fn change(alloc: Global, problem: &Problem, reduction: Reduction) -> Result<
         }
         Reduction::FreeColumn { column, row } => free_column::change(alloc, problem, column, row),
         Reduction::SlackColumn { column, row } => slack_column::change(alloc, problem, column, row),
+        Reduction::ParallelRows { row, other } => {
+            parallel_row::change(alloc, problem, row, other)
+        }
+        Reduction::ParallelColumns { column, other } => {
+            parallel_column::change(alloc, problem, column, other)
+        }
         Reduction::EmptyColumn { column } => empty_column::change(alloc, problem, column),
     }
 }

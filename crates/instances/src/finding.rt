@@ -1,6 +1,6 @@
 //! The enabled instances of a rule with a first id: a line a rule.
 
-ghost use Rattle.std.specs.Prelude.{◌≡◌, ◌∷◌, ◌++◌, [], map, IfNone, IfOk, IfSome, OnOk};
+ghost use Rattle.std.specs.Prelude.{◌≡◌, ◌∷◌, ◌++◌, [], map, IfNone, IfOk, IfSome, OnOk, true};
 ghost use Rattle.std.specs.List.{filter};
 ghost use Rattle.problem_model.specs.Problems.{column_entries, row_entries};
 ghost use Rattle.dual_laws.specs.DominatedColumn.{pairs_of};
@@ -8,13 +8,16 @@ ghost use Rattle.presolve_model.specs.declared.instance.Instance.TheVariants as 
 ghost use Rattle.presolve_model.specs.declared.instance.Reduction.TheVariants as reduction;
 ghost use Rattle.presolve_model.specs.declared.instance.Rule.TheVariants as rule;
 ghost use Rattle.presolve_model.specs.Enabled.{enabled_on};
-ghost use Rattle.presolve_model.specs.Instances.{both_orders, instances_from, sole_row as sole_row_of};
+ghost use Rattle.instances.specs.Beside.{ids_beside};
+ghost use Rattle.presolve_model.specs.Instances.{beside_at, both_orders, goes_by_groups, instances_from, sole_row as sole_row_of};
+ghost use Rattle.line_groups.specs.Groups.{AreGroupsOf};
 ghost use Rattle.presolve_model.specs.Tallies.{open_on};
 
 use crate::enabled::is_enabled;
 use crate::tally::Tally;
 use activity_rules::tightened_bound::add_tightened;
 use dual_rules::dominated_column::pairs_at;
+use line_groups::Parallels;
 use lp_model::Term;
 use presolve_model::{Instance, Reduction, Rule, Verdict};
 use sparse_problem::Problem;
@@ -234,15 +237,56 @@ fn add_slack(
     }
 }
 
-/// Adds the enabled instances of a rule with a first id that are open, in their order.
+/// The instance of a rule of lines that are multiples of one another, at two lines.
+pub fn instance_beside(rule: Rule, id: u32, other: u32) -> Instance
+    ensures { result ≡ beside_at rule id other }
+{
+    match rule {
+        Rule::ParallelRows => Instance::Reduction(Reduction::ParallelRows { row: id, other }),
+        _ => Instance::Reduction(Reduction::ParallelColumns { column: id, other }),
+    }
+}
+
+/// The lines of the group of a line, by the rule: rows, or columns.
+pub fn lines_beside<'a>(groups: &'a Parallels, rule: Rule, id: u32) -> &'a [u32]
+    ensures { result.now ≡ ids_beside groups.now rule id }
+{
+    match rule {
+        Rule::ParallelRows => groups.beside_row(id),
+        _ => groups.beside_column(id),
+    }
+}
+
+/// Adds the enabled instances of such a rule at a line and others.
+fn add_beside(
+    problem: &Problem,
+    rule: Rule,
+    id: u32,
+    others: &[u32],
+    found: &mut Vec<Instance>,
+) -> Result<(), AllocError>
+    ensures { OnOk result (found.new.items ≡ found.old.items ++ filter (enabled_on problem.now) (map (beside_at rule id) others.now)) }
+{
+    let mut rest = others;
+    while let [other, after @ ..] = rest {
+        add_one(problem, instance_beside(rule, id, *other), found)?;
+        rest = after;
+    }
+    Ok(())
+}
+
+/// Adds the enabled instances of a rule with a first id that are open, in their order. Of a rule of lines that are multiples of one another they
+/// are found by groups, which are those of the problem.
 pub fn add_enabled(
     alloc: Global,
     problem: &Problem,
+    groups: &Parallels,
     tally: &Tally,
     rule: Rule,
     id: u32,
     found: &mut Vec<Instance>,
 ) -> Result<(), AllocError>
+    requires { goes_by_groups rule ≡ true → AreGroupsOf groups.now problem.now }
     ensures { OnOk result (found.new.items ≡ found.old.items ++ filter (enabled_on problem.now) (instances_from (open_on tally.now) problem.now rule id)) }
 {
     let instance = match rule {
@@ -264,6 +308,10 @@ pub fn add_enabled(
         Rule::DoubletonEquation => return add_substituted(alloc, problem, id, found),
         Rule::FreeColumn => return add_free(alloc, problem, id, found),
         Rule::SlackColumn => return add_slack(alloc, problem, id, found),
+        Rule::ParallelRows | Rule::ParallelColumns => {
+            problem.is_sparse();
+            return add_beside(problem, rule, id, lines_beside(groups, rule, id), found);
+        }
         Rule::EmptyColumn => Instance::Reduction(Reduction::EmptyColumn { column: id }),
     };
     add_one(problem, instance, found)

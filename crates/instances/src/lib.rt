@@ -21,10 +21,10 @@ mod tests;
 pub use applying::after;
 pub use chunk::Chunk;
 pub use enabled::{change, is_enabled};
-pub use finding::add_enabled;
+pub use finding::{add_enabled, instance_beside, lines_beside};
 pub use listing::{
-    is_of_rows, reach_of, reduction_rules, rests_on_reading, rule_of, says_no_point,
-    shares_reading, verdict_rules,
+    goes_by_groups, is_of_rows, reach_of, reduction_rules, rests_on_reading, rule_of,
+    says_no_point, shares_reading, verdict_rules,
 };
 pub use parts::{head, parts_read};
 pub use proposal::Proposal;

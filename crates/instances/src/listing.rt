@@ -3,7 +3,7 @@
 
 ghost use Rattle.std.specs.Prelude.{◌≡◌};
 ghost use Rattle.presolve_model.specs.declared.instance.Instance.TheVariants as at;
-ghost use Rattle.presolve_model.specs.Instances.{is_of_rows as of_rows, reach_of as reach, rests_on_reading as rests, rule_at, rule_of, shares_reading as shares};
+ghost use Rattle.presolve_model.specs.Instances.{goes_by_groups as by_groups, is_of_rows as of_rows, reach_of as reach, rests_on_reading as rests, rule_at, rule_of, shares_reading as shares};
 ghost use Rattle.presolve_model.specs.Meanings.{says_no_point as no_point};
 ghost use Rattle.presolve_model.specs.Order.{reduction_order, verdict_order};
 
@@ -22,7 +22,7 @@ pub fn verdict_rules() -> [Rule; 4]
 }
 
 /// The rules of reductions in order.
-pub fn reduction_rules() -> [Rule; 15]
+pub fn reduction_rules() -> [Rule; 17]
     ensures { result ≡ reduction_order }
 {
     [
@@ -40,6 +40,8 @@ pub fn reduction_rules() -> [Rule; 15]
         Rule::DoubletonEquation,
         Rule::FreeColumn,
         Rule::SlackColumn,
+        Rule::ParallelRows,
+        Rule::ParallelColumns,
         Rule::EmptyColumn,
     ]
 }
@@ -63,6 +65,8 @@ pub fn reach_of(rule: Rule) -> Reach
         Rule::Ray | Rule::FixedByCost => Reach::ColumnsOfSides,
         Rule::DominatedColumn => Reach::RowsOfBoth,
         Rule::FreeColumn | Rule::SlackColumn => Reach::SoleColumns,
+        Rule::ParallelRows => Reach::RowsBeside,
+        Rule::ParallelColumns => Reach::ColumnsBeside,
     }
 }
 
@@ -71,8 +75,10 @@ pub fn is_of_rows(rule: Rule) -> bool
     ensures { result ≡ of_rows rule }
 {
     match reach_of(rule) {
-        Reach::OwnRow | Reach::RowsOfBounds | Reach::RowsOfBoth => true,
-        Reach::OwnColumn | Reach::ColumnsOfSides | Reach::SoleColumns => false,
+        Reach::OwnRow | Reach::RowsOfBounds | Reach::RowsOfBoth | Reach::RowsBeside => true,
+        Reach::OwnColumn | Reach::ColumnsOfSides | Reach::SoleColumns | Reach::ColumnsBeside => {
+            false
+        }
     }
 }
 
@@ -94,6 +100,8 @@ fn rule_of_reduction(reduction: Reduction) -> Rule
         Reduction::DoubletonEquation { .. } => Rule::DoubletonEquation,
         Reduction::FreeColumn { .. } => Rule::FreeColumn,
         Reduction::SlackColumn { .. } => Rule::SlackColumn,
+        Reduction::ParallelRows { .. } => Rule::ParallelRows,
+        Reduction::ParallelColumns { .. } => Rule::ParallelColumns,
         Reduction::EmptyColumn { .. } => Rule::EmptyColumn,
     }
 }
@@ -137,6 +145,8 @@ fn reduction_rests(reduction: Reduction) -> bool
         | Reduction::DoubletonEquation { .. }
         | Reduction::FreeColumn { .. }
         | Reduction::SlackColumn { .. }
+        | Reduction::ParallelRows { .. }
+        | Reduction::ParallelColumns { .. }
         | Reduction::EmptyColumn { .. } => false,
     }
 }
@@ -179,6 +189,36 @@ pub fn shares_reading(rule: Rule) -> bool
         | Rule::RedundantRow
         | Rule::RedundantSide
         | Rule::ForcingRow
+        | Rule::FixedByCost
+        | Rule::DominatedColumn
+        | Rule::DoubletonEquation
+        | Rule::FreeColumn
+        | Rule::SlackColumn
+        | Rule::ParallelRows
+        | Rule::ParallelColumns
+        | Rule::EmptyColumn => false,
+    }
+}
+
+/// Whether the instances of a rule are lines that are multiples of one another.
+pub fn goes_by_groups(rule: Rule) -> bool
+    ensures { result ≡ by_groups rule }
+{
+    match rule {
+        Rule::ParallelRows | Rule::ParallelColumns => true,
+        Rule::CrossedBounds
+        | Rule::CrossedSides
+        | Rule::OutOfReach
+        | Rule::Ray
+        | Rule::EmptyRow
+        | Rule::SingletonRow
+        | Rule::FixedColumn
+        | Rule::RoundBounds
+        | Rule::RedundantRow
+        | Rule::RedundantSide
+        | Rule::ForcingRow
+        | Rule::TightenedBound
+        | Rule::TightenedCoefficient
         | Rule::FixedByCost
         | Rule::DominatedColumn
         | Rule::DoubletonEquation

@@ -1,7 +1,8 @@
-//! Scans for enabled instances.
+//! Scans for enabled instances. Lines that are multiples of one another are found by the groups of the problem.
 
 ghost use Rattle.std.specs.Prelude.{◌≡◌, ◌+◌, ◌<◌, ◌^◌, ◌++◌, ◌∷◌, [], true, map, IfOk, length, OnOk};
 ghost use Rattle.std.specs.List.{filter, range_with_len};
+ghost use Rattle.line_groups.specs.Groups.{AreGroupsOf};
 ghost use Rattle.presolve_model.specs.Enabled.{enabled_on};
 ghost use Rattle.presolve_model.specs.Instances.{id_count};
 ghost use Rattle.presolve_model.specs.Scans.{found_at, found_in, proposal_of};
@@ -14,6 +15,7 @@ use crate::listing::is_of_rows;
 use crate::proposal::Proposal;
 use crate::reads::reading_for;
 use crate::tally::Tally;
+use line_groups::Parallels;
 use presolve_model::{Instance, Rule};
 use sparse_problem::Problem;
 use std::alloc::{AllocError, Global};
@@ -70,16 +72,18 @@ fn visit_each(
 fn visit_from(
     alloc: Global,
     problem: &Problem,
+    groups: &Parallels,
     tally: &Tally,
     version: u64,
     rule: Rule,
     id: u32,
     found: &mut Vec<Proposal>,
 ) -> Result<(), AllocError>
+    requires { AreGroupsOf groups.now problem.now }
     ensures { OnOk result (found.new.items ≡ found.old.items ++ found_at (open_on tally.now) problem.now version rule (id ∷ [])) }
 {
     let mut instances = Vec::new(alloc);
-    add_enabled(alloc, problem, tally, rule, id, &mut instances)?;
+    add_enabled(alloc, problem, groups, tally, rule, id, &mut instances)?;
     visit_each(alloc, problem, version, instances.as_slice(), found)
 }
 
@@ -87,17 +91,21 @@ fn visit_from(
 pub fn scan_at(
     alloc: Global,
     problem: &Problem,
+    groups: &Parallels,
     tally: &Tally,
     version: u64,
     rule: Rule,
     ids: &[u32],
 ) -> Result<Vec<Proposal>, AllocError>
+    requires { AreGroupsOf groups.now problem.now }
     ensures { IfOk result (λ found. found.items ≡ found_at (open_on tally.now) problem.now version rule ids.now) }
 {
     let mut found = Vec::new(alloc);
     let mut rest = ids;
     while let [id, after @ ..] = rest {
-        visit_from(alloc, problem, tally, version, rule, *id, &mut found)?;
+        visit_from(
+            alloc, problem, groups, tally, version, rule, *id, &mut found,
+        )?;
         rest = after;
     }
     Ok(found)
@@ -119,31 +127,37 @@ fn ids_of(problem: &Problem, rule: Rule) -> u64
 fn visit_at(
     alloc: Global,
     problem: &Problem,
+    groups: &Parallels,
     tally: &Tally,
     version: u64,
     rule: Rule,
     id: u64,
     found: &mut Vec<Proposal>,
 ) -> Result<(), AllocError>
+    requires { AreGroupsOf groups.now problem.now }
     ensures { OnOk result (found.new.items ≡ found.old.items ++ found_at (open_on tally.now) problem.now version rule (id ∷ [])) }
 {
     if id >= ids_of(problem, rule) {
         return Ok(());
     }
-    visit_from(alloc, problem, tally, version, rule, id as u32, found)
+    visit_from(
+        alloc, problem, groups, tally, version, rule, id as u32, found,
+    )
 }
 
 /// The enabled instances of a rule that are open, at so many ids in a row, in their order, each with its reading.
 fn scan_row(
     alloc: Global,
     problem: &Problem,
+    groups: &Parallels,
     tally: &Tally,
     version: u64,
     rule: Rule,
     first: u64,
     count: u64,
 ) -> Result<Vec<Proposal>, AllocError>
-    requires { first + count < 2 ^ 64 }
+    requires groups { AreGroupsOf groups.now problem.now }
+    requires few { first + count < 2 ^ 64 }
     ensures { IfOk result (λ found. found.items ≡ found_at (open_on tally.now) problem.now version rule (range_with_len first count)) }
 {
     let mut found = Vec::new(alloc);
@@ -151,6 +165,7 @@ fn scan_row(
         visit_at(
             alloc,
             problem,
+            groups,
             tally,
             version,
             rule,
@@ -165,13 +180,15 @@ fn scan_row(
 pub fn scan(
     alloc: Global,
     problem: &Problem,
+    groups: &Parallels,
     tally: &Tally,
     version: u64,
     rule: Rule,
     chunk: Chunk,
 ) -> Result<Vec<Proposal>, AllocError>
+    requires { AreGroupsOf groups.now problem.now }
     ensures { IfOk result (λ found. found.items ≡ found_in (open_on tally.now) problem.now version rule chunk) }
 {
     let start = chunk.first();
-    scan_row(alloc, problem, tally, version, rule, start, 1024)
+    scan_row(alloc, problem, groups, tally, version, rule, start, 1024)
 }

@@ -113,6 +113,8 @@ impl Tally {
             | Reduction::DoubletonEquation { .. }
             | Reduction::FreeColumn { .. }
             | Reduction::SlackColumn { .. }
+            | Reduction::ParallelRows { .. }
+            | Reduction::ParallelColumns { .. }
             | Reduction::EmptyColumn { .. } => (),
         }
     }

@@ -4,10 +4,11 @@ ghost use Rattle.std.specs.Prelude.{◌≢◌, ◌↔◌, All, IfOk, IsTrue};
 ghost use Rattle.rational.specs.Number.{zero_ℚ};
 ghost use Rattle.lp_model.specs.Sparse.{Ascends};
 
-use crate::{Chunk, Differs, Reading, Tally, is_enabled, reading_for, scan, scan_at};
+use crate::{Chunk, Differs, Proposal, Reading, Tally, is_enabled, reading_for, scan, scan_at};
 use fractions::ext::Ext;
 use fractions::frac::Frac;
 use fractions::whole::Whole;
+use line_groups::Parallels;
 use lp_model::{ColumnDef, Name, Program, RowDef, Sense, Term, Terms, is_name, names_differ};
 use presolve_model::{Instance, Part, Reduction, Rule, Verdict};
 use problem_commits::read;
@@ -47,7 +48,7 @@ const BOUNDED: [Column; 4] = [
 ];
 
 /// Where each rule is enabled.
-const FOUND: [(Rule, &[u32]); 19] = [
+const FOUND: [(Rule, &[u32]); 21] = [
     (Rule::CrossedBounds, &[3]),
     (Rule::CrossedSides, &[2]),
     (Rule::OutOfReach, &[]),
@@ -66,6 +67,8 @@ const FOUND: [(Rule, &[u32]); 19] = [
     (Rule::DoubletonEquation, &[]),
     (Rule::FreeColumn, &[]),
     (Rule::SlackColumn, &[]),
+    (Rule::ParallelRows, &[]),
+    (Rule::ParallelColumns, &[]),
     (Rule::EmptyColumn, &[2]),
 ];
 
@@ -173,6 +176,7 @@ fn id_of(instance: Instance) -> u32 {
         | Instance::Reduction(Reduction::TightenedCoefficient { row, .. })
         | Instance::Reduction(Reduction::DominatedColumn { row, .. })
         | Instance::Reduction(Reduction::DoubletonEquation { row, .. })
+        | Instance::Reduction(Reduction::ParallelRows { row, .. })
         | Instance::Verdict(Verdict::CrossedSides { row })
         | Instance::Verdict(Verdict::OutOfReach { row }) => row,
         Instance::Reduction(Reduction::FixedColumn { column })
@@ -180,10 +184,35 @@ fn id_of(instance: Instance) -> u32 {
         | Instance::Reduction(Reduction::FixedByCost { column })
         | Instance::Reduction(Reduction::FreeColumn { column, .. })
         | Instance::Reduction(Reduction::SlackColumn { column, .. })
+        | Instance::Reduction(Reduction::ParallelColumns { column, .. })
         | Instance::Reduction(Reduction::EmptyColumn { column })
         | Instance::Verdict(Verdict::Ray { column })
         | Instance::Verdict(Verdict::CrossedBounds { column }) => column,
     }
+}
+
+/// The enabled instances of a rule in a chunk of ids, of the seventh version.
+fn found_in(
+    alloc: Global,
+    problem: &Problem,
+    tally: &Tally,
+    rule: Rule,
+    chunk: Chunk,
+) -> Result<Vec<Proposal>, AllocError> {
+    let groups = Parallels::of(alloc, problem)?;
+    scan(alloc, problem, &groups, tally, 7, rule, chunk)
+}
+
+/// The same at some ids.
+fn found_at(
+    alloc: Global,
+    problem: &Problem,
+    tally: &Tally,
+    rule: Rule,
+    ids: &[u32],
+) -> Result<Vec<Proposal>, AllocError> {
+    let groups = Parallels::of(alloc, problem)?;
+    scan_at(alloc, problem, &groups, tally, 7, rule, ids)
 }
 
 #[test]
@@ -192,7 +221,7 @@ fn scans_and_readings(rt: HostRuntime) -> Result<(), Fail> {
     let mut problem = small(&rt, alloc, COLUMNS)?;
     let tally = Tally::new(alloc, 4)?;
     for (rule, ids) in FOUND {
-        let found = scan(alloc, &problem, &tally, 7, rule, Chunk::new(0))?;
+        let found = found_in(alloc, &problem, &tally, rule, Chunk::new(0))?;
         assert_eq!(rt; found.len(), ids.len());
         for (proposal, id) in found.iter().zip(ids) {
             let instance = proposal.instance();
@@ -202,19 +231,12 @@ fn scans_and_readings(rt: HostRuntime) -> Result<(), Fail> {
             let again = reading_for(alloc, &problem, instance)?;
             assert_eq!(rt; again.agrees(&problem), Ok(()));
         }
-        let same = scan_at(alloc, &problem, &tally, 7, rule, &[0, 1, 2, 3])?;
+        let same = found_at(alloc, &problem, &tally, rule, &[0, 1, 2, 3])?;
         assert_eq!(rt; same.len(), ids.len());
-        let past = scan(alloc, &problem, &tally, 7, rule, Chunk::new(u32::MAX))?;
+        let past = found_in(alloc, &problem, &tally, rule, Chunk::new(u32::MAX))?;
         assert_eq!(rt; past.len(), 0);
     }
-    let found = scan(
-        alloc,
-        &problem,
-        &tally,
-        7,
-        Rule::SingletonRow,
-        Chunk::new(0),
-    )?;
+    let found = found_in(alloc, &problem, &tally, Rule::SingletonRow, Chunk::new(0))?;
     assert!(rt; problem.is_row_live(0));
     problem.set_sides(0, Ext::none(), Ext::at(Frac::one()));
     for proposal in &found {
@@ -243,14 +265,7 @@ fn tightened(
         }
     }
     let mut bounds = Vec::new(alloc);
-    for proposal in scan(
-        alloc,
-        problem,
-        &tally,
-        7,
-        Rule::TightenedBound,
-        Chunk::new(0),
-    )? {
+    for proposal in found_in(alloc, problem, &tally, Rule::TightenedBound, Chunk::new(0))? {
         if let Instance::Reduction(
             Reduction::TightenedBound { column, side, .. },
         ) = proposal.instance()

@@ -1,12 +1,14 @@
 -- Where instances are: near each part that they read. One line a rule.
-use Rattle.std.proofs.Common.{◌≡◌, ◌⊎◌, inl, inr, ℕ, zero, suc, ◌<◌, true, List, [], ◌∷◌, map, refl, sym, ap, ◌∙◌, subst, arith}
-use Rattle.std.specs.List.{Contains, filter}
+use Rattle.std.proofs.Common.{◌≡◌, ◌⊎◌, inl, inr, ℕ, zero, suc, ◌<◌, true, List, [], ◌∷◌, length, map, refl, sym, ap, ◌∙◌, subst, arith}
+use Rattle.std.specs.List.{Contains, filter, range_with_len}
 use Rattle.problem_model.specs.declared.part.Part.{Part}
 use Rattle.problem_model.specs.declared.part.Part.TheVariants as part
 use Rattle.problem_model.specs.Sparse.{Sparse}
+use Rattle.edit_laws.specs.Sizes.{SameSize}
+use Rattle.presolve_model.specs.declared.instance.Reach.TheVariants.{RowsBeside, ColumnsBeside}
 use Rattle.presolve_model.specs.declared.instance.Instance.{Instance}
 use Rattle.presolve_model.specs.declared.instance.Instance.TheVariants as at
-use Rattle.presolve_model.specs.declared.instance.Reduction.TheVariants.{EmptyRow, SingletonRow, FixedColumn, RoundBounds, RedundantRow, RedundantSide, ForcingRow, TightenedBound, TightenedCoefficient, FixedByCost, DominatedColumn, DoubletonEquation, FreeColumn, SlackColumn, EmptyColumn}
+use Rattle.presolve_model.specs.declared.instance.Reduction.TheVariants.{EmptyRow, SingletonRow, FixedColumn, RoundBounds, RedundantRow, RedundantSide, ForcingRow, TightenedBound, TightenedCoefficient, FixedByCost, DominatedColumn, DoubletonEquation, FreeColumn, SlackColumn, ParallelRows, ParallelColumns, EmptyColumn}
 use Rattle.presolve_model.specs.declared.instance.Verdict.{Verdict}
 use Rattle.presolve_model.specs.declared.instance.Verdict.TheVariants.{CrossedBounds, CrossedSides, OutOfReach, Ray}
 use Rattle.presolve_model.specs.declared.instance.Rule.{Rule}
@@ -68,6 +70,9 @@ reads_near p s (at.Reduction (DominatedColumn i j k)) on a c = by_pair p s i j k
 reads_near p s (at.Reduction (DoubletonEquation i j k)) on a c = by_equation p s i j k (doubleton_equation.said p i j k on) a c
 reads_near p s (at.Reduction (FreeColumn j i)) on a c = let d = free_column.said p j i on in by_free p s j i d.row_live d.column.live d.column.sole_there a c
 reads_near p s (at.Reduction (SlackColumn j i)) on a c = let d = slack_column.said p j i on in by_slack p s j i d.row_live d.column_live d.sole_there a c
+reads_near p s (at.Reduction (ParallelRows i k)) on a c = two_in (λ (b : Part). Leads p RowsBeside b i) (part.Row i) (part.Row k) a (inl (alone i)) (inr (k, alone k, on)) c
+reads_near p s (at.Reduction (ParallelColumns j k)) on a c = four_in (λ (b : Part). Leads p ColumnsBeside b j) (part.Col j) (part.Col k) (part.Bounds j) (part.Bounds k) a
+    (inl (alone j)) (inr (k, alone k, on)) (inl (alone j)) (inr (k, alone k, on)) c
 reads_near p s (at.Reduction (EmptyColumn j)) on a c = two_in (λ (b : Part). Contains (columns_with b) j) (part.Col j) (part.Bounds j) a (alone j) (alone j) c
 
 -- ---- an instance among those of a rule with a first id has them, and is open
@@ -90,6 +95,8 @@ from_is opens p rule.DominatedColumn i e c = each_mapped (λ (x : Instance). (ru
 from_is opens p rule.DoubletonEquation i e c = each_mapped (λ (x : Instance). (rule_at x ≡ rule.DoubletonEquation) × (id_at x ≡ i) × (is_open opens x ≡ true)) (λ x. at.Reduction (DoubletonEquation i x.0 x.1)) (both_orders (row_entries p i)) e (λ x d. (refl, refl, refl)) c
 from_is opens p rule.FreeColumn j e c = each_mapped (λ (x : Instance). (rule_at x ≡ rule.FreeColumn) × (id_at x ≡ j) × (is_open opens x ≡ true)) (λ i. at.Reduction (FreeColumn j i)) (sole_row (column_entries p j)) e (λ i d. (refl, refl, refl)) c
 from_is opens p rule.SlackColumn j e c = each_mapped (λ (x : Instance). (rule_at x ≡ rule.SlackColumn) × (id_at x ≡ j) × (is_open opens x ≡ true)) (λ i. at.Reduction (SlackColumn j i)) (sole_row (column_entries p j)) e (λ i d. (refl, refl, refl)) c
+from_is opens p rule.ParallelRows i e c = each_mapped (λ (x : Instance). (rule_at x ≡ rule.ParallelRows) × (id_at x ≡ i) × (is_open opens x ≡ true)) (λ k. at.Reduction (ParallelRows i k)) (range_with_len 0 (length p.matrix.rows)) e (λ k d. (refl, refl, refl)) c
+from_is opens p rule.ParallelColumns j e c = each_mapped (λ (x : Instance). (rule_at x ≡ rule.ParallelColumns) × (id_at x ≡ j) × (is_open opens x ≡ true)) (λ k. at.Reduction (ParallelColumns j k)) (range_with_len 0 (length p.matrix.columns)) e (λ k d. (refl, refl, refl)) c
 from_is opens p rule.EmptyColumn j e c = one_in (λ (x : Instance). (rule_at x ≡ rule.EmptyColumn) × (id_at x ≡ j) × (is_open opens x ≡ true)) (at.Reduction (EmptyColumn j)) e (refl, refl, refl) c
 
 -- ---- the instances of a rule with a first id are those of a problem before, or none of both lists is enabled and reads what it read there
@@ -122,33 +129,35 @@ bounds_fresh f p i live y c fresh = fresh_at f p (parts_on (heads i) bounds_name
     there : Contains (read_words.bounds_of (terms_in (contents_of f (part.Row i)))) (part.Bounds y.0)
     there = subst (λ (ts : List Term). Contains (read_words.bounds_of ts) (part.Bounds y.0)) (sym entries) (side_there (row_entries p i) y c)
 
-pub from_stand : (opens now : Open) (f p : Sparse) → Moves f p opens now → ((a : Part) → IsLaterAt f p a) → (r : Rule) (k : ℕ) → IsAlikeFrom f p (instances_from opens f r k) (instances_from now p r k)
-from_stand opens now f p moves later rule.CrossedBounds j = inl refl
-from_stand opens now f p moves later rule.CrossedSides i = inl refl
-from_stand opens now f p moves later rule.OutOfReach i = inl refl
-from_stand opens now f p moves later rule.Ray j = inl refl
-from_stand opens now f p moves later rule.EmptyRow i = inl refl
-from_stand opens now f p moves later rule.SingletonRow i = inl refl
-from_stand opens now f p moves later rule.FixedColumn j = inl refl
-from_stand opens now f p moves later rule.RoundBounds j = inl refl
-from_stand opens now f p moves later rule.RedundantRow i = inl refl
-from_stand opens now f p moves later rule.RedundantSide i = inl refl
-from_stand opens now f p moves later rule.ForcingRow i = inl refl
-from_stand opens now f p moves later rule.TightenedBound i = alike_by_bounds f p opens now moves i (λ x. at.Reduction (TightenedBound i x.0 x.1)) (later (part.Row i))
+pub from_stand : (opens now : Open) (f p : Sparse) → Moves f p opens now → SameSize f p → ((a : Part) → IsLaterAt f p a) → (r : Rule) (k : ℕ) → IsAlikeFrom f p (instances_from opens f r k) (instances_from now p r k)
+from_stand opens now f p moves size later rule.CrossedBounds j = inl refl
+from_stand opens now f p moves size later rule.CrossedSides i = inl refl
+from_stand opens now f p moves size later rule.OutOfReach i = inl refl
+from_stand opens now f p moves size later rule.Ray j = inl refl
+from_stand opens now f p moves size later rule.EmptyRow i = inl refl
+from_stand opens now f p moves size later rule.SingletonRow i = inl refl
+from_stand opens now f p moves size later rule.FixedColumn j = inl refl
+from_stand opens now f p moves size later rule.RoundBounds j = inl refl
+from_stand opens now f p moves size later rule.RedundantRow i = inl refl
+from_stand opens now f p moves size later rule.RedundantSide i = inl refl
+from_stand opens now f p moves size later rule.ForcingRow i = inl refl
+from_stand opens now f p moves size later rule.TightenedBound i = alike_by_bounds f p opens now moves i (λ x. at.Reduction (TightenedBound i x.0 x.1)) (later (part.Row i))
     (λ x. record { reads = λ h. let g = h in cc; live = λ on. (said (is_tightened_bound x.0 x.1) p i on).live })
     (λ x y c on fresh. bounds_fresh f p i (said (is_tightened_bound x.0 x.1) p i on).live y c fresh)
-from_stand opens now f p moves later rule.TightenedCoefficient i = alike_by_row f p i (λ ts. map (λ j. at.Reduction (TightenedCoefficient i j)) (map (λ (t : Term). t.id) ts)) (later (part.Row i))
+from_stand opens now f p moves size later rule.TightenedCoefficient i = alike_by_row f p i (λ ts. map (λ j. at.Reduction (TightenedCoefficient i j)) (map (λ (t : Term). t.id) ts)) (later (part.Row i))
     (λ ts e c. each_mapped (λ (x : Instance). ReadsRow f p i x) (λ j. at.Reduction (TightenedCoefficient i j)) (map (λ (t : Term). t.id) ts) e (λ j d. record { reads = λ h. let g = h in cc; live = λ on. (said (is_tightened j) p i on).live }) c)
-from_stand opens now f p moves later rule.FixedByCost j = inl refl
-from_stand opens now f p moves later rule.DominatedColumn i = alike_by_row f p i (λ ts. map (λ x. at.Reduction (DominatedColumn i x.0 x.1)) (pairs_of ts)) (later (part.Row i))
+from_stand opens now f p moves size later rule.FixedByCost j = inl refl
+from_stand opens now f p moves size later rule.DominatedColumn i = alike_by_row f p i (λ ts. map (λ x. at.Reduction (DominatedColumn i x.0 x.1)) (pairs_of ts)) (later (part.Row i))
     (λ ts e c. each_mapped (λ (x : Instance). ReadsRow f p i x) (λ x. at.Reduction (DominatedColumn i x.0 x.1)) (pairs_of ts) e (λ x d. record { reads = λ h. let g = h in cc; live = λ on. (dominated_column.said p i x.0 x.1 on).row_live }) c)
-from_stand opens now f p moves later rule.DoubletonEquation i = alike_by_row f p i (λ ts. map (λ x. at.Reduction (DoubletonEquation i x.0 x.1)) (both_orders ts)) (later (part.Row i))
+from_stand opens now f p moves size later rule.DoubletonEquation i = alike_by_row f p i (λ ts. map (λ x. at.Reduction (DoubletonEquation i x.0 x.1)) (both_orders ts)) (later (part.Row i))
     (λ ts e c. each_mapped (λ (x : Instance). ReadsRow f p i x) (λ x. at.Reduction (DoubletonEquation i x.0 x.1)) (both_orders ts) e (λ x d. record { reads = λ h. let g = h in cc; live = λ on. (doubleton_equation.said p i x.0 x.1 on).row_on }) c)
-from_stand opens now f p moves later rule.FreeColumn j = alike_by_column f p j (λ ts. map (λ i. at.Reduction (FreeColumn j i)) (sole_row ts)) (later (part.Col j))
+from_stand opens now f p moves size later rule.FreeColumn j = alike_by_column f p j (λ ts. map (λ i. at.Reduction (FreeColumn j i)) (sole_row ts)) (later (part.Col j))
     (λ ts e c. each_mapped (λ (x : Instance). ReadsColumn f p j x) (λ i. at.Reduction (FreeColumn j i)) (sole_row ts) e (λ i d. record { reads = λ h. let g = h in cc; live = λ on. (free_column.said p j i on).column.live }) c)
-from_stand opens now f p moves later rule.SlackColumn j = alike_by_column f p j (λ ts. map (λ i. at.Reduction (SlackColumn j i)) (sole_row ts)) (later (part.Col j))
+from_stand opens now f p moves size later rule.SlackColumn j = alike_by_column f p j (λ ts. map (λ i. at.Reduction (SlackColumn j i)) (sole_row ts)) (later (part.Col j))
     (λ ts e c. each_mapped (λ (x : Instance). ReadsColumn f p j x) (λ i. at.Reduction (SlackColumn j i)) (sole_row ts) e (λ i d. record { reads = λ h. let g = h in cc; live = λ on. (slack_column.said p j i on).column_live }) c)
-from_stand opens now f p moves later rule.EmptyColumn j = inl refl
+from_stand opens now f p moves size later rule.ParallelRows i = inl (ap (λ (n : ℕ). map (λ k. at.Reduction (ParallelRows i k)) (range_with_len 0 n)) (sym size.rows))
+from_stand opens now f p moves size later rule.ParallelColumns j = inl (ap (λ (n : ℕ). map (λ k. at.Reduction (ParallelColumns j k)) (range_with_len 0 n)) (sym size.columns))
+from_stand opens now f p moves size later rule.EmptyColumn j = inl refl
 
 -- ---- the instances of the rules of verdicts are verdicts
 abbrev pub IsVerdict : Instance → Type 0

@@ -1,5 +1,5 @@
 -- Ids of rows and columns to be looked at, and the instances there.
-use Rattle.std.specs.Prelude.{◌≡◌, ◌⊎◌, ℕ, ◌+◌, ◌≤◌, true, ⊤, List, [], ◌∷◌, ◌++◌, length, map}
+use Rattle.std.specs.Prelude.{◌≡◌, ◌⊎◌, ℕ, true, List, [], ◌∷◌, ◌++◌, length, map}
 use Rattle.std.specs.List.{Contains, filter, flat_map, range_with_len}
 use Rattle.fractions.specs.declared.Numbers.{Numbers}
 use Rattle.lp_model.specs.Sparse.{has}
@@ -7,9 +7,12 @@ use Rattle.problem_model.specs.declared.part.Part.{Part}
 use Rattle.problem_model.specs.declared.part.Part.TheVariants as part
 use Rattle.problem_model.specs.Problems.{column_entries, row_entries}
 use Rattle.problem_model.specs.Sparse.{Sparse}
+use Rattle.parallel_column_laws.specs.ParallelColumns as parallel_columns
+use Rattle.parallel_row_laws.specs.ParallelRows as parallel_rows
+use Rattle.line_groups.specs.Ascending.{AscendsFrom}
 use Rattle.presolve_model.specs.declared.instance.Instance.{Instance}
 use Rattle.presolve_model.specs.declared.instance.Reach.{Reach}
-use Rattle.presolve_model.specs.declared.instance.Reach.TheVariants.{OwnRow, OwnColumn, RowsOfBounds, ColumnsOfSides, RowsOfBoth, SoleColumns}
+use Rattle.presolve_model.specs.declared.instance.Reach.TheVariants.{OwnRow, OwnColumn, RowsOfBounds, ColumnsOfSides, RowsOfBoth, SoleColumns, RowsBeside, ColumnsBeside}
 use Rattle.presolve_model.specs.declared.instance.Rule.{Rule}
 use Rattle.presolve_model.specs.Enabled.{enabled_on}
 use Rattle.presolve_model.specs.Given.{Proposed}
@@ -31,6 +34,8 @@ pub record Around : Type 0 where
   pub columns_of_sides : List ℕ
   pub rows_of_both : List ℕ
   pub sole_columns : List ℕ
+  pub rows_beside : List ℕ
+  pub columns_beside : List ℕ
 
 abbrev pub within : Around → Reach → List ℕ
 within n OwnRow = n.own.rows
@@ -39,6 +44,8 @@ within n RowsOfBounds = n.rows_of_bounds
 within n ColumnsOfSides = n.columns_of_sides
 within n RowsOfBoth = n.rows_of_both
 within n SoleColumns = n.sole_columns
+within n RowsBeside = n.rows_beside
+within n ColumnsBeside = n.columns_beside
 
 -- the first ids of a rule among them
 abbrev pub ids_of : Around → Rule → List ℕ
@@ -49,7 +56,15 @@ abbrev pub all_places : Sparse → Places
 all_places p = record { rows = range_with_len 0 (length p.matrix.rows); columns = range_with_len 0 (length p.matrix.columns) }
 
 abbrev pub all_around : Sparse → Around
-all_around p = record { own = all_places p; rows_of_bounds = (all_places p).rows; columns_of_sides = (all_places p).columns; rows_of_both = (all_places p).rows; sole_columns = (all_places p).columns }
+all_around p = record {
+  own = all_places p;
+  rows_of_bounds = (all_places p).rows;
+  columns_of_sides = (all_places p).columns;
+  rows_of_both = (all_places p).rows;
+  sole_columns = (all_places p).columns;
+  rows_beside = (all_places p).rows;
+  columns_beside = (all_places p).columns;
+}
 
 -- the row or the column of a part
 abbrev pub rows_with : Part → List ℕ
@@ -100,6 +115,8 @@ Leads p OwnColumn a k = Contains (columns_with a) k
 Leads p RowsOfBounds a k = LeadsToRow p a k
 Leads p ColumnsOfSides a k = Contains (columns_with a) k ⊎ StandsOn p (sides_with a) k
 Leads p RowsOfBoth a k = Contains (rows_with a) k ⊎ ((j : ℕ) × (Contains (columns_with a) j ⊎ StandsOn p (sides_with a) j) × (has k (column_entries p j) ≡ true))
+Leads p RowsBeside a k = Contains (rows_with a) k ⊎ ((i : ℕ) × Contains (rows_with a) i × (parallel_rows.enabled p k i ≡ true))
+Leads p ColumnsBeside a k = Contains (columns_with a) k ⊎ ((j : ℕ) × Contains (columns_with a) j × (parallel_columns.enabled p k j ≡ true))
 Leads p SoleColumns a k = (length (column_entries p k) ≡ 1) × (Contains (columns_with a) k ⊎ ((i : ℕ) × LeadsToRow p a i × (has k (row_entries p i) ≡ true)))
 
 -- what parts lead to is among these
@@ -109,11 +126,6 @@ HoldsLed p r parts ids = (a : Part) (k : ℕ) → Contains parts a → Leads p r
 -- what the parts that count lead to is there
 abbrev pub HoldsAround : Sparse → Marks → Around → Type 0
 HoldsAround p m n = (r : Reach) → HoldsLed p r (parts_for m r) (within n r)
-
--- they ascend from a
-abbrev pub AscendsFrom : ℕ → List ℕ → Type 0
-AscendsFrom a [] = ⊤
-AscendsFrom a (k ∷ ks) = (a ≤ k) × AscendsFrom (k + 1) ks
 
 pub record IsSorted (n : Places) : Type 0 where
   pub rows : AscendsFrom 0 n.rows
@@ -125,6 +137,8 @@ pub record AreSorted (n : Around) : Type 0 where
   pub columns_of_sides : AscendsFrom 0 n.columns_of_sides
   pub rows_of_both : AscendsFrom 0 n.rows_of_both
   pub sole_columns : AscendsFrom 0 n.sole_columns
+  pub rows_beside : AscendsFrom 0 n.rows_beside
+  pub columns_beside : AscendsFrom 0 n.columns_beside
 
 -- each enabled instance that is open has its first id there
 abbrev pub HasEach : Open → Sparse → Around → Type 0

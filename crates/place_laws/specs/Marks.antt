@@ -11,7 +11,7 @@ use Rattle.presolve_model.specs.declared.outcome.Outcome.TheVariants.{Closed, Fu
 use Rattle.dual_laws.specs.declared.form.Form.{Form}
 use Rattle.dual_laws.specs.Forms.{Lets, LetsByCost, LetsInPairs, seen_at}
 use Rattle.presolve_model.specs.declared.instance.Reach.{Reach}
-use Rattle.presolve_model.specs.declared.instance.Reach.TheVariants.{OwnRow, OwnColumn, RowsOfBounds, ColumnsOfSides, RowsOfBoth, SoleColumns}
+use Rattle.presolve_model.specs.declared.instance.Reach.TheVariants.{OwnRow, OwnColumn, RowsOfBounds, ColumnsOfSides, RowsOfBoth, SoleColumns, RowsBeside, ColumnsBeside}
 use Rattle.presolve_model.specs.Changes.{ChangeFits, ChangeIsWritten}
 use Rattle.presolve_model.specs.Enabled.{reading_of, reads}
 use Rattle.presolve_model.specs.Instances.{goes_by_form, reach_of, rule_at}
@@ -32,6 +32,8 @@ parts_for n RowsOfBounds = n.noted
 parts_for n ColumnsOfSides = n.stirred
 parts_for n RowsOfBoth = n.roused
 parts_for n SoleColumns = n.noted
+parts_for n RowsBeside = n.noted
+parts_for n ColumnsBeside = n.noted
 
 -- the one has what the other has
 pub record Grows (n m : Marks) : Type 0 where

@@ -1,6 +1,6 @@
 -- The laws of the tables by cases: one line a rule.
 use Rattle.std.proofs.Common.{◌≡◌, ◌⊎◌, inl, inr, ◌<◌, ◌&&◌, nat_eq, ap₂, ℕ, false, true, List, [], ◌∷◌, ◌++◌, Option, Some, None, length, map, refl, sym, ap, subst, arith, true≢false}
-use Rattle.std.specs.List.{All, Contains, filter}
+use Rattle.std.specs.List.{All, Contains, filter, range_with_len}
 use Rattle.std.proofs.lemmas.Bool.{and_parts, eqb-true}
 use Rattle.rational.specs.Number.{Number}
 use Rattle.fractions.specs.declared.Numbers.{Numbers}
@@ -60,10 +60,12 @@ use Rattle.aggregation_laws.proofs.DoubletonEquation as doubleton_equation
 use Rattle.column_laws.proofs.SoleEntry.{IsSole}
 use Rattle.column_laws.proofs.FreeColumn as free_column
 use Rattle.column_laws.proofs.SlackColumn as slack_column
+use Rattle.parallel_row_laws.proofs.ParallelRows as parallel_rows
+use Rattle.parallel_column_laws.proofs.ParallelColumns as parallel_columns
 use Rattle.presolve_model.specs.declared.instance.Instance.{Instance}
 use Rattle.presolve_model.specs.declared.instance.Instance.TheVariants as at
 use Rattle.presolve_model.specs.declared.instance.Reduction.{Reduction}
-use Rattle.presolve_model.specs.declared.instance.Reduction.TheVariants.{EmptyRow, SingletonRow, FixedColumn, RoundBounds, RedundantRow, RedundantSide, ForcingRow, TightenedBound, TightenedCoefficient, FixedByCost, DominatedColumn, DoubletonEquation, FreeColumn, SlackColumn, EmptyColumn}
+use Rattle.presolve_model.specs.declared.instance.Reduction.TheVariants.{EmptyRow, SingletonRow, FixedColumn, RoundBounds, RedundantRow, RedundantSide, ForcingRow, TightenedBound, TightenedCoefficient, FixedByCost, DominatedColumn, DoubletonEquation, FreeColumn, SlackColumn, ParallelRows, ParallelColumns, EmptyColumn}
 use Rattle.presolve_model.specs.declared.instance.Verdict.{Verdict}
 use Rattle.presolve_model.specs.declared.instance.Verdict.TheVariants.{CrossedBounds, CrossedSides, OutOfReach, Ray}
 use Rattle.presolve_model.specs.Changes.{ChangeFits, ChangeIsWritten}
@@ -75,7 +77,7 @@ use Rattle.presolve_model.specs.Meanings.{Meant, says_no_point}
 use Rattle.presolve_model.specs.Order.{verdict_order, reduction_order}
 use Rattle.presolve_model.specs.Tables.{Computes, edits, holds, more, record_of}
 use Rattle.presolve_model.specs.Tallies.{AreCountsOf, Counts, IsTally, Open}
-use Rattle.presolve_model.proofs.Lists.{either_true, contains_bound, contains_filter, contains_id, contains_map, contains_pair}
+use Rattle.presolve_model.proofs.Lists.{either_true, contains_bound, contains_filter, contains_id, contains_map, contains_pair, contains_range}
 use Rattle.presolve_model.proofs.Readings.{found_told}
 use Rattle.presolve_model.proofs.Tallying.{counts_long, tally_more, tally_same}
 
@@ -96,6 +98,8 @@ reductions_owe p (DominatedColumn i j k) s e = dominated_column.owes p i j k s e
 reductions_owe p (DoubletonEquation i j k) s e = doubleton_equation.owes p i j k s e
 reductions_owe p (FreeColumn j i) s e = free_column.owes p j i s e
 reductions_owe p (SlackColumn j i) s e = slack_column.owes p j i s e
+reductions_owe p (ParallelRows i k) s e = parallel_rows.owes p i k s e
+reductions_owe p (ParallelColumns j k) s e = parallel_columns.owes p j k s e
 reductions_owe p (EmptyColumn j) s e = empty_column.owes p j s e
 
 -- ---- each enabled instance that is open is among those of its rule and its first id, which is the problem's
@@ -154,6 +158,14 @@ reductions_listed opens p (SlackColumn j i) o e = let d = slack_column.said p j 
   within = column_inside p j d.column_live;
   there = contains_map (λ i. at.Reduction (SlackColumn j i)) (sole_row (column_entries p j)) i (contains_sole i (column_entries p j) d.sole_there);
 }
+reductions_listed opens p (ParallelRows i k) o e = let d = parallel_rows.said p i k e in record {
+  within = row_inside p i d.first_live;
+  there = contains_map (λ k. at.Reduction (ParallelRows i k)) (range_with_len 0 (length p.matrix.rows)) k (contains_range (length p.matrix.rows) k (row_inside p k d.second_live));
+}
+reductions_listed opens p (ParallelColumns j k) o e = let d = parallel_columns.said p j k e in record {
+  within = column_inside p j d.first_live;
+  there = contains_map (λ k. at.Reduction (ParallelColumns j k)) (range_with_len 0 (length p.matrix.columns)) k (contains_range (length p.matrix.columns) k (column_inside p k d.second_live));
+}
 reductions_listed opens p (EmptyColumn j) o e = alone opens p (at.Reduction (EmptyColumn j)) (column_inside p j (empty_column.said p j e).live) refl
 
 pub verdicts_listed : (opens : Open) (p : Sparse) (v : Verdict) → enabled_on p (at.Verdict v) ≡ true → IsListed opens p (at.Verdict v)
@@ -178,7 +190,9 @@ reductions_ordered (DominatedColumn i j k) = (10, omega arith, refl)
 reductions_ordered (DoubletonEquation i j k) = (11, omega arith, refl)
 reductions_ordered (FreeColumn j i) = (12, omega arith, refl)
 reductions_ordered (SlackColumn j i) = (13, omega arith, refl)
-reductions_ordered (EmptyColumn j) = (14, omega arith, refl)
+reductions_ordered (ParallelRows i k) = (14, omega arith, refl)
+reductions_ordered (ParallelColumns j k) = (15, omega arith, refl)
+reductions_ordered (EmptyColumn j) = (16, omega arith, refl)
 
 pub verdicts_ordered : (v : Verdict) → Contains verdict_order (rule_at (at.Verdict v))
 verdicts_ordered (CrossedBounds j) = (0, omega arith, refl)
@@ -283,6 +297,8 @@ refusals_rest numbers p q (DominatedColumn i j k) t e h = absurd (true≢false (
 refusals_rest numbers p q (DoubletonEquation i j k) t e h = absurd (true≢false (sym t))
 refusals_rest numbers p q (FreeColumn j i) t e h = absurd (true≢false (sym t))
 refusals_rest numbers p q (SlackColumn j i) t e h = absurd (true≢false (sym t))
+refusals_rest numbers p q (ParallelRows i k) t e h = absurd (true≢false (sym t))
+refusals_rest numbers p q (ParallelColumns j k) t e h = absurd (true≢false (sym t))
 refusals_rest numbers p q (EmptyColumn j) t e h = absurd (true≢false (sym t))
 
 pub verdicts_do_not_rest : (v : Verdict) → rests_on_reading (rule_at (at.Verdict v)) ≡ true → ⊥
@@ -315,6 +331,8 @@ forms_suffice (at.Reduction (DominatedColumn i j k)) t = record { more = dominat
 forms_suffice (at.Reduction (DoubletonEquation i j k)) t = absurd (true≢false (sym t))
 forms_suffice (at.Reduction (FreeColumn j i)) t = absurd (true≢false (sym t))
 forms_suffice (at.Reduction (SlackColumn j i)) t = absurd (true≢false (sym t))
+forms_suffice (at.Reduction (ParallelRows i k)) t = absurd (true≢false (sym t))
+forms_suffice (at.Reduction (ParallelColumns j k)) t = absurd (true≢false (sym t))
 forms_suffice (at.Reduction (EmptyColumn j)) t = absurd (true≢false (sym t))
 
 -- of those whose refusals rest on what is read more is looked at than the form
@@ -342,6 +360,8 @@ records_tallied p (DominatedColumn i j k) c us e a h = tally_same c us (record_o
 records_tallied p (DoubletonEquation i j k) c us e a h = tally_same c us (record_of (DoubletonEquation i j k) p) (λ k s. refl) h
 records_tallied p (FreeColumn j i) c us e a h = tally_same c us (record_of (FreeColumn j i) p) (λ k s. refl) h
 records_tallied p (SlackColumn j i) c us e a h = tally_same c us (record_of (SlackColumn j i) p) (λ k s. refl) h
+records_tallied p (ParallelRows i k) c us e a h = tally_same c us (record_of (ParallelRows i k) p) (λ l s. refl) h
+records_tallied p (ParallelColumns j k) c us e a h = tally_same c us (record_of (ParallelColumns j k) p) (λ l s. refl) h
 records_tallied p (EmptyColumn j) c us e a h = tally_same c us (record_of (EmptyColumn j) p) (λ k s. refl) h
 
 pub tallied_long : (r : Reduction) (c : Counts) (n : ℕ) → AreCountsOf n c → AreCountsOf n (tallied r c)
@@ -359,4 +379,6 @@ tallied_long (DominatedColumn i j k) c n a = a
 tallied_long (DoubletonEquation i j k) c n a = a
 tallied_long (FreeColumn j i) c n a = a
 tallied_long (SlackColumn j i) c n a = a
+tallied_long (ParallelRows i k) c n a = a
+tallied_long (ParallelColumns j k) c n a = a
 tallied_long (EmptyColumn j) c n a = a

@@ -4,7 +4,6 @@ use Rattle.std.specs.Prelude.{if◌then◌else◌}
 use Rattle.std.specs.List.{All, Contains, filter, flat_map, range_with_len}
 use Rattle.std.proofs.lemmas.List.{length-map, map-append}
 use Rattle.std.proofs.lemmas.List.Elements.{All-head, All-tail, All-contains_itself, filter-append}
-use Rattle.std.proofs.lemmas.List.FromFn.{length-range_with_len, get_or-range_with_len}
 use Rattle.problem_model.specs.Sparse.{Sparse}
 use Rattle.presolve_model.specs.declared.instance.Rule.{Rule}
 use Rattle.presolve_model.specs.declared.instance.Reduction.{Reduction}
@@ -19,7 +18,7 @@ use Rattle.presolve_model.specs.Stuck.{skipped_on}
 use Rattle.presolve_model.specs.Order.{verdict_order, reduction_order}
 use Rattle.presolve_model.specs.Tallies.{Open}
 use Rattle.presolve_model.proofs.ByCases.{IsListed, reductions_listed, verdicts_listed, reductions_ordered, verdicts_ordered}
-use Rattle.presolve_model.proofs.Lists.{contains_flat}
+use Rattle.presolve_model.proofs.Lists.{contains_flat, contains_range}
 
 -- what is listed are the enabled ones among all
 pub listed_is : (opens : Open) (p : Sparse) (v : ℕ) (ids : Rule → List ℕ) (rules : List Rule)
@@ -47,12 +46,9 @@ kept_of P f q (y ∷ xs) x k l e t h = by k l e (q y) refl (λ k l e. kept_of P 
     by (suc k) l e true g ih h = ih k (omega (arith, l)) e (All-tail P (f y) (map f (filter q xs)) h)
     by (suc k) l e false g ih h = ih k (omega (arith, l)) e h
 
-below : (n k : ℕ) → k < n → Contains (range_with_len 0 n) k
-below n k l = (k, omega (arith, l, length-range_with_len 0 n), (let z : 0 + k ≡ k = omega arith in get_or-range_with_len 0 n k k l ∙ z))
-
 pub among_all : (opens : Open) (p : Sparse) (rules : List Rule) (e : Instance) → Contains rules (rule_at e) → IsListed opens p e → Contains (all_of opens p rules) e
 among_all opens p rules e c i = contains_flat (λ rule. flat_map (instances_from opens p rule) (all_ids p rule)) rules (rule_at e) e c
-    (contains_flat (instances_from opens p (rule_at e)) (all_ids p (rule_at e)) (id_at e) e (below (id_count p (rule_at e)) (id_at e) i.within) i.there)
+    (contains_flat (instances_from opens p (rule_at e)) (all_ids p (rule_at e)) (id_at e) e (contains_range (id_count p (rule_at e)) (id_at e) i.within) i.there)
 
 pub listed_holds : (P : Proposed → Type 0) (opens : Open) (p : Sparse) (v : ℕ) (rules : List Rule) (e : Instance) → Contains rules (rule_at e) → IsListed opens p e → enabled_on p e ≡ true
     → All P (listed opens p v (all_ids p) rules) → P (proposal_of p v e)

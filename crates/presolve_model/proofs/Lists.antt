@@ -1,9 +1,10 @@
 -- What lists contain.
-use Rattle.std.proofs.Common.{◌≡◌, ◌≢◌, ◌⊎◌, inl, inr, ℕ, Bool, true, false, cond, zero, suc, ◌<◌, List, [], ◌∷◌, ◌++◌, length, map, get_or, ap, ap₂, refl, sym, ◌∙◌, subst, arith, true≢false}
+use Rattle.std.proofs.Common.{◌≡◌, ◌≢◌, ◌⊎◌, inl, inr, ℕ, ◌+◌, Bool, true, false, cond, zero, suc, ◌<◌, List, [], ◌∷◌, ◌++◌, length, map, get_or, ap, ap₂, refl, sym, ◌∙◌, subst, arith, true≢false}
 use Rattle.std.specs.Prelude.{◌||◌}
-use Rattle.std.specs.List.{All, Contains, filter, flat_map}
+use Rattle.std.specs.List.{All, Contains, filter, flat_map, range_with_len}
 use Rattle.std.proofs.lemmas.Bool.{cases_eq}
 use Rattle.std.proofs.lemmas.List.Elements.{All-nil, All-cons, All-head, All-tail, Contains-append_left, Contains-append_right}
+use Rattle.std.proofs.lemmas.List.FromFn.{length-range_with_len, get_or-range_with_len}
 use Rattle.lp_model.specs.declared.terms.Term.{Term}
 use Rattle.lp_model.specs.Sparse.{has}
 use Rattle.problem_laws.proofs.Terms.{has-cons_other}
@@ -24,6 +25,10 @@ pub contains_map : {X Y : Type 0} (f : X → Y) (xs : List X) (x : X) → Contai
 contains_map f [] x (k, l, e) = absurd (omega (arith, l))
 contains_map f (z ∷ xs) x (zero, l, e) = (zero, omega arith, ap f e)
 contains_map f (z ∷ xs) x (suc k, l, e) = let (i, m, d) = contains_map f xs x (k, omega (arith, l), e) in (suc i, omega (arith, m), d)
+
+-- each number below n is in the range
+pub contains_range : (n k : ℕ) → k < n → Contains (range_with_len 0 n) k
+contains_range n k l = (k, omega (arith, l, length-range_with_len 0 n), (let z : 0 + k ≡ k = omega arith in get_or-range_with_len 0 n k k l ∙ z))
 
 -- each of those that a function gives
 pub each_mapped : {X Y : Type 0} (P : Y → Type 0) (f : X → Y) (xs : List X) (y : Y) → ((x : X) → P (f x)) → Contains (map f xs) y → P y

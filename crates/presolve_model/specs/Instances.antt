@@ -1,6 +1,6 @@
 -- The instances of a rule with a first id that are open, and which rule and which first id an instance has.
 use Rattle.std.specs.Prelude.{◌≡◌, ℕ, Bool, true, false, List, [], ◌∷◌, length, map, if◌then◌else◌}
-use Rattle.std.specs.List.{filter}
+use Rattle.std.specs.List.{filter, range_with_len}
 use Rattle.lp_model.specs.declared.terms.Term.{Term}
 use Rattle.problem_model.specs.Problems.{column_entries, row_entries}
 use Rattle.problem_model.specs.Sparse.{Sparse}
@@ -9,11 +9,11 @@ use Rattle.dual_laws.specs.DominatedColumn.{pairs_of}
 use Rattle.dual_laws.specs.declared.form.Form.{Form}
 use Rattle.dual_laws.specs.Forms.{LetsByCost, LetsInPairs}
 use Rattle.presolve_model.specs.declared.instance.Reduction.{Reduction}
-use Rattle.presolve_model.specs.declared.instance.Reduction.TheVariants.{EmptyRow, SingletonRow, FixedColumn, RoundBounds, RedundantRow, RedundantSide, ForcingRow, TightenedBound, TightenedCoefficient, FixedByCost, DominatedColumn, DoubletonEquation, FreeColumn, SlackColumn, EmptyColumn}
+use Rattle.presolve_model.specs.declared.instance.Reduction.TheVariants.{EmptyRow, SingletonRow, FixedColumn, RoundBounds, RedundantRow, RedundantSide, ForcingRow, TightenedBound, TightenedCoefficient, FixedByCost, DominatedColumn, DoubletonEquation, FreeColumn, SlackColumn, ParallelRows, ParallelColumns, EmptyColumn}
 use Rattle.presolve_model.specs.declared.instance.Verdict.{Verdict}
 use Rattle.presolve_model.specs.declared.instance.Verdict.TheVariants.{CrossedBounds, CrossedSides, OutOfReach, Ray}
 use Rattle.presolve_model.specs.declared.instance.Reach.{Reach}
-use Rattle.presolve_model.specs.declared.instance.Reach.TheVariants.{OwnRow, OwnColumn, RowsOfBounds, ColumnsOfSides, RowsOfBoth, SoleColumns}
+use Rattle.presolve_model.specs.declared.instance.Reach.TheVariants.{OwnRow, OwnColumn, RowsOfBounds, ColumnsOfSides, RowsOfBoth, SoleColumns, RowsBeside, ColumnsBeside}
 use Rattle.presolve_model.specs.declared.instance.Rule.{Rule}
 use Rattle.presolve_model.specs.declared.instance.Rule.TheVariants as rule
 use Rattle.presolve_model.specs.declared.instance.Instance.{Instance}
@@ -50,6 +50,8 @@ instances_from opens p rule.DominatedColumn i = map (λ x. at.Reduction (Dominat
 instances_from opens p rule.DoubletonEquation i = map (λ x. at.Reduction (DoubletonEquation i x.0 x.1)) (both_orders (row_entries p i))
 instances_from opens p rule.FreeColumn j = map (λ i. at.Reduction (FreeColumn j i)) (sole_row (column_entries p j))
 instances_from opens p rule.SlackColumn j = map (λ i. at.Reduction (SlackColumn j i)) (sole_row (column_entries p j))
+instances_from opens p rule.ParallelRows i = map (λ k. at.Reduction (ParallelRows i k)) (range_with_len 0 (length p.matrix.rows))
+instances_from opens p rule.ParallelColumns j = map (λ k. at.Reduction (ParallelColumns j k)) (range_with_len 0 (length p.matrix.columns))
 instances_from opens p rule.EmptyColumn j = at.Reduction (EmptyColumn j) ∷ []
 
 -- where the first id of an enabled instance is, seen from a part that it reads
@@ -72,6 +74,8 @@ reach_of rule.DominatedColumn = RowsOfBoth
 reach_of rule.DoubletonEquation = RowsOfBounds
 reach_of rule.FreeColumn = SoleColumns
 reach_of rule.SlackColumn = SoleColumns
+reach_of rule.ParallelRows = RowsBeside
+reach_of rule.ParallelColumns = ColumnsBeside
 reach_of rule.EmptyColumn = OwnColumn
 
 -- whether it is a row; else it is a column
@@ -82,6 +86,8 @@ is_at_rows RowsOfBounds = true
 is_at_rows ColumnsOfSides = false
 is_at_rows RowsOfBoth = true
 is_at_rows SoleColumns = false
+is_at_rows RowsBeside = true
+is_at_rows ColumnsBeside = false
 
 -- whether the first ids of a rule are those of rows; else they are those of columns
 abbrev pub is_of_rows : Rule → Bool
@@ -95,6 +101,8 @@ goes_by_form RowsOfBounds = false
 goes_by_form ColumnsOfSides = true
 goes_by_form RowsOfBoth = true
 goes_by_form SoleColumns = false
+goes_by_form RowsBeside = false
+goes_by_form ColumnsBeside = false
 
 -- what of a form lets a rule apply that another one doesn't, for those that look only at forms
 abbrev pub lets_by : Reach → Form → Form → Type 0
@@ -104,6 +112,8 @@ lets_by RowsOfBounds f g = f ≡ g
 lets_by ColumnsOfSides f g = LetsByCost f g
 lets_by RowsOfBoth f g = LetsInPairs f g
 lets_by SoleColumns f g = f ≡ g
+lets_by RowsBeside f g = f ≡ g
+lets_by ColumnsBeside f g = f ≡ g
 
 -- whether a refusal of a rule's instances, for a number that is past or can't be written, rests on what they read alone
 abbrev pub rests_on_reading : Rule → Bool
@@ -125,6 +135,8 @@ rests_on_reading rule.DominatedColumn = false
 rests_on_reading rule.DoubletonEquation = false
 rests_on_reading rule.FreeColumn = false
 rests_on_reading rule.SlackColumn = false
+rests_on_reading rule.ParallelRows = false
+rests_on_reading rule.ParallelColumns = false
 rests_on_reading rule.EmptyColumn = false
 
 -- whether all instances of a rule with a first id read the same parts, so that the first one that is applied leaves the others stale
@@ -132,6 +144,17 @@ abbrev pub shares_reading : Rule → Bool
 shares_reading rule.TightenedBound = true
 shares_reading rule.TightenedCoefficient = true
 shares_reading other = false
+
+-- whether its instances are lines that are multiples of one another
+abbrev pub goes_by_groups : Rule → Bool
+goes_by_groups rule.ParallelRows = true
+goes_by_groups rule.ParallelColumns = true
+goes_by_groups other = false
+
+-- such an instance at two lines
+abbrev pub beside_at : Rule → ℕ → ℕ → Instance
+beside_at rule.ParallelRows i k = at.Reduction (ParallelRows i k)
+beside_at other j k = at.Reduction (ParallelColumns j k)
 
 -- how many there are
 abbrev pub id_count : Sparse → Rule → ℕ
@@ -152,6 +175,8 @@ rule_of (DominatedColumn i j k) = rule.DominatedColumn
 rule_of (DoubletonEquation i j k) = rule.DoubletonEquation
 rule_of (FreeColumn j i) = rule.FreeColumn
 rule_of (SlackColumn j i) = rule.SlackColumn
+rule_of (ParallelRows i k) = rule.ParallelRows
+rule_of (ParallelColumns j k) = rule.ParallelColumns
 rule_of (EmptyColumn j) = rule.EmptyColumn
 
 abbrev pub first_id : Reduction → ℕ
@@ -169,6 +194,8 @@ first_id (DominatedColumn i j k) = i
 first_id (DoubletonEquation i j k) = i
 first_id (FreeColumn j i) = j
 first_id (SlackColumn j i) = j
+first_id (ParallelRows i k) = i
+first_id (ParallelColumns j k) = j
 first_id (EmptyColumn j) = j
 
 abbrev pub verdict_rule : Verdict → Rule

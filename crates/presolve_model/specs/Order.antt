@@ -11,4 +11,4 @@ reduction_order =
     rule.EmptyRow ∷ rule.SingletonRow ∷ rule.FixedColumn ∷ rule.RoundBounds
     ∷ rule.RedundantRow ∷ rule.RedundantSide ∷ rule.ForcingRow ∷ rule.TightenedBound
     ∷ rule.TightenedCoefficient ∷ rule.FixedByCost ∷ rule.DominatedColumn ∷ rule.DoubletonEquation
-    ∷ rule.FreeColumn ∷ rule.SlackColumn ∷ rule.EmptyColumn ∷ []
+    ∷ rule.FreeColumn ∷ rule.SlackColumn ∷ rule.ParallelRows ∷ rule.ParallelColumns ∷ rule.EmptyColumn ∷ []

@@ -26,8 +26,10 @@ use Rattle.dual_laws.specs.Ray as ray
 use Rattle.aggregation_laws.specs.DoubletonEquation as doubleton_equation
 use Rattle.column_laws.specs.FreeColumn as free_column
 use Rattle.column_laws.specs.SlackColumn as slack_column
+use Rattle.parallel_row_laws.specs.ParallelRows as parallel_rows
+use Rattle.parallel_column_laws.specs.ParallelColumns as parallel_columns
 use Rattle.presolve_model.specs.declared.instance.Reduction.{Reduction}
-use Rattle.presolve_model.specs.declared.instance.Reduction.TheVariants.{EmptyRow, SingletonRow, FixedColumn, RoundBounds, RedundantRow, RedundantSide, ForcingRow, TightenedBound, TightenedCoefficient, FixedByCost, DominatedColumn, DoubletonEquation, FreeColumn, SlackColumn, EmptyColumn}
+use Rattle.presolve_model.specs.declared.instance.Reduction.TheVariants.{EmptyRow, SingletonRow, FixedColumn, RoundBounds, RedundantRow, RedundantSide, ForcingRow, TightenedBound, TightenedCoefficient, FixedByCost, DominatedColumn, DoubletonEquation, FreeColumn, SlackColumn, ParallelRows, ParallelColumns, EmptyColumn}
 use Rattle.presolve_model.specs.declared.instance.Verdict.{Verdict}
 use Rattle.presolve_model.specs.declared.instance.Verdict.TheVariants.{CrossedBounds, CrossedSides, OutOfReach, Ray}
 use Rattle.presolve_model.specs.declared.instance.Instance.{Instance}
@@ -49,6 +51,8 @@ heads_of (DominatedColumn i j k) = dominated_column.heads i j k
 heads_of (DoubletonEquation i j k) = doubleton_equation.heads i j k
 heads_of (FreeColumn j i) = free_column.heads j i
 heads_of (SlackColumn j i) = slack_column.heads j i
+heads_of (ParallelRows i k) = parallel_rows.heads i k
+heads_of (ParallelColumns j k) = parallel_columns.heads j k
 heads_of (EmptyColumn j) = empty_column.heads j
 
 -- what it reads by what the heads hold
@@ -67,6 +71,8 @@ more_of (DominatedColumn i j k) cs = dominated_column.more cs
 more_of (DoubletonEquation i j k) cs = no_more cs
 more_of (FreeColumn j i) cs = bounds_named cs
 more_of (SlackColumn j i) cs = no_more cs
+more_of (ParallelRows i k) cs = no_more cs
+more_of (ParallelColumns j k) cs = no_more cs
 more_of (EmptyColumn j) cs = no_more cs
 
 -- its condition on what it read
@@ -85,6 +91,8 @@ holds_of (DominatedColumn i j k) cs = dominated_column.holds j k cs
 holds_of (DoubletonEquation i j k) cs = doubleton_equation.holds j k cs
 holds_of (FreeColumn j i) cs = free_column.holds j i cs
 holds_of (SlackColumn j i) cs = slack_column.holds i cs
+holds_of (ParallelRows i k) cs = parallel_rows.holds i k cs
+holds_of (ParallelColumns j k) cs = parallel_columns.holds j k cs
 holds_of (EmptyColumn j) cs = empty_column.holds cs
 
 -- its edits
@@ -103,6 +111,8 @@ edits (DominatedColumn i j k) p = dominated_column.edits p k
 edits (DoubletonEquation i j k) p = doubleton_equation.edits p i j k
 edits (FreeColumn j i) p = free_column.edits p j i
 edits (SlackColumn j i) p = slack_column.edits p j i
+edits (ParallelRows i k) p = parallel_rows.edits p i k
+edits (ParallelColumns j k) p = parallel_columns.edits p j k
 edits (EmptyColumn j) p = empty_column.edits p j
 
 -- its record, of the problem before it
@@ -121,6 +131,8 @@ record_of (DominatedColumn i j k) p = dominated_column.record_of i j k
 record_of (DoubletonEquation i j k) p = doubleton_equation.record_of p i j k
 record_of (FreeColumn j i) p = free_column.record_of p j i
 record_of (SlackColumn j i) p = slack_column.record_of p j i
+record_of (ParallelRows i k) p = parallel_rows.record_of p i k
+record_of (ParallelColumns j k) p = parallel_columns.record_of p j k
 record_of (EmptyColumn j) p = empty_column.record_of p j
 
 -- the numbers that it computes have room
@@ -139,6 +151,8 @@ Computes (DominatedColumn i j k) p = dominated_column.Computes p k
 Computes (DoubletonEquation i j k) p = doubleton_equation.Computes p i j k
 Computes (FreeColumn j i) p = free_column.Computes p j i
 Computes (SlackColumn j i) p = slack_column.Computes p j i
+Computes (ParallelRows i k) p = parallel_rows.Computes p i k
+Computes (ParallelColumns j k) p = parallel_columns.Computes p j k
 Computes (EmptyColumn j) p = empty_column.Computes p j
 
 -- ---- verdicts

@@ -41,6 +41,10 @@ pub enum Rule {
     FreeColumn,
     /// K14: a continuous column with one entry leaves as a slack of its row.
     SlackColumn,
+    /// K15: a row that is a multiple of another one gives its sides to it.
+    ParallelRows,
+    /// K16: a column that is a multiple of another one joins it.
+    ParallelColumns,
     /// K17: a column without entries is fixed where it costs least.
     EmptyColumn,
 }
@@ -62,6 +66,10 @@ pub enum Reach {
     /// It is a column with one entry: that of the part, or one that stands in a row to which the part leads: that of the part, or one in which
     /// the column stands whose bounds the part is.
     SoleColumns,
+    /// It is a row: that of the part, or one that is a multiple of it.
+    RowsBeside,
+    /// It is a column: that of the part, or one that is a multiple of it.
+    ColumnsBeside,
 }
 
 /// A rule that changes the problem, at rows and columns by original id.
@@ -95,6 +103,10 @@ pub enum Reduction {
     FreeColumn { column: u32, row: u32 },
     /// K14: `column` leaves as a slack of `row`.
     SlackColumn { column: u32, row: u32 },
+    /// K15: `row` gives its sides to `other`.
+    ParallelRows { row: u32, other: u32 },
+    /// K16: `column` joins `other`.
+    ParallelColumns { column: u32, other: u32 },
     /// K17.
     EmptyColumn { column: u32 },
 }

@@ -1,3 +1,4 @@
 pub mod Concluding
 pub mod Running
 pub mod Sharing
+pub mod Beside

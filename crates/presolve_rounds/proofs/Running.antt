@@ -7,9 +7,12 @@ use Rattle.std.proofs.lemmas.Option.{none-some}
 use Rattle.std.proofs.lemmas.List.Elements.{Contains-append_left, Contains-append_right}
 use Rattle.problem_model.specs.declared.part.Part.{Part}
 use Rattle.problem_model.specs.Noted.{AreNoted}
-use Rattle.problem_model.specs.Parts.{changes_of}
+use Rattle.problem_model.specs.declared.part.Read.{Read}
+use Rattle.problem_model.specs.Parts.{changes_of, contents_of}
 use Rattle.problem_model.specs.Problems.{IsSparse}
 use Rattle.problem_model.specs.Sparse.{Sparse}
+use Rattle.edit_laws.specs.Sizes.{SameSize}
+use Rattle.line_groups.specs.Groups.{AreGroupsOf, LineGroups}
 use Rattle.presolve_model.specs.declared.conclusion.End.TheVariants.{LimitReached}
 use Rattle.presolve_model.specs.declared.instance.Instance.{Instance}
 use Rattle.presolve_model.specs.declared.instance.Instance.TheVariants as at
@@ -32,9 +35,9 @@ use Rattle.place_laws.specs.Choosing.{all_around, AreSorted, Around, HoldsAround
 use Rattle.dual_laws.specs.declared.form.Form.{Form}
 use Rattle.dual_laws.specs.Forms.{LetsByCost, LetsInPairs}
 use Rattle.presolve_model.specs.declared.instance.Reach.{Reach}
-use Rattle.presolve_model.specs.declared.instance.Reach.TheVariants.{OwnRow, OwnColumn, RowsOfBounds, ColumnsOfSides, RowsOfBoth, SoleColumns}
+use Rattle.presolve_model.specs.declared.instance.Reach.TheVariants.{OwnRow, OwnColumn, RowsOfBounds, ColumnsOfSides, RowsOfBoth, SoleColumns, RowsBeside, ColumnsBeside}
 use Rattle.place_laws.specs.Marks.{AreStirred, Grows, IsMarked, IsNoted, is_refusal, LetsNoMore, Marks, parts_for}
-use Rattle.place_laws.specs.Standing.{IsFresh}
+use Rattle.place_laws.specs.Standing.{IsFresh, IsLaterAt}
 use Rattle.round_laws.specs.Passing.{Follows, IsSameBook, Passed}
 use Rattle.place_laws.proofs.Choosing.{all_each, all_sorted, marked_complete}
 use Rattle.round_laws.proofs.Committing.{left_open}
@@ -82,6 +85,8 @@ over_counts RowsOfBounds k a = (more_in k.noted a).1
 over_counts ColumnsOfSides k a = (more_in k.stirred a).1
 over_counts RowsOfBoth k a = (more_in k.roused a).1
 over_counts SoleColumns k a = (more_in k.noted a).1
+over_counts RowsBeside k a = (more_in k.noted a).1
+over_counts ColumnsBeside k a = (more_in k.noted a).1
 
 more_noted : (k : Marks) (a : Part) → Grows k (record k { noted = k.noted ++ a ∷ [] })
 more_noted k a = record { noted = (more_in k.noted a).0; stirred = λ x c. c; roused = λ x c. c; asleep = λ x c. c }
@@ -93,6 +98,8 @@ over_grows RowsOfBounds k a = more_noted k a
 over_grows ColumnsOfSides k a = record { noted = λ x c. c; stirred = (more_in k.stirred a).0; roused = λ x c. c; asleep = λ x c. c }
 over_grows RowsOfBoth k a = record { noted = λ x c. c; stirred = λ x c. c; roused = (more_in k.roused a).0; asleep = λ x c. c }
 over_grows SoleColumns k a = more_noted k a
+over_grows RowsBeside k a = more_noted k a
+over_grows ColumnsBeside k a = more_noted k a
 
 pub over_noted : (p q : Sparse) (n : List Part) (r : Reach) (k : Marks) (a : Part) → AreNoted p q n k.noted → AreNoted p q n (left_for r k a).noted
 over_noted p q n OwnRow k a h = noted_more p q n k.noted a h
@@ -101,6 +108,8 @@ over_noted p q n RowsOfBounds k a h = noted_more p q n k.noted a h
 over_noted p q n ColumnsOfSides k a h = h
 over_noted p q n RowsOfBoth k a h = h
 over_noted p q n SoleColumns k a h = noted_more p q n k.noted a h
+over_noted p q n RowsBeside k a h = noted_more p q n k.noted a h
+over_noted p q n ColumnsBeside k a h = noted_more p q n k.noted a h
 
 pub over_stirred : (p q : Sparse) (n : Marks) (r : Reach) (k : Marks) (a : Part) → AreStirred p q n k → AreStirred p q n (left_for r k a)
 over_stirred p q n OwnRow k a h = record { stirred = h.stirred; roused = h.roused }
@@ -109,6 +118,8 @@ over_stirred p q n RowsOfBounds k a h = record { stirred = h.stirred; roused = h
 over_stirred p q n ColumnsOfSides k a h = record { stirred = lets_more LetsByCost p q n.stirred k.stirred a h.stirred; roused = h.roused }
 over_stirred p q n RowsOfBoth k a h = record { stirred = h.stirred; roused = lets_more LetsInPairs p q n.roused k.roused a h.roused }
 over_stirred p q n SoleColumns k a h = record { stirred = h.stirred; roused = h.roused }
+over_stirred p q n RowsBeside k a h = record { stirred = h.stirred; roused = h.roused }
+over_stirred p q n ColumnsBeside k a h = record { stirred = h.stirred; roused = h.roused }
 
 -- a stale instance is left over
 pub stale_left : (f : Ledger) (w v : Watched) (b : Ledger) (e : Instance) (a : Part) → IsGoing f w b → (IsFresh f.problem b.problem e → ⊥) → v ≡ record { marks = left_over w.marks e a; forms = w.forms } → Contains (heads e) a → IsPassed f (e ∷ []) w b v b
@@ -196,6 +207,8 @@ marked_reached b m h e on free = by (h e on free)
     among ColumnsOfSides a c = Contains-append_left counted m.asleep a (Contains-append_left (m.noted ++ m.stirred) m.roused a (Contains-append_right m.noted m.stirred a c))
     among RowsOfBoth a c = Contains-append_left counted m.asleep a (Contains-append_right (m.noted ++ m.stirred) m.roused a c)
     among SoleColumns a c = noted a c
+    among RowsBeside a c = noted a c
+    among ColumnsBeside a c = noted a c
 
     by : IsMarked b.numbers b.problem m e → IsNoted b.problem (all_marked m) e
     by (inl (a, r, c)) = (a, r, among (reach_of (rule_at e)) a c)
@@ -276,8 +289,13 @@ both_passed a es fs w v u b c d h k = record { passed = passed_on (open_on a.tal
 pub none_passed : (a : Ledger) (w : Watched) (b : Ledger) → IsGoing a w b → IsPassed a [] w b w b
 none_passed a w b h = record { passed = passed_none (open_on a.tally) a.problem w.marks b h.follows; forms = h.forms }
 
-pub goes_on : (a : Ledger) (es : List Instance) (w v : Watched) (b c : Ledger) → IsPassed a es w b v c → IsGoing a v c
-goes_on a es w v b c h = record { follows = h.passed.follows; forms = h.forms }
+pub goes_on : (a : Ledger) (es : List Instance) (w v : Watched) (b c : Ledger) → IsGoing a w b → IsPassed a es w b v c → IsGoing a v c
+goes_on a es w v b c going h = record { began = going.began; follows = h.passed.follows; forms = h.forms; noted = λ x. after x (going.noted x) (h.passed.moved x) }
+  where
+    after : (x : Part) → (changes_of b.problem x ≡ changes_of a.problem x) ⊎ Contains w.marks.noted x → (changes_of c.problem x ≡ changes_of b.problem x) ⊎ Contains v.marks.noted x → (changes_of c.problem x ≡ changes_of a.problem x) ⊎ Contains v.marks.noted x
+    after x before (inr d) = inr d
+    after x (inl e) (inl f) = inl (f ∙ e)
+    after x (inr d) (inl f) = inr (h.passed.grows.noted x d)
 
 -- what comes of one of a list more
 pub one_more : {X : Type 0} (a : Ledger) (g : X → List Instance) (xs : List X) (i : ℕ) (x : X) (w v u : Watched) (b c d : Ledger) → i < length xs → IsPassed a (flat_map g (take i xs)) w b v c → IsPassed a (g (get_or xs i x)) v c u d
@@ -294,3 +312,21 @@ one_instance_more a es i e w v u b c d inside h k = subst (λ (fs : List Instanc
 pub first_there : (es : List Instance) (d : Instance) → 0 < length es → IsFirst es (Some (get_or es 0 d))
 first_there [] d l = absurd (omega (arith, l))
 first_there (e ∷ es) d l = (es, refl)
+
+-- what the groups of the problem before tell of the one after a round
+pub contents_kept : (a c : Ledger) (w : Watched) → Follows (open_on a.tally) a.problem c → ((x : Part) → (changes_of c.problem x ≡ changes_of a.problem x) ⊎ Contains w.marks.noted x) → (x : Part) → (contents_of c.problem x ≡ contents_of a.problem x) ⊎ Contains w.marks.noted x
+contents_kept a c w h noted x = by (noted x) (h.later x)
+  where
+    by : (changes_of c.problem x ≡ changes_of a.problem x) ⊎ Contains w.marks.noted x → IsLaterAt a.problem c.problem x → (contents_of c.problem x ≡ contents_of a.problem x) ⊎ Contains w.marks.noted x
+    by (inr d) l = inr d
+    by (inl e) (inl same) = inl (ap (λ (r : Read). r.contents) same)
+    by (inl e) (inr more) = absurd (omega (arith, e, more))
+
+pub groups_next : (old new : LineGroups) (b d : Ledger) (v : Watched) (p : Sparse) (parts : List Part) → p ≡ d.problem → parts ≡ v.marks.noted → AreGroupsOf old b.problem → Follows (open_on b.tally) b.problem d
+    → ((x : Part) → (changes_of d.problem x ≡ changes_of b.problem x) ⊎ Contains v.marks.noted x)
+    → ((f : Sparse) → AreGroupsOf old f → SameSize f p → ((x : Part) → (contents_of p x ≡ contents_of f x) ⊎ Contains parts x) → AreGroupsOf new p) → AreGroupsOf new d.problem
+groups_next old new b d v p parts e f told follows moved h = subst (AreGroupsOf new) e (h b.problem told (subst (SameSize b.problem) (sym e) follows.size) (λ x. by x (contents_kept b d v follows moved x)))
+  where
+    by : (x : Part) → (contents_of d.problem x ≡ contents_of b.problem x) ⊎ Contains v.marks.noted x → (contents_of p x ≡ contents_of b.problem x) ⊎ Contains parts x
+    by x (inl s) = inl (ap (λ (q : Sparse). contents_of q x) e ∙ s)
+    by x (inr c) = inr (subst (λ (ps : List Part). Contains ps x) (sym f) c)

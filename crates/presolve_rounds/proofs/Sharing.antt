@@ -27,7 +27,7 @@ use Rattle.round_marks.specs.Forming.{AreFormsOf}
 use Rattle.round_marks.specs.Marking.{left_over, marked, Watched}
 use Rattle.presolve_rounds.specs.Walking.{AreAlike, AreFresh, is_applied, IsGoing, IsMet, IsPassed}
 use Rattle.round_laws.proofs.Tracking.{noted_count}
-use Rattle.presolve_rounds.proofs.Running.{both_passed, none_passed, over_counts, over_grows, over_noted}
+use Rattle.presolve_rounds.proofs.Running.{both_passed, goes_on, none_passed, over_counts, over_grows, over_noted}
 
 behind : (e : Instance) (es : List Instance) (x : Instance) → Contains es x → Contains (e ∷ es) x
 behind e es x (k, l, h) = (suc k, omega (arith, l), h)
@@ -121,7 +121,7 @@ module _ (a : Ledger) (all : List Instance) (w : Watched) (b : Ledger) (e : Inst
   pub left_next : applied ≡ false → IsLeft a all w b es u d
   left_next f = let stays : c ≡ d = sym (met.still f) in record {
     same = sym stays ∙ h.same;
-    going = record { follows = passed.passed.follows; forms = passed.forms };
+    going = goes_on a (e ∷ []) v u c d h.going passed;
     alike = subst (λ (x : Ledger). AreAlike x es) stays (then_alike c e es h.alike);
     fresh = subst (λ (x : Ledger). AreFresh a x es) stays (then_fresh a c e es h.fresh);
     leads = then_leads;

@@ -1,6 +1,9 @@
 -- A pass on the way: it began with the book a.
-use Rattle.std.specs.Prelude.{◌≡◌, Bool, true, false, List}
+use Rattle.std.specs.Prelude.{◌≡◌, ◌⊎◌, Bool, true, false, List}
 use Rattle.std.specs.List.{Contains}
+use Rattle.problem_model.specs.declared.part.Part.{Part}
+use Rattle.problem_model.specs.Parts.{changes_of}
+use Rattle.problem_model.specs.Problems.{IsSparse}
 use Rattle.presolve_model.specs.declared.instance.Instance.{Instance}
 use Rattle.presolve_model.specs.declared.outcome.Outcome.{Outcome}
 use Rattle.presolve_model.specs.declared.outcome.Outcome.TheVariants.{Applied}
@@ -13,10 +16,12 @@ use Rattle.round_laws.specs.Passing.{Follows, Passed, ReadAlike}
 use Rattle.round_marks.specs.Forming.{AreFormsOf}
 use Rattle.round_marks.specs.Marking.{Watched}
 
--- the book is b now, and the forms of its problem are told
+-- the book is b now, the forms of its problem are told, and each part that has changed is noted
 pub record IsGoing (a : Ledger) (w : Watched) (b : Ledger) : Type 0 where
+  pub began : IsSparse a.problem
   pub follows : Follows (open_on a.tally) a.problem b
   pub forms : AreFormsOf w.forms b.problem
+  pub noted : (x : Part) → (changes_of b.problem x ≡ changes_of a.problem x) ⊎ Contains w.marks.noted x
 
 -- it is c after these instances
 pub record IsPassed (a : Ledger) (es : List Instance) (w : Watched) (b : Ledger) (v : Watched) (c : Ledger) : Type 0 where

@@ -3,11 +3,13 @@
 //! What a round lists is never held. An instance whose parts have not changed since the round began is enabled on the present problem
 //! exactly where it was when the round began, and is then applied at once. One that reads a part which has changed would be stale, and is
 //! left to the next round. Where the instances of a rule with a first id share their reading, its parts are looked at once for all of them, and
-//! the first one that is applied leaves the others stale.
+//! the first one that is applied leaves the others stale. Lines that are multiples of one another are those of one group as the round began: a
+//! line that has changed since is noted, and so is looked at in the next round.
 
-ghost use Rattle.std.specs.Prelude.{◌≡◌, true, false, ◌∷◌, [], IfOk, OnOk};
+ghost use Rattle.std.specs.Prelude.{◌≡◌, true, false, ◌∷◌, [], map, IfOk, OnOk};
 ghost use Rattle.presolve_model.specs.Enabled.{enabled_on};
-ghost use Rattle.presolve_model.specs.Instances.{instances_from};
+ghost use Rattle.line_groups.specs.Groups.{AreGroupsOf};
+ghost use Rattle.presolve_model.specs.Instances.{beside_at, instances_from};
 ghost use Rattle.presolve_model.specs.Order.{reduction_order, verdict_order};
 ghost use Rattle.presolve_model.specs.Scans.{instances_at};
 ghost use Rattle.presolve_model.specs.Tallies.{open_on};
@@ -15,15 +17,19 @@ ghost use Rattle.place_laws.specs.Choosing.{ids_of, instances_of, visited};
 ghost use Rattle.place_laws.specs.Standing.{IsFresh};
 ghost use Rattle.round_laws.specs.Passing.{Follows};
 ghost use Rattle.round_marks.specs.Stamping.{AreStampsOf};
+ghost use Rattle.presolve_rounds.specs.Lines.{has_line};
 ghost use Rattle.presolve_rounds.specs.Walking.{AreAlike, AreFresh, is_applied as applies, IsGoing, IsMet, IsPassed};
 
 use instances::{
-    add_enabled, head, is_enabled, parts_read, reduction_rules, shares_reading, verdict_rules,
+    add_enabled, goes_by_groups, head, instance_beside, is_enabled, lines_beside, parts_read,
+    reduction_rules, shares_reading, verdict_rules,
 };
+use line_groups::Parallels;
 use presolve_model::{Instance, Outcome, Rule};
 use round_marks::around::Around;
 use round_marks::stamps::Stamps;
 use round_marks::watch::Watch;
+use sparse_problem::Problem;
 use std::alloc::{AllocError, Global};
 use std::snapshot::Snapshot;
 use txn_book::Book;
@@ -173,22 +179,74 @@ fn visit_alike(
     meet_alike(alloc, book, frozen, found, watch)
 }
 
-/// The instances of a rule with a first id: those that are enabled and open now.
-fn visit_at(
+/// Whether the line is live with which the instances of a rule of lines that are multiples of one another begin.
+fn is_line_live(problem: &Problem, rule: Rule, id: u32) -> bool
+    ensures { result ≡ has_line problem.now rule id }
+{
+    match rule {
+        Rule::ParallelRows => problem.is_row_live(id),
+        _ => problem.is_column_live(id),
+    }
+}
+
+/// The instances of such a rule at a line and others, in turn, as long as the line is there.
+fn visit_beside(
     alloc: Global,
     book: &mut Book,
     frozen: &Snapshot<Book>,
     stamps: &Stamps,
     rule: Rule,
     id: u32,
+    others: &[u32],
     watch: &mut Watch,
 ) -> Result<(), AllocError>
     requires going { IsGoing frozen.now.value watch.old book.old }
     requires stamps { AreStampsOf stamps.now frozen.now.value.problem }
+    ensures { OnOk result (IsPassed frozen.now.value (map (beside_at rule id) others.now) watch.old book.old watch.new book.new) }
+{
+    let mut rest = others;
+    while let [other, after @ ..] = rest {
+        if !is_line_live(book.problem(), rule, id) {
+            return Ok(());
+        }
+        let instance = instance_beside(rule, id, *other);
+        visit(alloc, book, frozen, stamps, instance, watch)?;
+        rest = after;
+    }
+    Ok(())
+}
+
+/// The instances of a rule with a first id: those that are enabled and open now, or those of lines in one group.
+fn visit_at(
+    alloc: Global,
+    book: &mut Book,
+    frozen: &Snapshot<Book>,
+    stamps: &Stamps,
+    groups: &Parallels,
+    rule: Rule,
+    id: u32,
+    watch: &mut Watch,
+) -> Result<(), AllocError>
+    requires going { IsGoing frozen.now.value watch.old book.old }
+    requires stamps { AreStampsOf stamps.now frozen.now.value.problem }
+    requires groups { AreGroupsOf groups.now frozen.now.value.problem }
     ensures { OnOk result (IsPassed frozen.now.value (instances_from (open_on frozen.now.value.tally) frozen.now.value.problem rule id) watch.old book.old watch.new book.new) }
 {
+    if goes_by_groups(rule) {
+        let others = lines_beside(groups, rule, id);
+        visit_beside(alloc, book, frozen, stamps, rule, id, others, watch)?;
+        return Ok(());
+    }
     let mut found = Vec::new(alloc);
-    add_enabled(alloc, book.problem(), book.tally(), rule, id, &mut found)?;
+    add_enabled(
+        alloc,
+        book.problem(),
+        groups,
+        book.tally(),
+        rule,
+        id,
+        &mut found,
+    )?;
     if shares_reading(rule) {
         visit_alike(alloc, book, frozen, stamps, found.as_slice(), watch)?;
         return Ok(());
@@ -203,16 +261,18 @@ fn visit_each(
     book: &mut Book,
     frozen: &Snapshot<Book>,
     stamps: &Stamps,
+    groups: &Parallels,
     rule: Rule,
     ids: &[u32],
     watch: &mut Watch,
 ) -> Result<(), AllocError>
     requires going { IsGoing frozen.now.value watch.old book.old }
     requires stamps { AreStampsOf stamps.now frozen.now.value.problem }
+    requires groups { AreGroupsOf groups.now frozen.now.value.problem }
     ensures { OnOk result (IsPassed frozen.now.value (instances_at (open_on frozen.now.value.tally) frozen.now.value.problem rule ids.now) watch.old book.old watch.new book.new) }
 {
     for id in ids {
-        visit_at(alloc, book, frozen, stamps, rule, *id, watch)?;
+        visit_at(alloc, book, frozen, stamps, groups, rule, *id, watch)?;
     }
     Ok(())
 }
@@ -223,15 +283,26 @@ fn visit_rule(
     book: &mut Book,
     frozen: &Snapshot<Book>,
     stamps: &Stamps,
+    groups: &Parallels,
     rule: Rule,
     ids: &Around,
     watch: &mut Watch,
 ) -> Result<(), AllocError>
     requires going { IsGoing frozen.now.value watch.old book.old }
     requires stamps { AreStampsOf stamps.now frozen.now.value.problem }
+    requires groups { AreGroupsOf groups.now frozen.now.value.problem }
     ensures { OnOk result (IsPassed frozen.now.value (instances_at (open_on frozen.now.value.tally) frozen.now.value.problem rule (ids_of ids.now rule)) watch.old book.old watch.new book.new) }
 {
-    visit_each(alloc, book, frozen, stamps, rule, ids.of(rule), watch)?;
+    visit_each(
+        alloc,
+        book,
+        frozen,
+        stamps,
+        groups,
+        rule,
+        ids.of(rule),
+        watch,
+    )?;
     Ok(())
 }
 
@@ -241,16 +312,18 @@ fn visit_rules(
     book: &mut Book,
     frozen: &Snapshot<Book>,
     stamps: &Stamps,
+    groups: &Parallels,
     rules: &[Rule],
     ids: &Around,
     watch: &mut Watch,
 ) -> Result<(), AllocError>
     requires going { IsGoing frozen.now.value watch.old book.old }
     requires stamps { AreStampsOf stamps.now frozen.now.value.problem }
+    requires groups { AreGroupsOf groups.now frozen.now.value.problem }
     ensures { OnOk result (IsPassed frozen.now.value (instances_of (open_on frozen.now.value.tally) frozen.now.value.problem ids.now rules.now) watch.old book.old watch.new book.new) }
 {
     for rule in rules {
-        visit_rule(alloc, book, frozen, stamps, *rule, ids, watch)?;
+        visit_rule(alloc, book, frozen, stamps, groups, *rule, ids, watch)?;
     }
     Ok(())
 }
@@ -261,14 +334,34 @@ pub fn pass(
     book: &mut Book,
     frozen: &Snapshot<Book>,
     stamps: &Stamps,
+    groups: &Parallels,
     ids: &Around,
     watch: &mut Watch,
 ) -> Result<(), AllocError>
     requires going { IsGoing frozen.now.value watch.old book.old }
     requires stamps { AreStampsOf stamps.now frozen.now.value.problem }
+    requires groups { AreGroupsOf groups.now frozen.now.value.problem }
     ensures { OnOk result (IsPassed frozen.now.value (visited (open_on frozen.now.value.tally) frozen.now.value.problem ids.now) watch.old book.old watch.new book.new) }
 {
-    visit_rules(alloc, book, frozen, stamps, &verdict_rules(), ids, watch)?;
-    visit_rules(alloc, book, frozen, stamps, &reduction_rules(), ids, watch)?;
+    visit_rules(
+        alloc,
+        book,
+        frozen,
+        stamps,
+        groups,
+        &verdict_rules(),
+        ids,
+        watch,
+    )?;
+    visit_rules(
+        alloc,
+        book,
+        frozen,
+        stamps,
+        groups,
+        &reduction_rules(),
+        ids,
+        watch,
+    )?;
     Ok(())
 }

@@ -8,6 +8,7 @@
 ghost use Rattle.std.specs.Prelude.{◌≡◌, ◌≢◌, ◌<◌, ◌≤◌, length, Some, None, IfOk, OnOk};
 ghost use Rattle.problem_model.specs.declared.part.Part.{Part};
 ghost use Rattle.problem_model.specs.Parts.{changes_of};
+ghost use Rattle.line_groups.specs.Groups.{AreGroupsOf};
 ghost use Rattle.presolve_model.specs.Ordered.{Committed, Ordered, enabled_verdicts, round_list};
 ghost use Rattle.presolve_model.specs.Stuck.{skipped_on};
 ghost use Rattle.presolve_model.specs.Tallies.{open_on};
@@ -18,6 +19,7 @@ ghost use Rattle.presolve_rounds.specs.Running.{EndsWith, IsFirst};
 
 use crate::pass::pass;
 use instances::{Tally, reduction_rules, verdict_rules};
+use line_groups::Parallels;
 use presolve_model::{End, Instance, Outcome, Part};
 use round_marks::around::Around;
 use round_marks::found::enabled_of;
@@ -33,20 +35,24 @@ fn round(
     alloc: Global,
     book: &mut Book,
     stamps: &mut Stamps,
+    groups: &mut Parallels,
     ids: &mut Around,
     watch: &mut Watch,
 ) -> Result<(), AllocError>
     requires ready { IsReady book.old stamps.old ids.old watch.old }
+    requires groups { AreGroupsOf groups.old book.old.problem }
     ensures book { OnOk result (IsSameBook book.old book.new) }
+    ensures groups { OnOk result (AreGroupsOf groups.new book.new.problem) }
     ensures committed { OnOk result (Committed book.old (round_list book.old) book.new) }
     ensures marked { OnOk result (book.new.verdict ≡ None → length book.new.history < book.new.limit → AreMarked book.new watch.new.marks) }
     ensures ready { OnOk result (book.new.verdict ≡ None → length book.new.history < book.new.limit → IsReady book.new stamps.new ids.new watch.new) }
 {
     let frozen = Snapshot::of(book);
     watch.begin_round();
-    pass(alloc, book, &frozen, stamps, ids, watch)?;
+    pass(alloc, book, &frozen, stamps, groups, ids, watch)?;
     stamps.refresh(book.problem(), watch.noted());
-    *ids = watch.around(alloc, book.problem())?;
+    groups.refresh(alloc, book.problem(), watch.noted())?;
+    *ids = watch.around(alloc, book.problem(), groups)?;
     Ok(())
 }
 
@@ -61,15 +67,17 @@ fn count(instances: &[Instance]) -> u64
 fn skipped(
     alloc: Global,
     problem: &Problem,
+    groups: &Parallels,
     tally: &Tally,
     parts: &[Part],
 ) -> Result<u64, AllocError>
+    requires groups { AreGroupsOf groups.now problem.now }
     requires reached { AreReached (open_on tally.now) problem.now parts.now }
     ensures { IfOk result (λ skipped. skipped ≡ skipped_on (open_on tally.now) problem.now) }
 {
     problem.is_sparse();
-    let ids = Around::of_parts(alloc, problem, parts, parts, parts)?;
-    let found = enabled_of(alloc, problem, tally, &ids, &reduction_rules())?;
+    let ids = Around::of_parts(alloc, problem, groups, parts, parts, parts)?;
+    let found = enabled_of(alloc, problem, groups, tally, &ids, &reduction_rules())?;
     Ok(count(found.as_slice()))
 }
 
@@ -87,12 +95,14 @@ fn first_of(instances: &[Instance]) -> Option<Instance>
 fn first_verdict(
     alloc: Global,
     problem: &Problem,
+    groups: &Parallels,
     tally: &Tally,
 ) -> Result<Option<Instance>, AllocError>
+    requires { AreGroupsOf groups.now problem.now }
     ensures { IfOk result (IsFirst (enabled_verdicts (open_on tally.now) problem.now)) }
 {
     let all = Around::all_of(alloc, problem)?;
-    let found = enabled_of(alloc, problem, tally, &all, &verdict_rules())?;
+    let found = enabled_of(alloc, problem, groups, tally, &all, &verdict_rules())?;
     Ok(first_of(found.as_slice()))
 }
 
@@ -112,7 +122,12 @@ fn decide(alloc: Global, book: &mut Book, verdict: Instance) -> Result<(), Alloc
 }
 
 /// The end of a book that is full: the first verdict that is enabled, if there is one, is applied. None where the book is decided.
-fn end_at_limit(alloc: Global, book: &mut Book) -> Result<Option<End>, AllocError>
+fn end_at_limit(
+    alloc: Global,
+    book: &mut Book,
+    groups: &Parallels,
+) -> Result<Option<End>, AllocError>
+    requires groups { AreGroupsOf groups.now book.old.problem }
     requires undecided { book.old.verdict ≡ None }
     requires full { book.old.limit ≤ length book.old.history }
     ensures book { OnOk result (IsSameBook book.old book.new) }
@@ -120,7 +135,7 @@ fn end_at_limit(alloc: Global, book: &mut Book) -> Result<Option<End>, AllocErro
     ensures end { IfOk result (λ end. EndsWith end book.new) }
 {
     book.stands();
-    match first_verdict(alloc, book.problem(), book.tally())? {
+    match first_verdict(alloc, book.problem(), groups, book.tally())? {
         None => Ok(Some(End::LimitReached)),
         Some(verdict) => {
             decide(alloc, book, verdict)?;
@@ -129,8 +144,14 @@ fn end_at_limit(alloc: Global, book: &mut Book) -> Result<Option<End>, AllocErro
     }
 }
 
-/// Rounds until nothing can be applied, a verdict was, or the limit is reached. None where the book is decided.
-pub fn run(alloc: Global, book: &mut Book) -> Result<Option<End>, AllocError>
+/// Rounds until nothing can be applied, a verdict was, or the limit is reached, with the groups of the book's problem. None where the book is
+/// decided.
+fn run_with(
+    alloc: Global,
+    book: &mut Book,
+    groups: &mut Parallels,
+) -> Result<Option<End>, AllocError>
+    requires groups { AreGroupsOf groups.old book.old.problem }
     requires undecided { book.old.verdict ≡ None }
     requires counted { (a : Part) → changes_of book.old.problem a ≤ length book.old.history }
     ensures book { OnOk result (IsSameBook book.old book.new) }
@@ -144,15 +165,33 @@ pub fn run(alloc: Global, book: &mut Book) -> Result<Option<End>, AllocError>
     let mut watch = Watch::of(alloc, book.problem())?;
     while book.applied() < limit {
         let applied = book.applied();
-        round(alloc, book, &mut stamps, &mut ids, &mut watch)?;
+        round(alloc, book, &mut stamps, groups, &mut ids, &mut watch)?;
         if book.verdict().is_some() {
             return Ok(None);
         }
         if book.applied() == applied {
             let parts = watch.all(alloc)?;
-            let skipped = skipped(alloc, book.problem(), book.tally(), parts.as_slice())?;
+            let skipped = skipped(
+                alloc,
+                book.problem(),
+                groups,
+                book.tally(),
+                parts.as_slice(),
+            )?;
             return Ok(Some(End::Fixpoint { skipped }));
         }
     }
-    end_at_limit(alloc, book)
+    end_at_limit(alloc, book, groups)
+}
+
+/// Rounds until nothing can be applied, a verdict was, or the limit is reached. None where the book is decided.
+pub fn run(alloc: Global, book: &mut Book) -> Result<Option<End>, AllocError>
+    requires undecided { book.old.verdict ≡ None }
+    requires counted { (a : Part) → changes_of book.old.problem a ≤ length book.old.history }
+    ensures book { OnOk result (IsSameBook book.old book.new) }
+    ensures ordered { IfOk result (λ end. Ordered book.old end book.new) }
+    ensures end { IfOk result (λ end. EndsWith end book.new) }
+{
+    let mut groups = Parallels::of(alloc, book.problem())?;
+    run_with(alloc, book, &mut groups)
 }

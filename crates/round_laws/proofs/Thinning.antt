@@ -21,21 +21,23 @@ use Rattle.presolve_model.specs.Changes.{changed}
 use Rattle.presolve_model.specs.Commits.{Allows, CanWrite, Fits, IsOpen, left_by, with_instance}
 use Rattle.presolve_model.specs.Enabled.{enabled_on, reading_of, reads}
 use Rattle.presolve_model.specs.Given.{Proposed}
-use Rattle.presolve_model.specs.Instances.{id_at, instances_from, is_open}
+use Rattle.presolve_model.specs.Instances.{goes_by_form, id_at, instances_from, is_open, reach_of, rule_at}
+use Rattle.presolve_model.proofs.Readings.{enabled_same}
 use Rattle.presolve_model.specs.Ledger.{Ledger}
 use Rattle.presolve_model.specs.Ordered.{Committed}
 use Rattle.presolve_model.specs.Scans.{proposal_of}
 use Rattle.presolve_model.proofs.Tabled.{counted_changed}
 use Rattle.presolve_model.specs.Tallies.{Open, open_on}
 use Rattle.place_laws.specs.Choosing.{proposals}
-use Rattle.place_laws.specs.Marks.{IsRefused, Marks, RestsOnReading}
+use Rattle.place_laws.specs.Marks.{IsMarked, IsRefused, Marks, RestsOnReading}
 use Rattle.place_laws.specs.Standing.{IsFresh, IsLaterAt}
 use Rattle.round_laws.specs.Passing.{Follows, IsTracked, Passed, Tracks}
 use Rattle.place_laws.proofs.Alike.{IsAlikeFrom, NoneStands}
 use Rattle.round_laws.proofs.Committing.{committed_append, committed_same, fresh_enables, fresh_parts, fresh_reads, left_how, left_open, passed_over, proposals_append, refused_how, stays_or_differs}
 use Rattle.place_laws.proofs.Places.{enabled_listed, from_is, from_stand}
 use Rattle.place_laws.proofs.ShortLists.{passes_still}
-use Rattle.round_laws.proofs.Turns.{Moved, follows_applied, moved}
+use Rattle.round_laws.proofs.Tracking.{noted_count, passed_none, passed_on}
+use Rattle.round_laws.proofs.Turns.{Moved, follows_applied, met_over, moved}
 use Rattle.problem_model.specs.Reading.{Agrees, DiffersAt}
 
 -- ---- what has changed since f stays so
@@ -225,7 +227,7 @@ passed_either opens f es fs n m b c h none nor still k = record {
 
 -- ---- the instances of a rule with a first id, those of the present problem in place of those of f
 pub passed_found : (opens : Open) (f : Sparse) (r : Rule) (k : ℕ) (n m : Marks) (b c : Ledger) → Follows opens f b → Passed opens f (filter (enabled_on b.problem) (instances_from (open_on b.tally) b.problem r k)) n b m c → Passed opens f (instances_from opens f r k) n b m c
-passed_found opens f r k n m b c h passed = by (from_stand opens (open_on b.tally) f b.problem h.moves h.later r k) (passed_all opens f now n m b c h passed)
+passed_found opens f r k n m b c h passed = by (from_stand opens (open_on b.tally) f b.problem h.moves h.size h.later r k) (passed_all opens f now n m b c h passed)
   where
     now : List Instance
     now = instances_from (open_on b.tally) b.problem r k
@@ -239,3 +241,44 @@ passed_found opens f r k n m b c h passed = by (from_stand opens (open_on b.tall
     by : IsAlikeFrom f b.problem (instances_from opens f r k) now → Passed opens f now n b m c → Passed opens f (instances_from opens f r k) n b m c
     by (inl same) x = subst (λ (es : List Instance). Passed opens f es n b m c) (sym same) x
     by (inr (none, nor)) x = passed_either opens f (instances_from opens f r k) now n m b c h none nor still x
+
+-- ---- some in place of all, where each that is enabled on f is among both, and each part that has changed since f is noted
+pub passed_beside : (opens : Open) (f : Sparse) (es fs : List Instance) (n m : Marks) (b c : Ledger) → Follows opens f b → filter (enabled_on f) fs ≡ filter (enabled_on f) es → ((x : Instance) → Contains es x → enabled_on f x ≡ true → Contains fs x)
+    → ((x : Instance) → Contains es x → goes_by_form (reach_of (rule_at x)) ≡ false) → ((a : Part) → (changes_of b.problem a ≡ changes_of f a) ⊎ Contains n.noted a) → Passed opens f fs n b m c → Passed opens f es n b m c
+passed_beside opens f es fs n m b c h same among by_value noted k = record {
+  book = k.book;
+  before = k.before;
+  committed = λ v. subst (λ (ps : List Proposed). Committed b ps c) (ap (map (proposal_of f v)) same) (k.committed v);
+  follows = k.follows;
+  tracks = λ rest t. k.tracks rest (other rest t);
+  moved = k.moved;
+  grows = k.grows;
+}
+  where
+    -- one that is not among them reads a part that has changed
+    told : (x : Instance) → Contains es x → HasMoved f b.problem (reads b.problem x) → IsMarked b.numbers b.problem n x
+    told x there (a, r, l) = by (noted a)
+      where
+        by : (changes_of b.problem a ≡ changes_of f a) ⊎ Contains n.noted a → IsMarked b.numbers b.problem n x
+        by (inl e) = absurd (omega (arith, l, e))
+        by (inr c) = inl (a, r, subst (λ (ps : List Part). Contains ps a) (sym (noted_count n (reach_of (rule_at x)) (by_value x there))) c)
+
+    other : (rest : List Instance) → Tracks n (es ++ rest) b → Tracks n (fs ++ rest) b
+    other rest t none room x on free = by (t none room x on free)
+      where
+        stands : Contains es x → HasMoved f b.problem (reads b.problem x) ⊎ (map (read_of b.problem) (reads b.problem x) ≡ map (read_of f) (reads b.problem x)) → IsTracked n (fs ++ rest) b x
+        stands there (inl moved) = inl (told x there moved)
+        stands there (inr still) = inr (Contains-append_left fs rest x (among x there (enabled_same b.problem f x (sym still) ∙ on)))
+
+        behind : Contains es x ⊎ Contains rest x → IsTracked n (fs ++ rest) b x
+        behind (inl there) = stands there (moved_or_same f b.problem (reads b.problem x) h.later)
+        behind (inr there) = inr (Contains-append_right fs rest x there)
+
+        by : IsTracked n (es ++ rest) b x → IsTracked n (fs ++ rest) b x
+        by (inl a) = inl a
+        by (inr c) = behind (Contains-append_cases es rest x c)
+
+-- ---- of some of which none is enabled any more
+pub passed_gone : (opens : Open) (f : Sparse) (n : Marks) (b : Ledger) → Follows opens f b → (es : List Instance) → ((x : Instance) → Contains es x → enabled_on b.problem x ≡ true → ⊥) → Passed opens f es n b n b
+passed_gone opens f n b h [] off = passed_none opens f n b h
+passed_gone opens f n b h (e ∷ es) off = passed_on opens f (e ∷ []) es n n n b b b (met_over opens f e n b h (off e (0, omega arith, refl))) (passed_gone opens f n b h es (λ x (k, l, g). off x (suc k, omega (arith, l), g)))

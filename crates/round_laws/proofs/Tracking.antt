@@ -17,7 +17,7 @@ use Rattle.place_laws.specs.Choosing.{proposals}
 use Rattle.place_laws.specs.Marks.{AreStirred, Grows, LetsNoMore, IsMarked, IsNoted, Marks, parts_for, RestsOnReading}
 use Rattle.dual_laws.specs.declared.form.Form.{Form}
 use Rattle.dual_laws.specs.Forms.{EachLets, Lets, LetsByCost, LetsInPairs, seen_at}
-use Rattle.presolve_model.specs.declared.instance.Reach.TheVariants.{OwnRow, OwnColumn, RowsOfBounds, ColumnsOfSides, RowsOfBoth, SoleColumns}
+use Rattle.presolve_model.specs.declared.instance.Reach.TheVariants.{OwnRow, OwnColumn, RowsOfBounds, ColumnsOfSides, RowsOfBoth, SoleColumns, RowsBeside, ColumnsBeside}
 use Rattle.presolve_model.specs.declared.instance.Reach.{Reach}
 use Rattle.presolve_model.specs.Instances.{goes_by_form, is_open, lets_by, reach_of, rule_at}
 use Rattle.presolve_model.specs.Tallies.{Open, open_on}
@@ -84,6 +84,8 @@ parts_let p q n m s RowsOfBounds t ps = absurd (true≢false (sym t))
 parts_let p q n m s ColumnsOfSides t ps = parts_seen LetsByCost p q n.stirred m.stirred s.stirred ps
 parts_let p q n m s RowsOfBoth t ps = parts_seen LetsInPairs p q n.roused m.roused s.roused ps
 parts_let p q n m s SoleColumns t ps = absurd (true≢false (sym t))
+parts_let p q n m s RowsBeside t ps = absurd (true≢false (sym t))
+parts_let p q n m s ColumnsBeside t ps = absurd (true≢false (sym t))
 
 -- the parts that count for a rule that does not
 pub noted_count : (m : Marks) (r : Reach) → goes_by_form r ≡ false → parts_for m r ≡ m.noted
@@ -93,6 +95,8 @@ noted_count m RowsOfBounds t = refl
 noted_count m ColumnsOfSides t = absurd (true≢false t)
 noted_count m RowsOfBoth t = absurd (true≢false t)
 noted_count m SoleColumns t = refl
+noted_count m RowsBeside t = refl
+noted_count m ColumnsBeside t = refl
 
 -- parts that count go on to
 counts_still : (n m : Marks) → Grows n m → (r : Reach) (a : Part) → Contains (parts_for n r) a → Contains (parts_for m r) a
@@ -102,6 +106,8 @@ counts_still n m h RowsOfBounds a c = h.noted a c
 counts_still n m h ColumnsOfSides a c = h.stirred a c
 counts_still n m h RowsOfBoth a c = h.roused a c
 counts_still n m h SoleColumns a c = h.noted a c
+counts_still n m h RowsBeside a c = h.noted a c
+counts_still n m h ColumnsBeside a c = h.noted a c
 
 module _ (n m : Marks) (es : List Instance) (b c : Ledger) (h : AreNoted b.problem c.problem n.noted m.noted) (s : AreStirred b.problem c.problem n m) (alike : c.numbers ≡ b.numbers)
     (sleeps : (a : Part) → Contains n.asleep a → Contains m.asleep a) (before : (e : Instance) → is_open (open_on c.tally) e ≡ true → is_open (open_on b.tally) e ≡ true) where

@@ -1,10 +1,11 @@
 //! Passes, and the rounds that they are.
 
-ghost use Rattle.std.specs.Prelude.{◌≡◌, ◌≢◌, ℕ, ◌<◌, true, List, [], ◌∷◌, ◌++◌, length, None};
+ghost use Rattle.std.specs.Prelude.{◌≡◌, ◌≢◌, ◌⊎◌, ℕ, ◌<◌, false, true, List, [], ◌∷◌, ◌++◌, length, None};
 ghost use Rattle.std.specs.List.{Contains, filter};
 ghost use Rattle.fractions.specs.declared.Numbers.{Numbers};
 ghost use Rattle.problem_model.specs.declared.part.Part.{Part};
 ghost use Rattle.problem_model.specs.Noted.{AreNoted};
+ghost use Rattle.problem_model.specs.Parts.{changes_of};
 ghost use Rattle.problem_model.specs.Problems.{IsSparse};
 ghost use Rattle.problem_model.specs.Reading.{Agrees};
 ghost use Rattle.problem_model.specs.Sparse.{Sparse};
@@ -17,7 +18,7 @@ ghost use Rattle.presolve_model.specs.declared.outcome.Outcome.TheVariants.{NoMe
 ghost use Rattle.presolve_model.specs.Commits.{Allows, left_by, with_instance};
 ghost use Rattle.presolve_model.specs.Enabled.{enabled_on};
 ghost use Rattle.presolve_model.specs.Given.{Proposed};
-ghost use Rattle.presolve_model.specs.Instances.{instances_from, is_open, reach_of, rests_on_reading, rule_at, rule_of, shares_reading};
+ghost use Rattle.presolve_model.specs.Instances.{goes_by_form, instances_from, is_open, reach_of, rests_on_reading, rule_at, rule_of, shares_reading};
 ghost use Rattle.presolve_model.specs.Ledger.{Ledger};
 ghost use Rattle.presolve_model.specs.Ordered.{Committed, round_list};
 ghost use Rattle.presolve_model.specs.Scans.{proposal_of};
@@ -38,13 +39,15 @@ pub fn commits_are_met()
 /// An instance at its turn: where it is not enabled nothing is done; where it is stale it is marked; else it is committed on the present
 /// problem, and what changes is noted, and stirred or roused where what is seen of it lets more, with a part that it reads. Where it is refused for a
 /// number, and such a refusal rests on what it reads, it may be put to sleep in place of that. Those of a rule's instances with a first id are
-/// met that are enabled on the present problem. Passes follow one after another.
+/// met that are enabled on the present problem. Where each part that has changed since the round began is noted, those may be left out that were
+/// not enabled then. Passes follow one after another.
 pub fn turns_pass()
     ensures over { (opens : Open) (f : Sparse) (e : Instance) (n : Marks) (b : Ledger) → Follows opens f b → (enabled_on b.problem e ≡ true → ⊥) → Passed opens f (e ∷ []) n b n b }
     ensures stale { (opens : Open) (f : Sparse) (n m : Marks) (b : Ledger) (e : Instance) (a : Part) → Follows opens f b → (IsFresh f b.problem e → ⊥) → Grows n m → Contains (heads e) a → Contains (parts_for m (reach_of (rule_at e))) a → Passed opens f (e ∷ []) n b m b }
     ensures met { (opens : Open) (f : Sparse) (w : ℕ) (n m : Marks) (b c : Ledger) (e : Instance) (o : Outcome) (a : Part) → Follows opens f b → IsFresh f b.problem e → enabled_on b.problem e ≡ true → o ≢ NoMemory → Allows b (proposal_of b.problem w e) o → c ≡ left_by b (proposal_of b.problem w e) o → AreNoted b.problem c.problem n.noted m.noted → AreStirred b.problem c.problem n m → ((x : Part) → Contains n.asleep x → Contains m.asleep x) → Contains (heads e) a → Contains (parts_for m (reach_of (rule_at e))) a → Passed opens f (e ∷ []) n b m c }
     ensures asleep { (opens : Open) (f : Sparse) (w : ℕ) (n m : Marks) (b c : Ledger) (e : Instance) (o : Outcome) (a : Part) → Follows opens f b → IsFresh f b.problem e → enabled_on b.problem e ≡ true → is_refusal o ≡ true → rests_on_reading (rule_at e) ≡ true → Allows b (proposal_of b.problem w e) o → c ≡ left_by b (proposal_of b.problem w e) o → Grows n m → Contains (heads e) a → Contains m.asleep a → Passed opens f (e ∷ []) n b m c }
     ensures found { (opens : Open) (f : Sparse) (r : Rule) (k : ℕ) (n m : Marks) (b c : Ledger) → Follows opens f b → Passed opens f (filter (enabled_on b.problem) (instances_from (open_on b.tally) b.problem r k)) n b m c → Passed opens f (instances_from opens f r k) n b m c }
+    ensures beside { (opens : Open) (f : Sparse) (es fs : List Instance) (n m : Marks) (b c : Ledger) → Follows opens f b → filter (enabled_on f) fs ≡ filter (enabled_on f) es → ((x : Instance) → Contains es x → enabled_on f x ≡ true → Contains fs x) → ((x : Instance) → Contains es x → goes_by_form (reach_of (rule_at x)) ≡ false) → ((a : Part) → (changes_of b.problem a ≡ changes_of f a) ⊎ Contains n.noted a) → Passed opens f fs n b m c → Passed opens f es n b m c }
     ensures more { (opens : Open) (f : Sparse) (es fs : List Instance) (n m k : Marks) (b c d : Ledger) → Passed opens f es n b m c → Passed opens f fs m c k d → Passed opens f (es ++ fs) n b k d }
 {}
 

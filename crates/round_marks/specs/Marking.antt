@@ -10,7 +10,7 @@ use Rattle.presolve_model.specs.Instances.{is_open, reach_of, rests_on_reading, 
 use Rattle.place_laws.specs.Marks.{IsNoted, is_refusal, Marks}
 use Rattle.round_marks.specs.Forming.{Formed, lets_by_cost, lets_in_pairs, reformed, Stirs}
 use Rattle.presolve_model.specs.declared.instance.Reach.{Reach}
-use Rattle.presolve_model.specs.declared.instance.Reach.TheVariants.{OwnRow, OwnColumn, RowsOfBounds, ColumnsOfSides, RowsOfBoth, SoleColumns}
+use Rattle.presolve_model.specs.declared.instance.Reach.TheVariants.{OwnRow, OwnColumn, RowsOfBounds, ColumnsOfSides, RowsOfBoth, SoleColumns, RowsBeside, ColumnsBeside}
 
 -- it is refused for a number, and that rests on what it reads
 abbrev pub sleeps : Instance → Outcome → Bool
@@ -29,6 +29,8 @@ left_by RowsOfBounds m a = record m { noted = m.noted ++ a ∷ [] }
 left_by ColumnsOfSides m a = record m { stirred = m.stirred ++ a ∷ [] }
 left_by RowsOfBoth m a = record m { roused = m.roused ++ a ∷ [] }
 left_by SoleColumns m a = record m { noted = m.noted ++ a ∷ [] }
+left_by RowsBeside m a = record m { noted = m.noted ++ a ∷ [] }
+left_by ColumnsBeside m a = record m { noted = m.noted ++ a ∷ [] }
 
 abbrev pub left_over : Marks → Instance → Part → Marks
 left_over m e a = left_by (reach_of (rule_at e)) m a

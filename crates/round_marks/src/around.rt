@@ -2,12 +2,15 @@
 
 ghost use Rattle.std.specs.Prelude.{◌≡◌, IfOk};
 ghost use Rattle.presolve_model.specs.declared.instance.Reach.TheVariants as reach;
-ghost use Rattle.place_laws.specs.Choosing.{all_around, all_places, AreSorted, AscendsFrom, HoldsAround, HoldsLed, HoldsParts, ids_of as ids_there, IsSorted};
+ghost use Rattle.line_groups.specs.Ascending.{AscendsFrom};
+ghost use Rattle.line_groups.specs.Groups.{AreGroupsOf};
+ghost use Rattle.place_laws.specs.Choosing.{all_around, all_places, AreSorted, HoldsAround, HoldsLed, HoldsParts, ids_of as ids_there, IsSorted};
 ghost use Rattle.place_laws.specs.Marks.{Marks};
 
 use crate::ids::{add_across, bounds_of, columns_of, ids_below, rows_of, sides_of, sort_ids};
 use crate::soles::{add_soles, add_soles_of_rows};
 use instances::reach_of;
+use line_groups::Parallels;
 use presolve_model::{Part, Reach, Rule};
 use sparse_problem::Problem;
 use std::alloc::{AllocError, Global};
@@ -122,6 +125,44 @@ fn sole_columns(
     Ok(ids)
 }
 
+/// The rows of parts, and those that are multiples of these.
+fn rows_beside(
+    alloc: Global,
+    problem: &Problem,
+    groups: &Parallels,
+    parts: &[Part],
+) -> Result<Vec<u32>, AllocError>
+    requires { AreGroupsOf groups.now problem.now }
+    ensures sorted { IfOk result (λ ids. AscendsFrom 0 ids.items) }
+    ensures holds { IfOk result (λ ids. HoldsLed problem.now reach.RowsBeside parts.now ids.items) }
+{
+    problem.is_sparse();
+    let rows = rows_of(alloc, parts)?;
+    let mut ids = Vec::from_slice(alloc, rows.as_slice())?;
+    groups.add_beside_rows(alloc, rows.as_slice(), &mut ids)?;
+    sort_ids(&mut ids);
+    Ok(ids)
+}
+
+/// The columns of parts, and those that are multiples of these.
+fn columns_beside(
+    alloc: Global,
+    problem: &Problem,
+    groups: &Parallels,
+    parts: &[Part],
+) -> Result<Vec<u32>, AllocError>
+    requires { AreGroupsOf groups.now problem.now }
+    ensures sorted { IfOk result (λ ids. AscendsFrom 0 ids.items) }
+    ensures holds { IfOk result (λ ids. HoldsLed problem.now reach.ColumnsBeside parts.now ids.items) }
+{
+    problem.is_sparse();
+    let columns = columns_of(alloc, parts)?;
+    let mut ids = Vec::from_slice(alloc, columns.as_slice())?;
+    groups.add_beside_columns(alloc, columns.as_slice(), &mut ids)?;
+    sort_ids(&mut ids);
+    Ok(ids)
+}
+
 /// Where rules are looked for, by their reach. Each list ascends.
 #[derive(Drop)]
 pub struct Around {
@@ -130,6 +171,8 @@ pub struct Around {
     columns_of_sides: Vec<u32>,
     rows_of_both: Vec<u32>,
     sole_columns: Vec<u32>,
+    rows_beside: Vec<u32>,
+    columns_beside: Vec<u32>,
 }
 
 impl Model for Around {
@@ -137,7 +180,7 @@ impl Model for Around {
 
     ghost Value = { Around };
 
-    ghost view = { λ n. record { own = n.own; rows_of_bounds = n.rows_of_bounds.items; columns_of_sides = n.columns_of_sides.items; rows_of_both = n.rows_of_both.items; sole_columns = n.sole_columns.items } };
+    ghost view = { λ n. record { own = n.own; rows_of_bounds = n.rows_of_bounds.items; columns_of_sides = n.columns_of_sides.items; rows_of_both = n.rows_of_both.items; sole_columns = n.sole_columns.items; rows_beside = n.rows_beside.items; columns_beside = n.columns_beside.items } };
 }
 
 impl Around {
@@ -150,23 +193,30 @@ impl Around {
         let columns_of_sides = ids_below(alloc, problem.column_count() as u32)?;
         let rows_of_both = ids_below(alloc, problem.row_count() as u32)?;
         let sole_columns = ids_below(alloc, problem.column_count() as u32)?;
+        let rows_beside = ids_below(alloc, problem.row_count() as u32)?;
+        let columns_beside = ids_below(alloc, problem.column_count() as u32)?;
         Ok(Around {
             own,
             rows_of_bounds,
             columns_of_sides,
             rows_of_both,
             sole_columns,
+            rows_beside,
+            columns_beside,
         })
     }
 
-    /// The rows and columns to which parts lead that are noted, stirred and roused.
+    /// The rows and columns to which parts lead that are noted, stirred and roused. Lines that are multiples of others are found by the groups
+    /// of the problem.
     pub fn of_parts(
         alloc: Global,
         problem: &Problem,
+        groups: &Parallels,
         noted: &[Part],
         stirred: &[Part],
         roused: &[Part],
     ) -> Result<Around, AllocError>
+        requires { AreGroupsOf groups.now problem.now }
         ensures sorted { IfOk result AreSorted }
         ensures holds { (marks : Marks) → marks.noted ≡ noted.now → marks.stirred ≡ stirred.now → marks.roused ≡ roused.now → IfOk result (HoldsAround problem.now marks) }
     {
@@ -176,12 +226,16 @@ impl Around {
         let columns_roused = self::columns_of_sides(alloc, problem, roused)?;
         let rows_of_both = rows_of_both(alloc, problem, roused, columns_roused.as_slice())?;
         let sole_columns = sole_columns(alloc, problem, noted, rows_of_bounds.as_slice())?;
+        let rows_beside = rows_beside(alloc, problem, groups, noted)?;
+        let columns_beside = columns_beside(alloc, problem, groups, noted)?;
         Ok(Around {
             own,
             rows_of_bounds,
             columns_of_sides,
             rows_of_both,
             sole_columns,
+            rows_beside,
+            columns_beside,
         })
     }
 
@@ -196,6 +250,8 @@ impl Around {
             Reach::ColumnsOfSides => self.columns_of_sides.as_slice(),
             Reach::RowsOfBoth => self.rows_of_both.as_slice(),
             Reach::SoleColumns => self.sole_columns.as_slice(),
+            Reach::RowsBeside => self.rows_beside.as_slice(),
+            Reach::ColumnsBeside => self.columns_beside.as_slice(),
         }
     }
 }

@@ -1,6 +1,7 @@
 //! What rounds watch.
 
 ghost use Rattle.std.specs.Prelude.{◌≡◌, ◌≢◌, ◌∷◌, ℕ, true, [], IfOk, OnOk};
+ghost use Rattle.line_groups.specs.Groups.{AreGroupsOf};
 ghost use Rattle.problem_model.specs.Noted.{AreNoted};
 ghost use Rattle.presolve_model.specs.declared.outcome.Outcome.TheVariants.{NoMemory};
 ghost use Rattle.presolve_model.specs.Commits.{Allows, left_by};
@@ -14,6 +15,7 @@ ghost use Rattle.round_marks.specs.Marking.{all_marked, left_over, marked, Notes
 use crate::around::Around;
 use crate::forms::Forms;
 use instances::{reach_of, rests_on_reading, rule_of};
+use line_groups::Parallels;
 use presolve_model::{Instance, Outcome, Part, Reach};
 use sparse_problem::Problem;
 use std::alloc::{AllocError, Global};
@@ -88,14 +90,21 @@ impl Watch {
         Ok(parts)
     }
 
-    /// The rows and columns to which what is marked leads.
-    pub fn around(&self, alloc: Global, problem: &Problem) -> Result<Around, AllocError>
+    /// The rows and columns to which what is marked leads. Lines that are multiples of others are found by the groups of the problem.
+    pub fn around(
+        &self,
+        alloc: Global,
+        problem: &Problem,
+        groups: &Parallels,
+    ) -> Result<Around, AllocError>
+        requires { AreGroupsOf groups.now problem.now }
         ensures sorted { IfOk result AreSorted }
         ensures holds { IfOk result (HoldsAround problem.now self.now.marks) }
     {
         Around::of_parts(
             alloc,
             problem,
+            groups,
             self.noted.as_slice(),
             self.stirred.as_slice(),
             self.roused.as_slice(),
@@ -173,9 +182,12 @@ impl Watch {
         ensures { OnOk result (self.new ≡ record { marks = left_over self.old.marks instance part; forms = self.old.forms }) }
     {
         match reach_of(rule_of(instance)) {
-            Reach::OwnRow | Reach::OwnColumn | Reach::RowsOfBounds | Reach::SoleColumns => {
-                self.noted.push(part)?
-            }
+            Reach::OwnRow
+            | Reach::OwnColumn
+            | Reach::RowsOfBounds
+            | Reach::SoleColumns
+            | Reach::RowsBeside
+            | Reach::ColumnsBeside => self.noted.push(part)?,
             Reach::ColumnsOfSides => self.stirred.push(part)?,
             Reach::RowsOfBoth => self.roused.push(part)?,
         }

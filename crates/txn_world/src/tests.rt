@@ -3,7 +3,8 @@
 use crate::models::{Model, problem};
 use crate::{Event, World};
 use fractions::Numbers;
-use instances::{Chunk, Tally, is_enabled, scan};
+use instances::{Chunk, Proposal, Tally, is_enabled, scan};
+use line_groups::Parallels;
 use presolve_model::{Instance, Outcome, Part, Reduction, Rule, Verdict};
 use sparse_problem::Problem;
 use std::alloc::{AllocError, Global};
@@ -210,6 +211,17 @@ const STORIES: [Story; 9] = [
     },
 ];
 
+/// The enabled instances of a rule on a problem.
+fn found_in(
+    alloc: Global,
+    problem: &Problem,
+    tally: &Tally,
+    rule: Rule,
+) -> Result<Vec<Proposal>, AllocError> {
+    let groups = Parallels::of(alloc, problem)?;
+    scan(alloc, problem, &groups, tally, 0, rule, Chunk::new(0))
+}
+
 /// A worker proposes the instances of a rule on a problem.
 fn propose(
     rt: &impl Abort,
@@ -220,7 +232,7 @@ fn propose(
     tally: &Tally,
     (rule, count): (Rule, usize),
 ) -> Result<(), Fail> {
-    let found = scan(alloc, problem, tally, 0, rule, Chunk::new(0))?;
+    let found = found_in(alloc, problem, tally, rule)?;
     assert_eq!(rt; found.len(), count);
     for proposal in found {
         let answer = world.step(alloc, Event::Propose(worker, proposal))?;

@@ -1,5 +1,5 @@
 -- What the rules say at other ids, by cases: one line a rule, and what a rule reads and computes in a lemma of its own.
-use Rattle.std.proofs.Common.{◌≡◌, ◌↔◌, ℕ, true, ◌&&◌, List, [], ◌∷◌, ◌++◌, get_or, map, Option, unwrap_or, refl, sym, ap, ap₂, ◌∙◌, subst, arith}
+use Rattle.std.proofs.Common.{◌≡◌, ◌↔◌, ℕ, true, false, ◌&&◌, List, [], ◌∷◌, ◌++◌, get_or, map, Option, unwrap_or, refl, sym, ap, ap₂, ◌∙◌, subst, arith, true≢false}
 use Rattle.std.specs.Prelude.{if◌then◌else◌}
 use Rattle.std.specs.List.{All, filter}
 use Rattle.std.proofs.lemmas.List.{map-append}
@@ -54,6 +54,8 @@ use Rattle.coef_laws.proofs.Changing as coefficients
 use Rattle.column_laws.proofs.FreeColumn as free_column
 use Rattle.column_laws.proofs.SlackColumn as slack_column
 use Rattle.aggregation_laws.proofs.DoubletonEquation as doubleton_equation
+use Rattle.parallel_column_laws.proofs.ParallelColumns as parallel_columns
+use Rattle.parallel_row_laws.proofs.ParallelRows as parallel_rows
 use Rattle.dual_laws.specs.DominatedColumn.{pairs_of}
 use Rattle.dual_laws.proofs.FixedByCost as fixed_by_cost
 use Rattle.dual_laws.proofs.DominatedColumn as dominated_column
@@ -61,13 +63,14 @@ use Rattle.dual_laws.proofs.Ray as ray
 use Rattle.presolve_model.specs.declared.instance.Instance.{Instance}
 use Rattle.presolve_model.specs.declared.instance.Instance.TheVariants as at
 use Rattle.presolve_model.specs.declared.instance.Reduction.{Reduction}
-use Rattle.presolve_model.specs.declared.instance.Reduction.TheVariants.{EmptyRow, SingletonRow, FixedColumn, RoundBounds, RedundantRow, RedundantSide, ForcingRow, TightenedBound, TightenedCoefficient, FixedByCost, DominatedColumn, DoubletonEquation, FreeColumn, SlackColumn, EmptyColumn}
+use Rattle.presolve_model.specs.declared.instance.Reduction.TheVariants.{EmptyRow, SingletonRow, FixedColumn, RoundBounds, RedundantRow, RedundantSide, ForcingRow, TightenedBound, TightenedCoefficient, FixedByCost, DominatedColumn, DoubletonEquation, FreeColumn, SlackColumn, ParallelRows, ParallelColumns, EmptyColumn}
 use Rattle.presolve_model.specs.declared.instance.Rule.{Rule}
 use Rattle.presolve_model.specs.declared.instance.Rule.TheVariants as rule
 use Rattle.presolve_model.specs.declared.instance.Verdict.{Verdict}
 use Rattle.presolve_model.specs.declared.instance.Verdict.TheVariants.{CrossedBounds, CrossedSides, OutOfReach, Ray}
 use Rattle.presolve_model.specs.Enabled.{enabled_on}
-use Rattle.presolve_model.specs.Instances.{both_orders, instances_from, is_of_rows, is_open, sole_row}
+use Rattle.presolve_model.specs.Instances.{beside_at, both_orders, goes_by_groups, instances_from, is_of_rows, is_open, sole_row}
+use Rattle.presolve_model.specs.Scans.{all_ids}
 use Rattle.presolve_model.specs.Tables.{Computes, edits, heads_of, holds_by, holds_of, looked_at_by, more_by, more_of}
 use Rattle.presolve_model.specs.Tallies.{Open}
 use Rattle.written_ids.specs.NewIds.{Ids, new_ids, term_at, terms_at}
@@ -83,6 +86,7 @@ use Rattle.written_rules.proofs.Activities.{bound_there, bounds_read_at, bounds_
 use Rattle.written_rules.proofs.DominatedColumn.{dominated_alike, lines_there, sides_of_both_at, sides_of_both_there}
 use Rattle.written_rules.proofs.DoubletonEquation.{doubleton_alike, doubleton_computes, doubleton_edits, pair_there}
 use Rattle.written_rules.proofs.Locks.{fixed_by_cost_alike, place_kept, ray_alike}
+use Rattle.written_rules.proofs.Parallels.{columns_there, parallel_columns_alike, parallel_columns_computes, parallel_columns_edits, parallel_rows_alike, parallel_rows_computes, parallel_rows_edits, rows_there}
 use Rattle.written_rules.proofs.SoleColumns.{free_column_alike, free_column_computes, free_column_edits, free_there, slack_column_alike, slack_column_computes, slack_column_edits, slack_there}
 use Rattle.written_rules.proofs.TightenedCoefficient.{coefficient_alike, coefficient_computes, coefficient_edits, coefficient_there}
 
@@ -102,6 +106,8 @@ reduction_at n (DominatedColumn i j k) = DominatedColumn (n.row i) (n.column j) 
 reduction_at n (DoubletonEquation i j k) = DoubletonEquation (n.row i) (n.column j) (n.column k)
 reduction_at n (FreeColumn j i) = FreeColumn (n.column j) (n.row i)
 reduction_at n (SlackColumn j i) = SlackColumn (n.column j) (n.row i)
+reduction_at n (ParallelRows i k) = ParallelRows (n.row i) (n.row k)
+reduction_at n (ParallelColumns j k) = ParallelColumns (n.column j) (n.column k)
 reduction_at n (EmptyColumn j) = EmptyColumn (n.column j)
 
 abbrev pub verdict_at : Ids → Verdict → Verdict
@@ -148,6 +154,8 @@ reduction_heads n (DominatedColumn i j k) = refl
 reduction_heads n (DoubletonEquation i j k) = refl
 reduction_heads n (FreeColumn j i) = refl
 reduction_heads n (SlackColumn j i) = refl
+reduction_heads n (ParallelRows i k) = refl
+reduction_heads n (ParallelColumns j k) = refl
 reduction_heads n (EmptyColumn j) = refl
 
 pub verdict_heads : (n : Ids) (v : Verdict) → looked_at_by (verdict_at n v) ≡ map (part_at n) (looked_at_by v)
@@ -173,6 +181,8 @@ module _ (n : Ids) (p : Sparse) (o : AreOneToOne n p) where
   reduction_more (DoubletonEquation i j k) = refl
   reduction_more (FreeColumn j i) = bounds_read_at n p i
   reduction_more (SlackColumn j i) = refl
+  reduction_more (ParallelRows i k) = refl
+  reduction_more (ParallelColumns j k) = refl
   reduction_more (EmptyColumn j) = refl
 
   pub verdict_more : (v : Verdict) → more_by (verdict_at n v) (map (contents_at n) (map (contents_of p) (looked_at_by v))) ≡ map (part_at n) (more_by v (map (contents_of p) (looked_at_by v)))
@@ -197,6 +207,8 @@ reduction_names p (DominatedColumn i j k) = sides_of_both_there p j k
 reduction_names p (DoubletonEquation i j k) = All-nil (IsThere p)
 reduction_names p (FreeColumn j i) = bounds_read_there p i
 reduction_names p (SlackColumn j i) = All-nil (IsThere p)
+reduction_names p (ParallelRows i k) = All-nil (IsThere p)
+reduction_names p (ParallelColumns j k) = All-nil (IsThere p)
 reduction_names p (EmptyColumn j) = All-nil (IsThere p)
 
 pub verdict_names : (p : Sparse) (v : Verdict) → All (IsThere p) (more_by v (map (contents_of p) (looked_at_by v)))
@@ -251,6 +263,8 @@ module _ (n : Ids) (p : Sparse) (o : AreOneToOne n p) where
   reduction_holds (DoubletonEquation i j k) h = doubleton_alike n p o i j k (h 2 (Row i) (omega arith)) (h 3 (Row i) (omega arith)) (h 0 (Row i) (omega arith))
   reduction_holds (FreeColumn j i) h = free_column_alike n p o j i (h 0 (Row i) (omega arith)) (h 2 (Row i) (omega arith))
   reduction_holds (SlackColumn j i) h = slack_column_alike n p o j i (h 0 (Row i) (omega arith)) (h 2 (Row i) (omega arith))
+  reduction_holds (ParallelRows i k) h = parallel_rows_alike n p o i k (h 0 (Row i) (omega arith)) (h 1 (Row i) (omega arith))
+  reduction_holds (ParallelColumns j k) h = parallel_columns_alike n p o j k (h 0 (Col j) (omega arith)) (h 1 (Col j) (omega arith))
   reduction_holds (EmptyColumn j) h = empty_column_alike n (contents_of p (Col j)) (contents_of p (Bounds j))
 
   pub verdict_holds : (v : Verdict) → AreThere p (looked_at_by v)
@@ -276,6 +290,8 @@ reduction_there p (DominatedColumn i j k) e = let o = dominated_column.said p i 
 reduction_there p (DoubletonEquation i j k) e = let o = doubleton_equation.said p i j k e in pair_there p i j k o.row_on o.first_on o.second_on
 reduction_there p (FreeColumn j i) e = let o = free_column.said p j i e in free_there p j i o.row_live o.column.live
 reduction_there p (SlackColumn j i) e = let o = slack_column.said p j i e in slack_there p j i o.row_live o.column_live
+reduction_there p (ParallelRows i k) e = let o = parallel_rows.said p i k e in rows_there p i k o.first_live o.second_live
+reduction_there p (ParallelColumns j k) e = let o = parallel_columns.said p j k e in columns_there p j k o.first_live o.second_live
 reduction_there p (EmptyColumn j) e = let on = (empty_column.said p j e).live in all_two (IsThere p) (Col j) (Bounds j) on on
 
 pub verdict_there : (p : Sparse) (v : Verdict) → enabled_on p (at.Verdict v) ≡ true → All (IsThere p) (looked_at_by v)
@@ -303,6 +319,8 @@ reduction_back n m (DominatedColumn i j k) h = λ t. DominatedColumn (h 0 (Row i
 reduction_back n m (DoubletonEquation i j k) h = λ t. DoubletonEquation (h 0 (Row i) (omega arith) t) (h 2 (Row i) (omega arith) t) (h 3 (Row i) (omega arith) t)
 reduction_back n m (FreeColumn j i) h = λ t. FreeColumn (h 2 (Row i) (omega arith) t) (h 0 (Row i) (omega arith) t)
 reduction_back n m (SlackColumn j i) h = λ t. SlackColumn (h 2 (Row i) (omega arith) t) (h 0 (Row i) (omega arith) t)
+reduction_back n m (ParallelRows i k) h = λ t. ParallelRows (h 0 (Row i) (omega arith) t) (h 1 (Row i) (omega arith) t)
+reduction_back n m (ParallelColumns j k) h = λ t. ParallelColumns (h 0 (Col j) (omega arith) t) (h 1 (Col j) (omega arith) t)
 reduction_back n m (EmptyColumn j) h = ap (λ k. EmptyColumn k) (All-head (ComesBack n m) (Col j) (Bounds j ∷ []) h)
 
 pub verdict_back : (n m : Ids) (v : Verdict) → All (ComesBack n m) (looked_at_by v) → verdict_at n (verdict_at m v) ≡ v
@@ -387,6 +405,8 @@ module _ (n : Ids) (p q : Sparse) (s : LinesStand n p q) where
   edits_stand (DoubletonEquation i j k) e = let o = doubleton_equation.said p i j k e in doubleton_edits n p q s i j k o.row_on o.first_on o.second_on
   edits_stand (FreeColumn j i) e = let o = free_column.said p j i e in free_column_edits n p q s j i o.row_live o.column.live
   edits_stand (SlackColumn j i) e = let o = slack_column.said p j i e in slack_column_edits n p q s j i o.row_live o.column_live
+  edits_stand (ParallelRows i k) e = let o = parallel_rows.said p i k e in parallel_rows_edits n p q s i k o.first_live o.second_live
+  edits_stand (ParallelColumns j k) e = let o = parallel_columns.said p j k e in parallel_columns_edits n p q s j k o.first_live o.second_live
   edits_stand (EmptyColumn j) e = ap (λ (o : Option Number). SetBounds (n.column j) o o ∷ []) (place_same j (empty_column.said p j e).live)
 
   pub computes_stand : (r : Reduction) → enabled_on p (at.Reduction r) ≡ true → Computes r p ↔ Computes (reduction_at n r) q
@@ -405,6 +425,8 @@ module _ (n : Ids) (p q : Sparse) (s : LinesStand n p q) where
   computes_stand (DoubletonEquation i j k) e = let o = doubleton_equation.said p i j k e in doubleton_computes n p q s i j k o.row_on o.first_on o.second_on
   computes_stand (FreeColumn j i) e = let o = free_column.said p j i e in free_column_computes n p q s j i o.row_live o.column.live
   computes_stand (SlackColumn j i) e = let o = slack_column.said p j i e in slack_column_computes n p q s j i o.row_live o.column_live
+  computes_stand (ParallelRows i k) e = let o = parallel_rows.said p i k e in parallel_rows_computes n p q s i k o.first_live o.second_live
+  computes_stand (ParallelColumns j k) e = let o = parallel_columns.said p j k e in parallel_columns_computes n p q s j k o.first_live o.second_live
   computes_stand (EmptyColumn j) e = (λ h. h, λ h. h)
 
 -- ---- a bound that is open at its new id, and every other instance
@@ -417,7 +439,7 @@ open_stands old p new a other h = refl
 abbrev pub lines_of : Sparse → Rule → List Line
 lines_of p kind = if is_of_rows kind then p.matrix.rows else p.matrix.columns
 
--- ---- the instances at a line: as many at its new id, each there exactly where the line is live
+-- ---- the instances at a line, of a rule that does not go by groups: as many at its new id, each there exactly where the line is live
 abbrev pub IsAtLine : Sparse → Rule → ℕ → Instance → Type 0
 IsAtLine p kind k e = ((line_at (lines_of p kind) k).live ≡ true) ↔ AreThere p (own e)
 
@@ -552,45 +574,67 @@ slack_at_line : (p : Sparse) (j : ℕ) → All (IsAtLine p rule.SlackColumn j) (
 slack_at_line p j = let rows = sole_row (column_entries p j) in
     All-map (IsAtLine p rule.SlackColumn j) (slack_in j) rows (λ a d l. (λ h. slack_there p j (get_or rows a d) (sole_row_live p j a d l) h, λ h. h 2 (Col j) (omega arith)))
 
-pub instances_stand : (old : Open) (p : Sparse) (new : Open) (q : Sparse) → LinesStand (new_ids p) p q → AreOpenAlike old p new → (kind : Rule) (k : ℕ) → (line_at (lines_of p kind) k).live ≡ true
-    → instances_from new q kind (rank (lines_of p kind) k) ≡ map (instance_at (new_ids p)) (instances_from old p kind k)
-instances_stand old p new q s a rule.CrossedBounds k on = refl
-instances_stand old p new q s a rule.CrossedSides k on = refl
-instances_stand old p new q s a rule.OutOfReach k on = refl
-instances_stand old p new q s a rule.Ray k on = refl
-instances_stand old p new q s a rule.EmptyRow k on = refl
-instances_stand old p new q s a rule.SingletonRow k on = refl
-instances_stand old p new q s a rule.FixedColumn k on = refl
-instances_stand old p new q s a rule.RoundBounds k on = refl
-instances_stand old p new q s a rule.RedundantRow k on = refl
-instances_stand old p new q s a rule.RedundantSide k on = refl
-instances_stand old p new q s a rule.ForcingRow k on = refl
-instances_stand old p new q s a rule.TightenedBound k on = tightened_stand old p new q s a k on
-instances_stand old p new q s a rule.TightenedCoefficient k on = coefficients_stand p q s k on
-instances_stand old p new q s a rule.FixedByCost k on = refl
-instances_stand old p new q s a rule.DominatedColumn k on = dominated_stand p q s k on
-instances_stand old p new q s a rule.DoubletonEquation k on = doubletons_stand p q s k on
-instances_stand old p new q s a rule.FreeColumn k on = soles_stand p q s k on (free_in k) (free_in (rank p.matrix.columns k)) (λ i. refl)
-instances_stand old p new q s a rule.SlackColumn k on = soles_stand p q s k on (slack_in k) (slack_in (rank p.matrix.columns k)) (λ i. refl)
-instances_stand old p new q s a rule.EmptyColumn k on = refl
+pub instances_stand : (old : Open) (p : Sparse) (new : Open) (q : Sparse) → LinesStand (new_ids p) p q → AreOpenAlike old p new → (kind : Rule) (k : ℕ) → goes_by_groups kind ≡ false
+    → (line_at (lines_of p kind) k).live ≡ true → instances_from new q kind (rank (lines_of p kind) k) ≡ map (instance_at (new_ids p)) (instances_from old p kind k)
+instances_stand old p new q s a rule.CrossedBounds k g on = refl
+instances_stand old p new q s a rule.CrossedSides k g on = refl
+instances_stand old p new q s a rule.OutOfReach k g on = refl
+instances_stand old p new q s a rule.Ray k g on = refl
+instances_stand old p new q s a rule.EmptyRow k g on = refl
+instances_stand old p new q s a rule.SingletonRow k g on = refl
+instances_stand old p new q s a rule.FixedColumn k g on = refl
+instances_stand old p new q s a rule.RoundBounds k g on = refl
+instances_stand old p new q s a rule.RedundantRow k g on = refl
+instances_stand old p new q s a rule.RedundantSide k g on = refl
+instances_stand old p new q s a rule.ForcingRow k g on = refl
+instances_stand old p new q s a rule.TightenedBound k g on = tightened_stand old p new q s a k on
+instances_stand old p new q s a rule.TightenedCoefficient k g on = coefficients_stand p q s k on
+instances_stand old p new q s a rule.FixedByCost k g on = refl
+instances_stand old p new q s a rule.DominatedColumn k g on = dominated_stand p q s k on
+instances_stand old p new q s a rule.DoubletonEquation k g on = doubletons_stand p q s k on
+instances_stand old p new q s a rule.FreeColumn k g on = soles_stand p q s k on (free_in k) (free_in (rank p.matrix.columns k)) (λ i. refl)
+instances_stand old p new q s a rule.SlackColumn k g on = soles_stand p q s k on (slack_in k) (slack_in (rank p.matrix.columns k)) (λ i. refl)
+instances_stand old p new q s a rule.ParallelRows k g on = absurd (true≢false g)
+instances_stand old p new q s a rule.ParallelColumns k g on = absurd (true≢false g)
+instances_stand old p new q s a rule.EmptyColumn k g on = refl
 
-pub instances_at_line : (opens : Open) (p : Sparse) (kind : Rule) (k : ℕ) → All (IsAtLine p kind k) (instances_from opens p kind k)
-instances_at_line opens p rule.CrossedBounds k = all_one (IsAtLine p rule.CrossedBounds k) (at.Verdict (CrossedBounds k)) (one_part p (Bounds k))
-instances_at_line opens p rule.CrossedSides k = all_one (IsAtLine p rule.CrossedSides k) (at.Verdict (CrossedSides k)) (one_part p (Sides k))
-instances_at_line opens p rule.OutOfReach k = all_one (IsAtLine p rule.OutOfReach k) (at.Verdict (OutOfReach k)) (two_parts p (Row k) (Sides k) (λ h. h))
-instances_at_line opens p rule.Ray k = all_one (IsAtLine p rule.Ray k) (at.Verdict (Ray k)) (two_parts p (Col k) (Bounds k) (λ h. h))
-instances_at_line opens p rule.EmptyRow k = all_one (IsAtLine p rule.EmptyRow k) (at.Reduction (EmptyRow k)) (two_parts p (Row k) (Sides k) (λ h. h))
-instances_at_line opens p rule.SingletonRow k = all_one (IsAtLine p rule.SingletonRow k) (at.Reduction (SingletonRow k)) (two_parts p (Row k) (Sides k) (λ h. h))
-instances_at_line opens p rule.FixedColumn k = all_one (IsAtLine p rule.FixedColumn k) (at.Reduction (FixedColumn k)) (two_parts p (Col k) (Bounds k) (λ h. h))
-instances_at_line opens p rule.RoundBounds k = all_one (IsAtLine p rule.RoundBounds k) (at.Reduction (RoundBounds k)) (one_part p (Bounds k))
-instances_at_line opens p rule.RedundantRow k = all_one (IsAtLine p rule.RedundantRow k) (at.Reduction (RedundantRow k)) (two_parts p (Row k) (Sides k) (λ h. h))
-instances_at_line opens p rule.RedundantSide k = all_one (IsAtLine p rule.RedundantSide k) (at.Reduction (RedundantSide k)) (two_parts p (Row k) (Sides k) (λ h. h))
-instances_at_line opens p rule.ForcingRow k = all_one (IsAtLine p rule.ForcingRow k) (at.Reduction (ForcingRow k)) (two_parts p (Row k) (Sides k) (λ h. h))
-instances_at_line opens p rule.TightenedBound k = tightened_at_line opens p k
-instances_at_line opens p rule.TightenedCoefficient k = coefficients_at_line p k
-instances_at_line opens p rule.FixedByCost k = all_one (IsAtLine p rule.FixedByCost k) (at.Reduction (FixedByCost k)) (two_parts p (Col k) (Bounds k) (λ h. h))
-instances_at_line opens p rule.DominatedColumn k = dominated_at_line p k
-instances_at_line opens p rule.DoubletonEquation k = doubletons_at_line p k
-instances_at_line opens p rule.FreeColumn k = free_at_line p k
-instances_at_line opens p rule.SlackColumn k = slack_at_line p k
-instances_at_line opens p rule.EmptyColumn k = all_one (IsAtLine p rule.EmptyColumn k) (at.Reduction (EmptyColumn k)) (two_parts p (Col k) (Bounds k) (λ h. h))
+pub instances_at_line : (opens : Open) (p : Sparse) (kind : Rule) (k : ℕ) → goes_by_groups kind ≡ false → All (IsAtLine p kind k) (instances_from opens p kind k)
+instances_at_line opens p rule.CrossedBounds k g = all_one (IsAtLine p rule.CrossedBounds k) (at.Verdict (CrossedBounds k)) (one_part p (Bounds k))
+instances_at_line opens p rule.CrossedSides k g = all_one (IsAtLine p rule.CrossedSides k) (at.Verdict (CrossedSides k)) (one_part p (Sides k))
+instances_at_line opens p rule.OutOfReach k g = all_one (IsAtLine p rule.OutOfReach k) (at.Verdict (OutOfReach k)) (two_parts p (Row k) (Sides k) (λ h. h))
+instances_at_line opens p rule.Ray k g = all_one (IsAtLine p rule.Ray k) (at.Verdict (Ray k)) (two_parts p (Col k) (Bounds k) (λ h. h))
+instances_at_line opens p rule.EmptyRow k g = all_one (IsAtLine p rule.EmptyRow k) (at.Reduction (EmptyRow k)) (two_parts p (Row k) (Sides k) (λ h. h))
+instances_at_line opens p rule.SingletonRow k g = all_one (IsAtLine p rule.SingletonRow k) (at.Reduction (SingletonRow k)) (two_parts p (Row k) (Sides k) (λ h. h))
+instances_at_line opens p rule.FixedColumn k g = all_one (IsAtLine p rule.FixedColumn k) (at.Reduction (FixedColumn k)) (two_parts p (Col k) (Bounds k) (λ h. h))
+instances_at_line opens p rule.RoundBounds k g = all_one (IsAtLine p rule.RoundBounds k) (at.Reduction (RoundBounds k)) (one_part p (Bounds k))
+instances_at_line opens p rule.RedundantRow k g = all_one (IsAtLine p rule.RedundantRow k) (at.Reduction (RedundantRow k)) (two_parts p (Row k) (Sides k) (λ h. h))
+instances_at_line opens p rule.RedundantSide k g = all_one (IsAtLine p rule.RedundantSide k) (at.Reduction (RedundantSide k)) (two_parts p (Row k) (Sides k) (λ h. h))
+instances_at_line opens p rule.ForcingRow k g = all_one (IsAtLine p rule.ForcingRow k) (at.Reduction (ForcingRow k)) (two_parts p (Row k) (Sides k) (λ h. h))
+instances_at_line opens p rule.TightenedBound k g = tightened_at_line opens p k
+instances_at_line opens p rule.TightenedCoefficient k g = coefficients_at_line p k
+instances_at_line opens p rule.FixedByCost k g = all_one (IsAtLine p rule.FixedByCost k) (at.Reduction (FixedByCost k)) (two_parts p (Col k) (Bounds k) (λ h. h))
+instances_at_line opens p rule.DominatedColumn k g = dominated_at_line p k
+instances_at_line opens p rule.DoubletonEquation k g = doubletons_at_line p k
+instances_at_line opens p rule.FreeColumn k g = free_at_line p k
+instances_at_line opens p rule.SlackColumn k g = slack_at_line p k
+instances_at_line opens p rule.ParallelRows k g = absurd (true≢false g)
+instances_at_line opens p rule.ParallelColumns k g = absurd (true≢false g)
+instances_at_line opens p rule.EmptyColumn k g = all_one (IsAtLine p rule.EmptyColumn k) (at.Reduction (EmptyColumn k)) (two_parts p (Col k) (Bounds k) (λ h. h))
+
+-- ---- the instances at a line, of a rule that goes by groups: one for each second line, there exactly where both lines are live
+pub groups_from : (opens : Open) (p : Sparse) (kind : Rule) (i : ℕ) → goes_by_groups kind ≡ true → instances_from opens p kind i ≡ map (beside_at kind i) (all_ids p kind)
+groups_from opens p rule.ParallelRows i g = refl
+groups_from opens p rule.ParallelColumns j g = refl
+groups_from opens p kind i g = absurd (true≢false (sym g))
+
+pub groups_stand : (p : Sparse) (kind : Rule) (i k : ℕ) → goes_by_groups kind ≡ true
+    → beside_at kind (rank (lines_of p kind) i) (rank (lines_of p kind) k) ≡ instance_at (new_ids p) (beside_at kind i k)
+groups_stand p rule.ParallelRows i k g = refl
+groups_stand p rule.ParallelColumns j k g = refl
+groups_stand p kind i k g = absurd (true≢false (sym g))
+
+pub groups_at_lines : (p : Sparse) (kind : Rule) (i k : ℕ) → goes_by_groups kind ≡ true
+    → (((line_at (lines_of p kind) i).live ≡ true) × ((line_at (lines_of p kind) k).live ≡ true)) ↔ AreThere p (own (beside_at kind i k))
+groups_at_lines p rule.ParallelRows i k g = (λ h. rows_there p i k h.0 h.1, λ h. (h 0 (Row i) (omega arith), h 1 (Row i) (omega arith)))
+groups_at_lines p rule.ParallelColumns j k g = (λ h. columns_there p j k h.0 h.1, λ h. (h 0 (Col j) (omega arith), h 1 (Col j) (omega arith)))
+groups_at_lines p kind i k g = absurd (true≢false (sym g))

@@ -3,7 +3,7 @@ use Rattle.std.proofs.Common.{◌≡◌, ℕ, suc, ◌+◌, Bool, true, false, c
 use Rattle.std.specs.Prelude.{if◌then◌else◌}
 use Rattle.std.specs.List.{All, filter, flat_map, range_with_len}
 use Rattle.std.proofs.lemmas.List.{length-append}
-use Rattle.std.proofs.lemmas.List.Elements.{All-head, All-tail, filter-append}
+use Rattle.std.proofs.lemmas.List.Elements.{All-head, All-map, All-tail, filter-append}
 use Rattle.problem_model.specs.declared.line.Line.{Line}
 use Rattle.problem_model.specs.Matrices.{line_at}
 use Rattle.problem_model.specs.Programs.{live_ids, live_ids_from, rank}
@@ -13,15 +13,16 @@ use Rattle.program_laws.proofs.Ranks.{id_if, rank-dead, rank-live, rank-zero}
 use Rattle.presolve_model.specs.declared.instance.Instance.{Instance}
 use Rattle.presolve_model.specs.declared.instance.Rule.{Rule}
 use Rattle.presolve_model.specs.Enabled.{enabled_on}
-use Rattle.presolve_model.specs.Instances.{id_count, instances_from, is_of_rows}
+use Rattle.presolve_model.specs.Instances.{beside_at, goes_by_groups, id_count, instances_from, is_of_rows}
 use Rattle.presolve_model.specs.Order.{reduction_order}
 use Rattle.presolve_model.specs.Scans.{all_ids, all_of, instances_at}
 use Rattle.presolve_model.specs.Stuck.{skipped_on}
 use Rattle.presolve_model.specs.Tallies.{Open}
 use Rattle.written_ids.specs.NewIds.{new_ids}
 use Rattle.written_ids.specs.Standing.{IsLeft}
+use Rattle.written_ids.proofs.Lists.{all_one}
 use Rattle.written_laws.specs.Left.{AreOpenAlike}
-use Rattle.written_laws.proofs.ByCases.{instance_at, instances_at_line, instances_stand, lines_of}
+use Rattle.written_laws.proofs.ByCases.{groups_at_lines, groups_from, groups_stand, instance_at, instances_at_line, instances_stand, lines_of}
 use Rattle.written_laws.proofs.Tabled.{enabled_stands, there_where_enabled}
 
 -- how many pass a test
@@ -44,6 +45,11 @@ passing_alike t u f (e ∷ es) h = by (u (f e)) (t e) (All-head (λ e. u (f e) �
 passing_none : (t : Instance → Bool) (es : List Instance) → All (λ e. t e ≡ false) es → passing t es ≡ 0
 passing_none t [] h = refl
 passing_none t (e ∷ es) h = rw (All-head (λ e. t e ≡ false) e es h) (passing_none t es (All-tail (λ e. t e ≡ false) e es h))
+
+-- the items of a list, each in a list of its own
+singles : (f : ℕ → Instance) (ks : List ℕ) → map f ks ≡ flat_map (λ k. f k ∷ []) ks
+singles f [] = refl
+singles f (k ∷ ks) = ap (λ es. f k ∷ es) (singles f ks)
 
 -- ---- over lines
 -- line i stands for the items at k + i of one list, and if it is live for those at its rank, from b on, of the other
@@ -80,21 +86,12 @@ module _ (t u : Instance → Bool) (f g : ℕ → List Instance) where
 
 -- ---- over rules
 module _ (old : Open) (p : Sparse) (new : Open) (q : Sparse) (l : IsLeft p q) (a : AreOpenAlike old p new) where
-  at_live : (kind : Rule) (i : ℕ) → (line_at (lines_of p kind) i).live ≡ true → passing (enabled_on q) (instances_from new q kind (rank (lines_of p kind) i)) ≡ passing (enabled_on p) (instances_from old p kind i)
-  at_live kind i h = ap (passing (enabled_on q)) (instances_stand old p new q l.stands a kind i h)
-      ∙ passing_alike (enabled_on p) (enabled_on q) (instance_at (new_ids p)) (instances_from old p kind i)
-      (λ k d m. let e = get_or (instances_from old p kind i) k d in enabled_stands (new_ids p) p q l.stands e ((instances_at_line old p kind i k d m).0 h))
-
   not_enabled : (e : Instance) → (enabled_on p e ≡ true → ⊥) → enabled_on p e ≡ false
   not_enabled e none = by (enabled_on p e) refl
     where
       by : (b : Bool) → enabled_on p e ≡ b → b ≡ false
       by true on = absurd (none on)
       by false on = refl
-
-  at_dead : (kind : Rule) (i : ℕ) → (line_at (lines_of p kind) i).live ≡ false → passing (enabled_on p) (instances_from old p kind i) ≡ 0
-  at_dead kind i h = passing_none (enabled_on p) (instances_from old p kind i)
-      (λ k d m. let e = get_or (instances_from old p kind i) k d in not_enabled e (λ on. not_both ((instances_at_line old p kind i k d m).1 (there_where_enabled p e on)) h))
 
   ids_left : (kind : Rule) → id_count q kind ≡ length (live_ids (lines_of p kind))
   ids_left kind = by (is_of_rows kind)
@@ -109,6 +106,72 @@ module _ (old : Open) (p : Sparse) (new : Open) (q : Sparse) (l : IsLeft p q) (a
       by : (b : Bool) → length (if b then p.matrix.rows else p.matrix.columns) ≡ (if b then length p.matrix.rows else length p.matrix.columns)
       by true = refl
       by false = refl
+
+  -- a rule that does not go by groups
+  module _ (kind : Rule) (i : ℕ) (single : goes_by_groups kind ≡ false) where
+    alone_live : (line_at (lines_of p kind) i).live ≡ true → passing (enabled_on q) (instances_from new q kind (rank (lines_of p kind) i)) ≡ passing (enabled_on p) (instances_from old p kind i)
+    alone_live h = ap (passing (enabled_on q)) (instances_stand old p new q l.stands a kind i single h)
+        ∙ passing_alike (enabled_on p) (enabled_on q) (instance_at (new_ids p)) (instances_from old p kind i)
+        (λ k d m. let e = get_or (instances_from old p kind i) k d in enabled_stands (new_ids p) p q l.stands e ((instances_at_line old p kind i single k d m).0 h))
+
+    alone_dead : (line_at (lines_of p kind) i).live ≡ false → passing (enabled_on p) (instances_from old p kind i) ≡ 0
+    alone_dead h = passing_none (enabled_on p) (instances_from old p kind i)
+        (λ k d m. let e = get_or (instances_from old p kind i) k d in not_enabled e (λ on. not_both ((instances_at_line old p kind i single k d m).1 (there_where_enabled p e on)) h))
+
+  -- a rule that goes by groups: its instances with a first line, counted over all second ones
+  module _ (kind : Rule) (i : ℕ) (groups : goes_by_groups kind ≡ true) where
+    abbrev lines : List Line
+    lines = lines_of p kind
+
+    abbrev at_two : ℕ → List Instance
+    at_two k = beside_at kind i k ∷ []
+
+    abbrev at_new_two : ℕ → List Instance
+    at_new_two b = beside_at kind (rank lines i) b ∷ []
+
+    second_live : (k : ℕ) → (line_at lines i).live ≡ true → (line_at lines k).live ≡ true → passing (enabled_on q) (at_new_two (rank lines k)) ≡ passing (enabled_on p) (at_two k)
+    second_live k h g = let e = beside_at kind i k in
+        ap (λ (x : Instance). passing (enabled_on q) (x ∷ [])) (groups_stand p kind i k groups)
+        ∙ passing_alike (enabled_on p) (enabled_on q) (instance_at (new_ids p)) (e ∷ [])
+        (all_one (λ e. enabled_on q (instance_at (new_ids p) e) ≡ enabled_on p e) e (enabled_stands (new_ids p) p q l.stands e ((groups_at_lines p kind i k groups).0 (h, g))))
+
+    -- one is enabled only where both lines are live
+    two_dead : (k : ℕ) → (((line_at lines i).live ≡ true) × ((line_at lines k).live ≡ true) → ⊥) → enabled_on p (beside_at kind i k) ≡ false
+    two_dead k none = let e = beside_at kind i k in not_enabled e (λ on. none ((groups_at_lines p kind i k groups).1 (there_where_enabled p e on)))
+
+    second_dead : (k : ℕ) → (line_at lines k).live ≡ false → passing (enabled_on p) (at_two k) ≡ 0
+    second_dead k h = passing_none (enabled_on p) (at_two k) (all_one (λ e. enabled_on p e ≡ false) (beside_at kind i k) (two_dead k (λ on. not_both on.1 h)))
+
+    groups_live : (line_at lines i).live ≡ true → passing (enabled_on q) (instances_from new q kind (rank lines i)) ≡ passing (enabled_on p) (instances_from old p kind i)
+    groups_live h =
+        ap (passing (enabled_on q)) (groups_from new q kind (rank lines i) groups ∙ singles (beside_at kind (rank lines i)) (all_ids q kind))
+        ∙ ap (λ (n : ℕ). passing (enabled_on q) (flat_map at_new_two (range_with_len 0 n))) (ids_left kind)
+        ∙ over_lines (enabled_on p) (enabled_on q) at_two at_new_two 0 0 lines (record {
+          live = λ k j b g e d. ap (λ x. passing (enabled_on q) (at_new_two x)) (omega (arith, d)) ∙ second_live k h g ∙ ap (λ x. passing (enabled_on p) (at_two x)) (omega (arith, e));
+          dead = λ k j g e. ap (λ x. passing (enabled_on p) (at_two x)) (omega (arith, e)) ∙ second_dead k g;
+        })
+        ∙ ap (λ (n : ℕ). passing (enabled_on p) (flat_map at_two (range_with_len 0 n))) (ids_all kind)
+        ∙ sym (ap (passing (enabled_on p)) (groups_from old p kind i groups ∙ singles (beside_at kind i) (all_ids p kind)))
+
+    groups_dead : (line_at lines i).live ≡ false → passing (enabled_on p) (instances_from old p kind i) ≡ 0
+    groups_dead h =
+        let ks : List ℕ = all_ids p kind in
+        ap (passing (enabled_on p)) (groups_from old p kind i groups)
+        ∙ passing_none (enabled_on p) (map (beside_at kind i) ks) (All-map (λ e. enabled_on p e ≡ false) (beside_at kind i) ks (λ k d m. two_dead (get_or ks k d) (λ on. not_both on.0 h)))
+
+  at_live : (kind : Rule) (i : ℕ) → (line_at (lines_of p kind) i).live ≡ true → passing (enabled_on q) (instances_from new q kind (rank (lines_of p kind) i)) ≡ passing (enabled_on p) (instances_from old p kind i)
+  at_live kind i h = by (goes_by_groups kind) refl
+    where
+      by : (b : Bool) → goes_by_groups kind ≡ b → passing (enabled_on q) (instances_from new q kind (rank (lines_of p kind) i)) ≡ passing (enabled_on p) (instances_from old p kind i)
+      by true g = groups_live kind i g h
+      by false g = alone_live kind i g h
+
+  at_dead : (kind : Rule) (i : ℕ) → (line_at (lines_of p kind) i).live ≡ false → passing (enabled_on p) (instances_from old p kind i) ≡ 0
+  at_dead kind i h = by (goes_by_groups kind) refl
+    where
+      by : (b : Bool) → goes_by_groups kind ≡ b → passing (enabled_on p) (instances_from old p kind i) ≡ 0
+      by true g = groups_dead kind i g h
+      by false g = alone_dead kind i g h
 
   of_rule : (kind : Rule) → passing (enabled_on q) (instances_at new q kind (all_ids q kind)) ≡ passing (enabled_on p) (instances_at old p kind (all_ids p kind))
   of_rule kind =

@@ -4,3 +4,4 @@ pub mod Activities
 pub mod TightenedCoefficient
 pub mod DoubletonEquation
 pub mod SoleColumns
+pub mod Parallels

@@ -8,6 +8,8 @@ ghost use Rattle.problem_model.specs.Sparse.{Sparse};
 ghost use Rattle.aggregation_laws.specs.DoubletonEquation as doubleton_equation;
 ghost use Rattle.column_laws.specs.FreeColumn as free_column;
 ghost use Rattle.column_laws.specs.SlackColumn as slack_column;
+ghost use Rattle.parallel_column_laws.specs.ParallelColumns as parallel_columns;
+ghost use Rattle.parallel_row_laws.specs.ParallelRows as parallel_rows;
 ghost use Rattle.written_ids.specs.NewIds.{Ids};
 ghost use Rattle.written_ids.specs.Standing.{LinesStand};
 
@@ -27,4 +29,16 @@ pub fn free_columns_stand()
 /// computes have room there where they have it here.
 pub fn slack_columns_stand()
     ensures { (n : Ids) (p q : Sparse) (j i : ℕ) → LinesStand n p q → (row_at p i).live ≡ true → (column_at p j).live ≡ true → (slack_column.enabled q (n.column j) (n.row i) ≡ slack_column.enabled p j i) × (slack_column.Computes p j i ↔ slack_column.Computes q (n.column j) (n.row i)) }
+{}
+
+/// A row can give its sides to another one at their new ids where it can at their old ones, and the numbers that this computes have room
+/// there where they have it here.
+pub fn parallel_rows_stand()
+    ensures { (n : Ids) (p q : Sparse) (i k : ℕ) → LinesStand n p q → (row_at p i).live ≡ true → (row_at p k).live ≡ true → (parallel_rows.enabled q (n.row i) (n.row k) ≡ parallel_rows.enabled p i k) × (parallel_rows.Computes p i k ↔ parallel_rows.Computes q (n.row i) (n.row k)) }
+{}
+
+/// A column can join another one at their new ids where it can at their old ones, and the numbers that this computes have room there where
+/// they have it here.
+pub fn parallel_columns_stand()
+    ensures { (n : Ids) (p q : Sparse) (j k : ℕ) → LinesStand n p q → (column_at p j).live ≡ true → (column_at p k).live ≡ true → (parallel_columns.enabled q (n.column j) (n.column k) ≡ parallel_columns.enabled p j k) × (parallel_columns.Computes p j k ↔ parallel_columns.Computes q (n.column j) (n.column k)) }
 {}

@@ -1,12 +1,13 @@
-use Rattle.std.proofs.Common.{◌≡◌, ◌++◌, List, sym, ap, ◌∙◌, subst}
+use Rattle.std.proofs.Common.{◌≡◌, ℕ, ◌++◌, List, map, sym, ap, ◌∙◌, subst, true≢false}
 use Rattle.std.specs.List.{filter}
 use Rattle.presolve_model.specs.declared.instance.Instance.{Instance}
 use Rattle.presolve_model.specs.Enabled.{enabled_on}
-use Rattle.presolve_model.specs.Instances.{instances_from}
+use Rattle.presolve_model.specs.Instances.{beside_at, instances_from}
 use Rattle.presolve_model.specs.Ledger.{Ledger}
 use Rattle.presolve_model.specs.Tallies.{open_on}
 use Rattle.round_laws.proofs.Thinning.{passed_found}
 use Rattle.presolve_rounds.specs.Walking.{AreAlike, IsPassed}
+use Rattle.presolve_rounds.proofs.Beside.{passed_lines}
 use Rattle.presolve_rounds.proofs.Sharing.{found_alike}
 use Rattle.presolve_rounds.proofs.pass.visit_at.Goals as goal
 
@@ -48,3 +49,13 @@ returns c =
       passed = passed_found (open_on a.tally) a.problem c.args.rule c.args.id c.args.watch.now.marks c.visit_found.new.watch.marks b c.visit_found.new.book c.requires.going.follows h.passed;
       forms = h.forms;
     }
+
+pub add_enabled-requires : goal.add_enabled-requires
+add_enabled-requires c t = absurd (true≢false (sym t ∙ sym c.goes_by_groups.ensures ∙ c.if-goes_by_groups.false))
+
+pub returns-then-goes_by_groups : goal.returns-then-goes_by_groups
+returns-then-goes_by_groups c =
+    let a : Ledger = c.args.frozen.now.value in
+    let b : Ledger = c.args.book.now in
+    passed_lines a c.args.groups.now c.args.rule c.args.id c.args.watch.now c.visit_beside.new.watch b c.visit_beside.new.book c.requires.groups (sym c.goes_by_groups.ensures ∙ c.if-goes_by_groups.true) c.requires.going
+    (subst (λ (ks : List ℕ). IsPassed a (map (beside_at c.args.rule c.args.id) ks) c.args.watch.now b c.visit_beside.new.watch c.visit_beside.new.book) c.lines_beside-others.ensures c.in_ok-visit_beside.ensures)

@@ -10,7 +10,7 @@ loop-id-init c = none_passed c.args.frozen.now.value c.args.watch.now c.args.boo
 
 pub visit_at-requires-clause-going : goal.visit_at-requires-clause-going
 visit_at-requires-clause-going c =
-    goes_on c.args.frozen.now.value (flat_map (instances_from (open_on c.args.frozen.now.value.tally) c.args.frozen.now.value.problem c.args.rule) (take c.loop-id.id-index c.args.ids.now)) c.args.watch.now c.loop-id.watch c.args.book.now c.loop-id.book c.loop-id.invariant
+    goes_on c.args.frozen.now.value (flat_map (instances_from (open_on c.args.frozen.now.value.tally) c.args.frozen.now.value.problem c.args.rule) (take c.loop-id.id-index c.args.ids.now)) c.args.watch.now c.loop-id.watch c.args.book.now c.loop-id.book c.requires.going c.loop-id.invariant
 
 pub loop-id-preserved : goal.loop-id-preserved
 loop-id-preserved c =

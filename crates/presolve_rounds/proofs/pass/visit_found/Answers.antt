@@ -6,7 +6,7 @@ pub loop-instance-init : goal.loop-instance-init
 loop-instance-init c = none_passed c.args.frozen.now.value c.args.watch.now c.args.book.now c.requires.going
 
 pub visit-requires-clause-going : goal.visit-requires-clause-going
-visit-requires-clause-going c = goes_on c.args.frozen.now.value (take c.loop-instance.instance-index c.args.found.now) c.args.watch.now c.loop-instance.watch c.args.book.now c.loop-instance.book c.loop-instance.invariant
+visit-requires-clause-going c = goes_on c.args.frozen.now.value (take c.loop-instance.instance-index c.args.found.now) c.args.watch.now c.loop-instance.watch c.args.book.now c.loop-instance.book c.requires.going c.loop-instance.invariant
 
 pub loop-instance-preserved : goal.loop-instance-preserved
 loop-instance-preserved c =

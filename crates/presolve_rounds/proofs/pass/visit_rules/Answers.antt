@@ -11,7 +11,7 @@ loop-rule-init c = none_passed c.args.frozen.now.value c.args.watch.now c.args.b
 
 pub visit_rule-requires-clause-going : goal.visit_rule-requires-clause-going
 visit_rule-requires-clause-going c = let a = c.args.frozen.now.value in
-    goes_on a (instances_of (open_on a.tally) a.problem c.args.ids.now (take c.loop-rule.rule-index c.args.rules.now)) c.args.watch.now c.loop-rule.watch c.args.book.now c.loop-rule.book c.loop-rule.invariant
+    goes_on a (instances_of (open_on a.tally) a.problem c.args.ids.now (take c.loop-rule.rule-index c.args.rules.now)) c.args.watch.now c.loop-rule.watch c.args.book.now c.loop-rule.book c.requires.going c.loop-rule.invariant
 
 pub loop-rule-preserved : goal.loop-rule-preserved
 loop-rule-preserved c = let a = c.args.frozen.now.value in

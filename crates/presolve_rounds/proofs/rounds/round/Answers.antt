@@ -1,18 +1,19 @@
-use Rattle.std.proofs.Common.{List, ap₂, ◌∙◌, subst, sym}
+use Rattle.std.proofs.Common.{List, ap₂, inl, refl, ◌∙◌, subst, sym}
 use Rattle.problem_model.specs.declared.part.Part.{Part}
 use Rattle.problem_model.specs.Sparse.{Sparse}
+use Rattle.line_groups.specs.Groups.{AreGroupsOf}
 use Rattle.presolve_model.specs.Ledger.{Ledger}
 use Rattle.presolve_model.specs.Tallies.{open_on}
 use Rattle.place_laws.specs.Choosing.{HoldsAround, visited}
 use Rattle.round_marks.specs.Stamping.{AreStampsOf, restamped}
 use Rattle.presolve_rounds.specs.Walking.{IsGoing, IsPassed}
-use Rattle.presolve_rounds.proofs.Running.{ready_begun, ready_next, round_committed, round_marked}
+use Rattle.presolve_rounds.proofs.Running.{groups_next, ready_begun, ready_next, round_committed, round_marked}
 use Rattle.presolve_rounds.proofs.rounds.round.Goals as goal
 
 pub pass-requires-clause-going : goal.pass-requires-clause-going
 pass-requires-clause-going c =
     let ready = ready_begun c.args.book.now c.args.stamps.now c.args.ids.now c.args.watch.now c.begin_round.new.self c.requires.ready c.begin_round.ensures in
-    subst (λ (a : Ledger). IsGoing a c.begin_round.new.self c.args.book.now) (sym c.of-frozen.ensures) (record { follows = ready.follows; forms = ready.forms })
+    subst (λ (a : Ledger). IsGoing a c.begin_round.new.self c.args.book.now) (sym c.of-frozen.ensures) (record { began = ready.follows.sparse; follows = ready.follows; forms = ready.forms; noted = λ x. inl refl })
 
 pub pass-requires-clause-stamps : goal.pass-requires-clause-stamps
 pass-requires-clause-stamps c = subst (λ (a : Ledger). AreStampsOf c.args.stamps.now a.problem) (sym c.of-frozen.ensures) c.requires.ready.stamps
@@ -39,4 +40,22 @@ returns-clause-ready c =
     (subst (λ (a : Ledger). IsPassed a (visited (open_on a.tally) a.problem c.args.ids.now) c.begin_round.new.self b c.pass.new.watch c.pass.new.book) c.of-frozen.ensures c.in_ok-pass.ensures)
     c.refresh.new.self _
     (c.refresh.ensures ∙ ap₂ (λ (p : Sparse) (ps : List Part). restamped c.args.stamps.now p ps) c.problem.ensures c.noted.ensures)
-    c.in_ok-ids.ensures.sorted (subst (λ (p : Sparse). HoldsAround p c.pass.new.watch.marks c.in_ok-ids.field-0) c.problem-2.ensures c.in_ok-ids.ensures.holds)
+    c.in_ok-ids.ensures.sorted (subst (λ (p : Sparse). HoldsAround p c.pass.new.watch.marks c.in_ok-ids.field-0) c.problem-3.ensures c.in_ok-ids.ensures.holds)
+
+pub pass-requires-clause-groups : goal.pass-requires-clause-groups
+pass-requires-clause-groups c = subst (λ (a : Ledger). AreGroupsOf c.args.groups.now a.problem) (sym c.of-frozen.ensures) c.requires.groups
+
+pub returns-clause-groups : goal.returns-clause-groups
+returns-clause-groups c =
+    let b : Ledger = c.args.book.now in
+    let h : IsPassed b (visited (open_on b.tally) b.problem c.args.ids.now) c.begin_round.new.self b c.pass.new.watch c.pass.new.book =
+    subst (λ (a : Ledger). IsPassed a (visited (open_on a.tally) a.problem c.args.ids.now) c.begin_round.new.self b c.pass.new.watch c.pass.new.book) c.of-frozen.ensures c.in_ok-pass.ensures in
+    groups_next c.args.groups.now c.refresh-2.new.self b c.pass.new.book c.pass.new.watch c.problem-2.result.now c.noted-2.result.now c.problem-2.ensures c.noted-2.ensures c.requires.groups h.passed.follows h.passed.moved c.in_ok-refresh.ensures
+
+pub around-requires : goal.around-requires
+around-requires c =
+    let b : Ledger = c.args.book.now in
+    let h : IsPassed b (visited (open_on b.tally) b.problem c.args.ids.now) c.begin_round.new.self b c.pass.new.watch c.pass.new.book =
+    subst (λ (a : Ledger). IsPassed a (visited (open_on a.tally) a.problem c.args.ids.now) c.begin_round.new.self b c.pass.new.watch c.pass.new.book) c.of-frozen.ensures c.in_ok-pass.ensures in
+    subst (AreGroupsOf c.refresh-2.new.self) (sym c.problem-3.ensures)
+    (groups_next c.args.groups.now c.refresh-2.new.self b c.pass.new.book c.pass.new.watch c.problem-2.result.now c.noted-2.result.now c.problem-2.ensures c.noted-2.ensures c.requires.groups h.passed.follows h.passed.moved c.in_ok-refresh.ensures)

@@ -13,4 +13,4 @@ sole_columns-requires c = subst (λ (ids : List ℕ). HoldsLed c.args.problem.no
 pub returns-clause-holds : goal.returns-clause-holds
 returns-clause-holds c =
     λ m x y z.
-    holds_around c.args.problem.now m c.args.noted.now c.args.stirred.now c.args.roused.now _ x y z c.in_ok-own.ensures.holds c.in_ok-rows_of_bounds.ensures.holds c.in_ok-columns_of_sides.ensures.holds c.in_ok-rows_of_both.ensures.holds c.in_ok-sole_columns.ensures.holds
+    holds_around c.args.problem.now m c.args.noted.now c.args.stirred.now c.args.roused.now _ x y z c.in_ok-own.ensures.holds c.in_ok-rows_of_bounds.ensures.holds c.in_ok-columns_of_sides.ensures.holds c.in_ok-rows_of_both.ensures.holds c.in_ok-sole_columns.ensures.holds c.in_ok-rows_beside.ensures.holds c.in_ok-columns_beside.ensures.holds
