@@ -23,11 +23,13 @@ use Rattle.point_text.specs.SolutionText.{value_line, solution_text}
 use Rattle.point_text.specs.PlainNames.{Plain}
 use Rattle.point_text.specs.declared.faults.SolFaultKind.{SolFaultKind}
 use Rattle.point_text.specs.declared.faults.SolFaultKind.TheVariants.{UnknownName, TwiceNamed, NumberPast, BadNumber}
+use Rattle.point_text.specs.PairText.{silent}
+use Rattle.point_text.proofs.Silence.{silent-named}
 use Rattle.point_text.proofs.Tables.{has_place}
 use Rattle.point_text.proofs.Parts.{two_fields}
 use Rattle.point_text.proofs.Unbroken.{number_unbroken, no_blanks, no_feeds, no_returns, written_again, number_filled, differ, same}
 
-abbrev bytes_of : Text → Number → List ℕ
+abbrev pub bytes_of : Text → Number → List ℕ
 bytes_of name value = name ++ 32 ∷ written value
 
 line_unbroken : (P : ℕ → Type 0) (name : Text) (value : Number) → P 32 → All P name → All P (written value) → All P (bytes_of name value)
@@ -37,7 +39,7 @@ regroup : (name word rest : List ℕ) → (name ++ 32 ∷ (word ++ 10 ∷ [])) +
 regroup name word rest = simp append_assoc
 
 -- the first line of a written text
-written_line : (name : Text) (value : Number) (rest : List ℕ) → Plain name → Fits value → lines_of (value_line name value ++ rest) ≡ bytes_of name value ∷ lines_of rest
+pub written_line : (name : Text) (value : Number) (rest : List ℕ) → Plain name → Fits value → lines_of (value_line name value ++ rest) ≡ bytes_of name value ∷ lines_of rest
 written_line name value rest plain fits =
     ap lines_of (regroup name (written value) rest)
     ∙ plain_line_first (bytes_of name value) rest
@@ -155,3 +157,9 @@ no_fault_again names values plain differ len fits = (written_again_all names val
 pub point_again : (names : List Text) (values : List Number) → All Plain names → Differ names → length values ≡ length names → All Fits values
     → point_of names (solution_text names values) ≡ values
 point_again names values plain differ len fits = (written_again_all names values plain differ len fits).point
+
+-- the same after lines that say nothing
+pub rows_again : (names : List Text) (values : List Number) (n : ℕ) → All Plain names → Differ names → length values ≡ length names → All Fits values
+    → fault_from names (silent n) (lines_of (solution_text names values)) ≡ None
+rows_again names values n plain differ len fits =
+    (again names names values (silent n) (record { plain = plain; differ = differ; len = len; fits = fits; known = each_known names; new = λ k d lt. silent-named n (get_or names k d) })).fault

@@ -6,3 +6,6 @@ mod SameNames
 mod Slots
 mod Tables
 mod Unbroken
+mod Silence
+mod PairGoing
+mod PairAgain

@@ -26,19 +26,19 @@ same_line names table same before (Gives name number) =
     ∷ (is_past (read_of Fractions number), NumberPast) ∷ (is_bad (read_of Fractions number), BadNumber) ∷ [])) (same name)
 same_line names table same before Odd = refl
 
-same_fault : (names table : List Text) → IsTableOf names table → (before : List Line) (lines : List Text) → fault_from table before lines ≡ fault_from names before lines
+pub same_fault : (names table : List Text) → IsTableOf names table → (before : List Line) (lines : List Text) → fault_from table before lines ≡ fault_from names before lines
 same_fault names table same before [] = refl
 same_fault names table same before (line ∷ after) =
     ap₂ (λ (o : Option SolFaultKind) (later : Option (SolFaultKind × ℕ)). or_later o (length before + 1) later) (same_line names table same before (line_of line))
     (same_fault names table same (line_of line ∷ before) after)
 
-same_values : (values : Values) (lines : List Line) → Holds lines values → (names : List Text) → map (λ name. unwrap_or (held values name) zero_ℚ) names ≡ map (value_of lines) names
+pub same_values : (values : Values) (lines : List Line) → Holds lines values → (names : List Text) → map (λ name. unwrap_or (held values name) zero_ℚ) names ≡ map (value_of lines) names
 same_values values lines holds [] = refl
 same_values values lines holds (name ∷ names) =
     ap₂ (λ (q : Number) (qs : List Number). q ∷ qs) (ap (λ (o : Option Number). unwrap_or o zero_ℚ) (holds name)) (same_values values lines holds names)
 
 -- the fault that is told of the lines is that of the text
-pub told : (names table : List Text) (text : List ℕ) (values : Values) (error : SolError) → IsTableOf names table → TookAll {T = Unit {0}} table text (Err error) values
+pub told : (names table : List Text) (text : List ℕ) (values : Values) (error : SolError) → IsTableOf names table → TookAll {T = Unit {0}} table [] text (Err error) values
     → IsRead names text (Err error)
 told names table text values (Fault fault) same took = sym (same_fault names table same [] (lines_of text)) ∙ took
 told names table text values NoMemory same took = tt

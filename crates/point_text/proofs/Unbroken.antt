@@ -35,7 +35,7 @@ not_true : (b : Bool) → not b ≡ true → b ≡ false
 not_true true is = sym is
 not_true false is = refl
 
-each_unbroken : (xs : List ℕ) → list_all (λ b. not (is_break b)) xs ≡ true → Unbroken xs
+pub each_unbroken : (xs : List ℕ) → list_all (λ b. not (is_break b)) xs ≡ true → Unbroken xs
 each_unbroken [] all = All-nil (λ b. is_break b ≡ false)
 each_unbroken (x ∷ xs) all =
     let parts = both_true (not (is_break x)) (list_all (λ b. not (is_break b)) xs) all in

@@ -6,7 +6,8 @@ use Rattle.mps_profile.specs.Texts.{Text}
 use Rattle.point_text.specs.SolutionLines.{Line}
 use Rattle.point_text.specs.Values.{value_named}
 use Rattle.point_text.specs.Faults.{line_fault}
-use Rattle.point_text.specs.Reading.{first_fault, said}
+use Rattle.text_lines.specs.Lines.{lines_of}
+use Rattle.point_text.specs.Reading.{fault_from, said_from}
 use Rattle.point_text.specs.declared.faults.SolFaultKind.{SolFaultKind}
 use Rattle.point_text.specs.declared.faults.SolError.{SolError}
 use Rattle.point_text.specs.declared.faults.SolError.TheVariants.{Fault, NoMemory}
@@ -34,8 +35,8 @@ abbrev pub Took : {T : Type 0} → List Text → List Line → Line → Result T
 Took names before line (Ok done) new = (line_fault names before line ≡ None) × Holds (line ∷ before) new
 Took names before line (Err kind) new = line_fault names before line ≡ Some kind
 
--- all lines of a text were taken in, or the first fault is told
-abbrev pub TookAll : {T : Type 0} → List Text → List ℕ → Result T SolError → Values → Type 0
-TookAll names text (Ok done) new = (first_fault names text ≡ None) × Holds (said text) new
-TookAll names text (Err (Fault fault)) new = first_fault names text ≡ Some (fault.kind, fault.line)
-TookAll names text (Err NoMemory) new = Unit {0}
+-- all lines of a text were taken in after these, or the first fault is told
+abbrev pub TookAll : {T : Type 0} → List Text → List Line → List ℕ → Result T SolError → Values → Type 0
+TookAll names before text (Ok done) new = (fault_from names before (lines_of text) ≡ None) × Holds (said_from before (lines_of text)) new
+TookAll names before text (Err (Fault fault)) new = fault_from names before (lines_of text) ≡ Some (fault.kind, fault.line)
+TookAll names before text (Err NoMemory) new = Unit {0}

@@ -6,3 +6,6 @@ pub mod Holding
 pub mod SolutionText
 pub mod PlainNames
 pub mod Given
+pub mod PairText
+pub mod PairReading
+pub mod WrittenNames

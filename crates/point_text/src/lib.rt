@@ -1,14 +1,18 @@
-//! Points as text: a line for each column, with its name and its value.
+//! Points as text: a line for each column, with its name and its value. Duals follow their own line, a line for each row.
 #![tactic(auto)]
 
 mod faults;
 mod laws;
+mod pair_reading;
+mod pair_writing;
 mod reading;
 mod solution_lines;
 mod values;
 mod writing;
 
 pub use faults::{SolError, SolFault, SolFaultKind};
-pub use laws::{values_are_given, written_solution_is_read};
+pub use laws::{values_are_given, written_pair_is_read, written_solution_is_read};
+pub use pair_reading::read_pair;
+pub use pair_writing::write_pair;
 pub use reading::read_solution;
 pub use writing::write_solution;

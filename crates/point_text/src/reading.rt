@@ -1,8 +1,9 @@
 //! The reading of a solution.
 
-ghost use Rattle.std.specs.Prelude.{◌≡◌, length, []};
+ghost use Rattle.std.specs.Prelude.{◌≡◌, ◌+◌, ◌<◌, ◌^◌, length, []};
 ghost use Rattle.point_text.specs.Reading.{IsRead};
 ghost use Rattle.point_text.specs.Holding.{Holds, TookAll};
+ghost use Rattle.point_text.specs.PairText.{silent};
 
 use crate::faults::{SolError, SolFault};
 use crate::solution_lines::split_line;
@@ -11,17 +12,23 @@ use lp_model::{Labels, Point};
 use std::alloc::Global;
 use text_lines::first_line;
 
-/// Takes in the lines of a text.
-fn take_lines(alloc: Global, values: &mut Values, text: &[u8]) -> Result<(), SolError>
+/// Takes in the lines of a text that follows so many lines.
+pub fn take_lines(
+    alloc: Global,
+    values: &mut Values,
+    text: &[u8],
+    lines_before: u64,
+) -> Result<(), SolError>
     requires len { length values.old.numbers.items ≡ length values.old.table }
     requires holds { Holds [] values.old }
-    ensures took { TookAll values.old.table text.now result values.new }
+    requires few { lines_before + length text.now < 2 ^ 64 }
+    ensures took { TookAll values.old.table (silent lines_before) text.now result values.new }
     ensures len { length values.new.numbers.items ≡ length values.new.table }
     ensures table { values.new.table ≡ values.old.table }
 {
     let mut fields = Vec::new(alloc);
     let mut rest = text;
-    let mut number: u64 = 0;
+    let mut number: u64 = lines_before;
     while !rest.is_empty() {
         let (line, after) = first_line(rest);
         number += 1;
@@ -47,7 +54,7 @@ pub fn read_solution<L: Labels>(alloc: Global, bytes: &[u8], labels: &L) -> Resu
     ensures { IsRead (L.column_names labels.now) bytes.now result }
 {
     let mut values = Values::new(alloc, labels)?;
-    match take_lines(alloc, &mut values, bytes) {
+    match take_lines(alloc, &mut values, bytes, 0) {
         Ok(()) => Ok(values.point(alloc, labels)?),
         Err(error) => Err(error),
     }

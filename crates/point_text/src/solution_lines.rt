@@ -1,7 +1,8 @@
 //! The lines of a solution.
 
-ghost use Rattle.std.specs.Prelude.{◌≡◌, map, IfOk};
+ghost use Rattle.std.specs.Prelude.{◌≡◌, map, true, false, IfOk, MatchOption};
 ghost use Rattle.point_text.specs.SolutionLines.{line_with, line_of, text_line};
+ghost use Rattle.point_text.specs.PairText.{starts_duals, is_duals_line};
 
 use mps_cards::fields::split_fields;
 use std::alloc::AllocError;
@@ -43,4 +44,29 @@ pub fn split_line<'a>(
 {
     split_fields(fields, line)?;
     Ok(line_with(fields.as_slice()))
+}
+
+/// Whether a line with these fields starts the duals.
+fn starts_duals(fields: &[&[u8]]) -> bool
+    ensures { result ≡ starts_duals (map (λ s. s.now) fields.now) }
+{
+    match fields {
+        [word] => *word == b"=duals=".as_slice(),
+        _ => false,
+    }
+}
+
+/// What a line says, none where it starts the duals. Its fields come into the place of what
+/// `fields` held. Fails where memory runs out.
+pub fn split_pair_line<'a>(
+    fields: &mut Vec<&'a [u8]>,
+    line: &'a [u8],
+) -> Result<Option<SolutionLine<'a>>, AllocError>
+    ensures { IfOk result (λ said. MatchOption said (is_duals_line line.now ≡ true) (λ other. (is_duals_line line.now ≡ false) × (text_line other ≡ line_of line.now))) }
+{
+    split_fields(fields, line)?;
+    if starts_duals(fields.as_slice()) {
+        return Ok(None);
+    }
+    Ok(Some(line_with(fields.as_slice())))
 }

@@ -13,12 +13,12 @@ ghost use Rattle.point_text.specs.Holding.{held, IsTableOf, Holds, Took};
 use crate::faults::SolFaultKind;
 use crate::solution_lines::SolutionLine;
 use fractions::frac::Frac;
-use lp_model::{Labels, Point};
+use lp_model::{Duals, Labels, Point};
 use names::Names;
 use number_texts::{Numbers, ReadNumber, read};
 use std::alloc::{AllocError, Global};
 
-/// The names of columns, each once, and for each of them the value that a line gave to it.
+/// The names of columns or of rows, each once, and for each of them the value that a line gave to it.
 #[derive(Drop)]
 pub struct Values {
     pub table: Names,
@@ -47,6 +47,17 @@ fn column_table<L: Labels>(alloc: Global, labels: &L) -> Result<Names, AllocErro
     Ok(table)
 }
 
+/// A table of the rows' names. Fails where memory runs out.
+fn row_table<L: Labels>(alloc: Global, labels: &L) -> Result<Names, AllocError>
+    ensures { IfOk result (λ table. IsTableOf (L.row_names labels.now) table) }
+{
+    let mut table = Names::new(alloc);
+    for id in 0..labels.row_count() {
+        table.insert(alloc, labels.row_name(id).as_bytes())?;
+    }
+    Ok(table)
+}
+
 impl Values {
     /// The columns' names, none with a value. Fails where memory runs out.
     pub fn new<L: Labels>(alloc: Global, labels: &L) -> Result<Values, AllocError>
@@ -55,6 +66,17 @@ impl Values {
         ensures table { IfOk result (λ values. IsTableOf (L.column_names labels.now) values.table) }
     {
         let table = column_table(alloc, labels)?;
+        let numbers = vec![in alloc; None; table.len()]?;
+        Ok(Values { table, numbers })
+    }
+
+    /// The rows' names, none with a value. Fails where memory runs out.
+    pub fn of_rows<L: Labels>(alloc: Global, labels: &L) -> Result<Values, AllocError>
+        ensures len { IfOk result (λ values. length values.numbers.items ≡ length values.table) }
+        ensures holds { IfOk result (λ values. Holds [] values) }
+        ensures table { IfOk result (λ values. IsTableOf (L.row_names labels.now) values.table) }
+    {
+        let table = row_table(alloc, labels)?;
         let numbers = vec![in alloc; None; table.len()]?;
         Ok(Values { table, numbers })
     }
@@ -127,5 +149,17 @@ impl Values {
             values.push(self.value(labels.column_name(id).as_bytes()))?;
         }
         Ok(Point::new(values))
+    }
+
+    /// The dual of each row. Fails where memory runs out.
+    pub fn duals<L: Labels>(&self, alloc: Global, labels: &L) -> Result<Duals, AllocError>
+        requires { length self.now.numbers.items ≡ length self.now.table }
+        ensures { IfOk result (λ duals. duals ≡ map (λ name. unwrap_or (held self.now name) zero_ℚ) (L.row_names labels.now)) }
+    {
+        let mut values = Vec::new(alloc);
+        for id in 0..labels.row_count() {
+            values.push(self.value(labels.row_name(id).as_bytes()))?;
+        }
+        Ok(Duals::new(values))
     }
 }

@@ -7,8 +7,8 @@ use fractions::frac::Frac;
 use lp_model::Labels;
 use std::alloc::{AllocError, Global};
 
-/// Appends a column's name and its value.
-fn push_line(out: &mut Vec<u8>, name: &[u8], value: &Frac) -> Result<(), AllocError>
+/// Appends a name and its value.
+pub fn push_line(out: &mut Vec<u8>, name: &[u8], value: &Frac) -> Result<(), AllocError>
     ensures { OnOk result (out.new.items ≡ out.old.items ++ value_line name.now value.now) }
 {
     out.extend_from_slice(name)?;

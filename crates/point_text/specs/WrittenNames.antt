@@ -1,0 +1,14 @@
+-- Names with numbers that can be written and read again.
+use Rattle.std.specs.Prelude.{◌≡◌, List, length, All}
+use Rattle.rational.specs.Number.{Number}
+use Rattle.rational.specs.Lowest.{Fits}
+use Rattle.lp_model.specs.Names.{Differ}
+use Rattle.mps_profile.specs.Texts.{Text}
+use Rattle.point_text.specs.PlainNames.{Plain}
+
+-- the names are plain and differ, and each has a number that has room
+pub record AreNumbered (names : List Text) (values : List Number) : Type 0 where
+  pub plain : All Plain names
+  pub differ : Differ names
+  pub long : length values ≡ length names
+  pub fits : All Fits values
