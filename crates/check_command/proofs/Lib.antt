@@ -1,1 +1,3 @@
 mod Said
+mod Proved
+mod Told

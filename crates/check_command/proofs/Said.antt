@@ -1,4 +1,5 @@
 -- What is said of the solution is said of both texts.
+use Rattle.std.proofs.Common.{inr}
 use Rattle.file_ports.specs.Ports.{Moment}
 use Rattle.command_line.specs.Line.{CheckNames}
 use Rattle.lp_model.specs.ProgramData.{ProgramData}
@@ -11,7 +12,7 @@ pub solution_said : (names : CheckNames) (before now : Moment) (program : Progra
     → IsProgramIn names before program → SaysSolution program names.solution before now ending → SaysCheck names (status_of ending) (text_of ending) before now
 solution_said names before now program (Done text) read h = (program, read, h)
 solution_said names before now program Usage read h = absurd h
-solution_said names before now program (Refused line) read h = absurd h
+solution_said names before now program (Refused line) read h = inr (program, read, h)
 solution_said names before now program ReadFault read h = absurd h
 solution_said names before now program WriteFault read h = absurd h
 solution_said names before now program NoMemory read h = absurd h

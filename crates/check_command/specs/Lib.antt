@@ -1,2 +1,3 @@
 pub mod VerdictText
+pub mod PairTexts
 pub mod Checked

@@ -1,5 +1,5 @@
--- What is said of a verdict on a point.
-use Rattle.std.specs.Prelude.{ℕ, List, [], ◌∷◌, ◌++◌, codes, slice_index_or}
+-- What is said of a verdict on a point, and on a point with duals.
+use Rattle.std.specs.Prelude.{ℕ, List, [], ◌∷◌, ◌++◌, codes, Some, None, slice_index_or}
 use Rattle.rational.specs.Number.{Number}
 use Rattle.number_texts.specs.Written.{written}
 use Rattle.lp_model.specs.ProgramData.{ProgramData}
@@ -10,6 +10,11 @@ use Rattle.lp_check.specs.declared.verdicts.Limit.{Limit}
 use Rattle.lp_check.specs.declared.verdicts.Limit.TheVariants.{Below, Above, NotWhole}
 use Rattle.lp_check.specs.declared.verdicts.Verdict.{Verdict}
 use Rattle.lp_check.specs.declared.verdicts.Verdict.TheVariants.{Yes, No, Past}
+use Rattle.lp_check.specs.declared.pair_verdicts.End.{End}
+use Rattle.lp_check.specs.declared.pair_verdicts.End.TheVariants.{Lower, Upper}
+use Rattle.lp_check.specs.declared.pair_verdicts.Misplaced.{Misplaced}
+use Rattle.lp_check.specs.declared.pair_verdicts.PairVerdict.{PairVerdict}
+use Rattle.lp_check.specs.declared.pair_verdicts.PairVerdict.TheVariants.{OnPoint, Dual, ReducedCost, PastReducedCost}
 
 abbrev pub column_text : ProgramData → ℕ → List ℕ
 column_text program j = slice_index_or (names_of_columns program.columns) j []
@@ -49,3 +54,39 @@ abbrev pub status_of_verdict : Verdict → ℕ
 status_of_verdict (Yes cost) = 0
 status_of_verdict (Past item) = 6
 status_of_verdict (No item v limit) = 9
+
+-- ---- with duals
+-- an end, which may be infinite
+abbrev pub end_text : End → List ℕ
+end_text (Lower None) = codes "-inf"
+end_text (Lower (Some end)) = written end
+end_text (Upper None) = codes "inf"
+end_text (Upper (Some end)) = written end
+
+-- a dual, the row's value, and the side that the dual's sign asks for
+abbrev pub no_dual_text : ProgramData → ℕ → Misplaced → List ℕ
+no_dual_text program i found = codes "no dual " ++ (row_text program i ++ (codes " y " ++ (written found.multiplier
+    ++ (codes " value " ++ (written found.value ++ (codes " side " ++ (end_text found.end ++ 10 ∷ [])))))))
+
+-- a reduced cost, the column's value, and the bound that the reduced cost's sign asks for
+abbrev pub no_reduced_cost_text : ProgramData → ℕ → Misplaced → List ℕ
+no_reduced_cost_text program j found = codes "no reduced cost " ++ (column_text program j ++ (codes " z " ++ (written found.multiplier
+    ++ (codes " value " ++ (written found.value ++ (codes " bound " ++ (end_text found.end ++ 10 ∷ [])))))))
+
+-- the printed line of a verdict on a point with duals
+abbrev pub pair_verdict_text : ProgramData → PairVerdict → List ℕ
+pair_verdict_text program (OnPoint verdict) = verdict_text program verdict
+pair_verdict_text program (Dual i found) = no_dual_text program i found
+pair_verdict_text program (ReducedCost j found) = no_reduced_cost_text program j found
+pair_verdict_text program (PastReducedCost j) = past_text program (Column j)
+
+-- its exit status
+abbrev pub status_of_pair_verdict : PairVerdict → ℕ
+status_of_pair_verdict (OnPoint verdict) = status_of_verdict verdict
+status_of_pair_verdict (Dual i found) = 9
+status_of_pair_verdict (ReducedCost j found) = 9
+status_of_pair_verdict (PastReducedCost j) = 6
+
+-- what is said of a column that has to be whole, where duals are given
+abbrev pub not_continuous_text : ProgramData → ℕ → List ℕ
+not_continuous_text program j = codes "not continuous: " ++ (column_text program j ++ 10 ∷ [])

@@ -1,43 +1,104 @@
 //! What is said of the texts of a program and a solution.
 
-ghost use Rattle.std.specs.Prelude.{◌≡◌, ◌<◌, ◌≤◌, ◌^◌, ℕ, List, length, option_map, Some, IfOk, IfSome};
+ghost use Rattle.std.specs.Prelude.{◌≡◌, ◌<◌, ◌≤◌, ◌^◌, ℕ, List, length, option_map, Some, None, IfOk, IfSome};
 ghost use Rattle.file_ports.specs.Ports.{Moment};
 ghost use Rattle.command_line.specs.Line.{CheckNames};
 ghost use Rattle.endings.specs.declared.reads.TheConstants.{INPUT_LIMIT, SOLUTION_LIMIT};
 ghost use Rattle.endings.specs.Moments.{Finds, Reads};
 ghost use Rattle.endings.specs.Ending.{status_of, text_of};
-ghost use Rattle.endings.specs.SolutionTexts.{IsPointOf};
+ghost use Rattle.lp_model.specs.Meaning.{meaning};
+ghost use Rattle.lp_model.specs.Optimality.{Continuous};
+ghost use Rattle.lp_model.specs.Writable.{EntriesAscend};
+ghost use Rattle.check_command.specs.PairTexts.{IsPairOf};
 ghost use Rattle.check_command.specs.Checked.{SaysCheck, SaysSolution, check_dialect};
 
+use crate::pair_verdict_text::{not_continuous_text, pair_verdict_ending};
 use crate::verdict_text::verdict_ending;
 use endings::{Ending, fault_line, solution_fault_line};
-use lp_model::{Pair, Point, Program};
+use lp_check::{check_pair, check_point, first_whole_column};
+use lp_model::{Duals, Pair, Point, Program};
 use mps_reader::{Dialect, MpsError, read_mps};
-use point_text::{SolError, read_solution};
+use point_text::{SolError, read_pair};
 use std::alloc::{AllocError, Global};
 
 /// What is said of a point.
-fn judge_point(alloc: Global, program: &Program, point: Point) -> Result<Ending, AllocError>
-    requires long { length point ≡ length program.now.columns }
+fn judge_point(alloc: Global, program: &Program, point: &Point) -> Result<Ending, AllocError>
+    requires long { length point.now ≡ length program.now.columns }
     requires few { (length program.now.rows < 2 ^ 32) × (length program.now.columns < 2 ^ 32) }
-    ensures { (name : List ℕ) → (before now : Moment) → Reads SOLUTION_LIMIT (before.told name) (λ text. IsPointOf program.now text point)
+    ensures { (name : List ℕ) → (before now : Moment) → Reads SOLUTION_LIMIT (before.told name) (λ text. IsPairOf program.now text point.now None)
         → IfOk result (λ ending. SaysSolution program.now name before now ending) }
 {
-    let pair = Pair { point, duals: None };
-    match lp_check::check(alloc, program, &pair) {
+    match check_point(alloc, program, point) {
         Ok(verdict) => verdict_ending(alloc, program, verdict),
         Err(error) => Err(error),
     }
 }
 
+/// What is said of a point with duals, where no column has to be whole.
+fn judge_continuous(
+    alloc: Global,
+    program: &Program,
+    point: &Point,
+    duals: &Duals,
+) -> Result<Ending, AllocError>
+    requires long { length point.now ≡ length program.now.columns }
+    requires each { length duals.now ≡ length program.now.rows }
+    requires few { (length program.now.rows < 2 ^ 32) × (length program.now.columns < 2 ^ 32) }
+    requires ascends { EntriesAscend program.now }
+    requires continuous { Continuous (meaning program.now) }
+    ensures { (name : List ℕ) → (before now : Moment) → Reads SOLUTION_LIMIT (before.told name) (λ text. IsPairOf program.now text point.now (Some duals.now))
+        → IfOk result (λ ending. SaysSolution program.now name before now ending) }
+{
+    match check_pair(alloc, program, point, duals) {
+        Ok(verdict) => pair_verdict_ending(alloc, program, verdict),
+        Err(error) => Err(error),
+    }
+}
+
+/// What is said of a point with duals. Where a column has to be whole, that is all that is said.
+fn judge_pair(
+    alloc: Global,
+    program: &Program,
+    point: &Point,
+    duals: &Duals,
+) -> Result<Ending, AllocError>
+    requires long { length point.now ≡ length program.now.columns }
+    requires each { length duals.now ≡ length program.now.rows }
+    requires few { (length program.now.rows < 2 ^ 32) × (length program.now.columns < 2 ^ 32) }
+    requires ascends { EntriesAscend program.now }
+    ensures { (name : List ℕ) → (before now : Moment) → Reads SOLUTION_LIMIT (before.told name) (λ text. IsPairOf program.now text point.now (Some duals.now))
+        → IfOk result (λ ending. SaysSolution program.now name before now ending) }
+{
+    match first_whole_column(program) {
+        Some(column) => Ok(Ending::Refused(not_continuous_text(alloc, program, column)?)),
+        None => judge_continuous(alloc, program, point, duals),
+    }
+}
+
+/// What is said of a point, with duals if there are any.
+fn judge_given(alloc: Global, program: &Program, pair: &Pair) -> Result<Ending, AllocError>
+    requires long { length pair.now.point ≡ length program.now.columns }
+    requires each { IfSome pair.now.duals (λ duals. length duals ≡ length program.now.rows) }
+    requires few { (length program.now.rows < 2 ^ 32) × (length program.now.columns < 2 ^ 32) }
+    requires ascends { EntriesAscend program.now }
+    ensures { (name : List ℕ) → (before now : Moment) → Reads SOLUTION_LIMIT (before.told name) (λ text. IsPairOf program.now text pair.now.point pair.now.duals)
+        → IfOk result (λ ending. SaysSolution program.now name before now ending) }
+{
+    match &pair.duals {
+        Some(duals) => judge_pair(alloc, program, &pair.point, duals),
+        None => judge_point(alloc, program, &pair.point),
+    }
+}
+
 /// What is said of a solution's text.
 fn judge_text(alloc: Global, program: &Program, text: &[u8]) -> Result<Ending, AllocError>
-    requires { (length program.now.rows < 2 ^ 32) × (length program.now.columns < 2 ^ 32) }
+    requires few { (length program.now.rows < 2 ^ 32) × (length program.now.columns < 2 ^ 32) }
+    requires ascends { EntriesAscend program.now }
     ensures { (name : List ℕ) → (before now : Moment) → Finds SOLUTION_LIMIT name before now (Some text.now)
         → IfOk result (λ ending. SaysSolution program.now name before now ending) }
 {
-    match read_solution(alloc, text, program) {
-        Ok(point) => judge_point(alloc, program, point),
+    match read_pair(alloc, text, program) {
+        Ok(pair) => judge_given(alloc, program, &pair),
         Err(SolError::Fault(fault)) => {
             Ok(Ending::SolutionRefused(solution_fault_line(alloc, fault)?))
         }
@@ -51,7 +112,8 @@ fn judge_solution(
     program: &Program,
     solution: Option<Vec<u8>>,
 ) -> Result<Ending, AllocError>
-    requires { (length program.now.rows < 2 ^ 32) × (length program.now.columns < 2 ^ 32) }
+    requires few { (length program.now.rows < 2 ^ 32) × (length program.now.columns < 2 ^ 32) }
+    requires ascends { EntriesAscend program.now }
     ensures { (name : List ℕ) → (before now : Moment) → Finds SOLUTION_LIMIT name before now (option_map (λ text. text.items) solution)
         → IfOk result (λ ending. SaysSolution program.now name before now ending) }
 {

@@ -11,7 +11,7 @@ use lp_model::{Labels, Program};
 use std::alloc::{AllocError, Global};
 
 /// Appends the name of a column, if there is one of this id.
-fn push_column(out: &mut Vec<u8>, program: &Program, id: u32) -> Result<(), AllocError>
+pub fn push_column(out: &mut Vec<u8>, program: &Program, id: u32) -> Result<(), AllocError>
     ensures { OnOk result (out.new.items ≡ out.old.items ++ column_text program.now id) }
 {
     if (id as usize) < program.column_count() {
@@ -21,7 +21,7 @@ fn push_column(out: &mut Vec<u8>, program: &Program, id: u32) -> Result<(), Allo
 }
 
 /// Appends the name of a row, if there is one of this id.
-fn push_row(out: &mut Vec<u8>, program: &Program, id: u32) -> Result<(), AllocError>
+pub fn push_row(out: &mut Vec<u8>, program: &Program, id: u32) -> Result<(), AllocError>
     ensures { OnOk result (out.new.items ≡ out.old.items ++ row_text program.now id) }
 {
     if (id as usize) < program.row_count() {
@@ -93,7 +93,7 @@ fn no_text(
     Ok(text)
 }
 
-fn past_text(alloc: Global, program: &Program, item: Item) -> Result<Vec<u8>, AllocError>
+pub fn past_text(alloc: Global, program: &Program, item: Item) -> Result<Vec<u8>, AllocError>
     ensures { IfOk result (λ text. text.items ≡ past_text program.now item) }
 {
     let mut text = Vec::new(alloc);

@@ -3,3 +3,6 @@ pub mod Steps
 pub mod Counting
 pub mod RowSums
 pub mod RowReads
+pub mod Pricing
+pub mod DualReads
+pub mod Pairs

@@ -1,3 +1,6 @@
 pub mod Limits
 pub mod Deciding
 pub mod Summing
+pub mod Placing
+pub mod DecidingPairs
+pub mod FirstWhole

@@ -1,15 +1,22 @@
-//! What a verdict says of a point. The functions do nothing when they run: each states a law, and its check proves it.
+//! What a verdict says of a point, and of a point with duals. The functions do nothing when they run: each states a law, and its check proves it.
 
-ghost use Rattle.std.specs.Prelude.{◌≡◌};
+ghost use Rattle.std.specs.Prelude.{◌≡◌, ℕ};
 ghost use Rattle.rational.specs.Number.{Number};
+ghost use Rattle.lp_model.specs.declared.program.Sense.{Sense};
 ghost use Rattle.lp_model.specs.Vectors.{Vector};
 ghost use Rattle.lp_model.specs.LinearProgram.{LinearProgram, cost_at, Feasible};
+ghost use Rattle.lp_model.specs.Optimality.{Continuous, Meets};
 ghost use Rattle.lp_model.specs.Room.{ValuesFit, CostFits};
+ghost use Rattle.lp_model.specs.Senses.{NoWorse};
 ghost use Rattle.lp_check.specs.declared.verdicts.Item.{Item};
 ghost use Rattle.lp_check.specs.declared.verdicts.Limit.{Limit};
 ghost use Rattle.lp_check.specs.declared.verdicts.Verdict.{Verdict};
 ghost use Rattle.lp_check.specs.declared.verdicts.Verdict.TheVariants.{Yes, No, Past};
+ghost use Rattle.lp_check.specs.declared.pair_verdicts.Misplaced.{Misplaced};
+ghost use Rattle.lp_check.specs.declared.pair_verdicts.PairVerdict.{PairVerdict};
+ghost use Rattle.lp_check.specs.declared.pair_verdicts.PairVerdict.TheVariants.{OnPoint, Dual, ReducedCost, PastReducedCost};
 ghost use Rattle.lp_check.specs.Deciding.{Decides};
+ghost use Rattle.lp_check.specs.DecidingPairs.{ReducedCostsFit, DecidesPair};
 
 /// A point with the verdict yes is feasible, its sums have room, and the verdict has its cost.
 pub fn yes_is_feasible()
@@ -37,4 +44,34 @@ pub fn feasible_is_yes()
 /// There is one verdict on a point.
 pub fn verdicts_are_one()
     ensures { (M : LinearProgram) (x : Vector) (one other : Verdict) → Decides M x one → Decides M x other → one ≡ other }
+{}
+
+/// A point and duals with the verdict yes, of a program where no column has to be whole, meet the optimality conditions. The verdict
+/// has the point's cost, no feasible point has a better one, and all sums have room.
+pub fn yes_with_duals_is_best()
+    ensures meets { (s : Sense) (M : LinearProgram) (x y : Vector) (c : Number) → Continuous M → DecidesPair s M x y (OnPoint (Yes c)) → Meets s M x y }
+    ensures best { (s : Sense) (M : LinearProgram) (x y : Vector) (c : Number) → Continuous M → DecidesPair s M x y (OnPoint (Yes c)) → (w : Vector) → Feasible M w → NoWorse s c (cost_at M w) }
+    ensures cost { (s : Sense) (M : LinearProgram) (x y : Vector) (c : Number) → DecidesPair s M x y (OnPoint (Yes c)) → c ≡ cost_at M x }
+    ensures values { (s : Sense) (M : LinearProgram) (x y : Vector) (c : Number) → DecidesPair s M x y (OnPoint (Yes c)) → ValuesFit M x }
+    ensures reduced_costs { (s : Sense) (M : LinearProgram) (x y : Vector) (c : Number) → DecidesPair s M x y (OnPoint (Yes c)) → ReducedCostsFit M y }
+    ensures room { (s : Sense) (M : LinearProgram) (x y : Vector) (c : Number) → DecidesPair s M x y (OnPoint (Yes c)) → CostFits M x }
+{}
+
+/// A point and duals with the verdict no do not meet the optimality conditions.
+pub fn no_with_duals_is_not_optimal()
+    ensures point { (s : Sense) (M : LinearProgram) (x y : Vector) (item : Item) (v : Number) (limit : Limit) → DecidesPair s M x y (OnPoint (No item v limit)) → Meets s M x y → ⊥ }
+    ensures dual { (s : Sense) (M : LinearProgram) (x y : Vector) (i : ℕ) (found : Misplaced) → DecidesPair s M x y (Dual i found) → Meets s M x y → ⊥ }
+    ensures reduced_cost { (s : Sense) (M : LinearProgram) (x y : Vector) (j : ℕ) (found : Misplaced) → DecidesPair s M x y (ReducedCost j found) → Meets s M x y → ⊥ }
+{}
+
+/// With duals too, past is said only where a sum has no room.
+pub fn past_with_duals_has_no_room()
+    ensures point { (s : Sense) (M : LinearProgram) (x y : Vector) (item : Item) → DecidesPair s M x y (OnPoint (Past item)) → ValuesFit M x → CostFits M x → ⊥ }
+    ensures reduced_cost { (s : Sense) (M : LinearProgram) (x y : Vector) (j : ℕ) → DecidesPair s M x y (PastReducedCost j) → ReducedCostsFit M y → ⊥ }
+{}
+
+/// Where all sums have room, the verdict on a point and duals that meet the optimality conditions is yes, with the cost.
+pub fn optimal_is_yes()
+    ensures { (s : Sense) (M : LinearProgram) (x y : Vector) (verdict : PairVerdict) → Meets s M x y → ValuesFit M x → ReducedCostsFit M y → CostFits M x → DecidesPair s M x y verdict
+        → verdict ≡ OnPoint (Yes (cost_at M x)) }
 {}

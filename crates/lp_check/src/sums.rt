@@ -27,7 +27,7 @@ pub struct RowSum {
 ///
 /// # Errors
 /// [`Past`] exactly where the product or the sum has no room.
-fn plus_product(sum: &Frac, factor: &Frac, number: &Frac) -> Result<Frac, Past>
+pub fn plus_product(sum: &Frac, factor: &Frac, number: &Frac) -> Result<Frac, Past>
     ensures value { IfOk result (λ r. r ≡ sum.now +ℚ factor.now *ℚ number.now) }
     ensures kept { IfOk result (λ r. Fits r) }
     ensures fits { IsOk result ↔ (Fits (factor.now *ℚ number.now) × SumFits sum.now (factor.now *ℚ number.now)) }

@@ -1,0 +1,106 @@
+//! Verdicts on points with duals as text.
+
+ghost use Rattle.std.specs.Prelude.{◌≡◌, ◌++◌, OnOk, IfOk};
+ghost use Rattle.check_command.specs.VerdictText.{end_text, no_dual_text, no_reduced_cost_text, not_continuous_text};
+ghost use Rattle.check_command.specs.Checked.{TellsPairVerdict};
+
+use crate::verdict_text::{past_text, push_column, push_row, verdict_ending};
+use endings::Ending;
+use lp_check::{End, Item, Misplaced, PairVerdict};
+use lp_model::Program;
+use std::alloc::{AllocError, Global};
+
+/// Appends an end, `-inf` or `inf` where it is infinite.
+fn push_end(out: &mut Vec<u8>, end: End) -> Result<(), AllocError>
+    ensures { OnOk result (out.new.items ≡ out.old.items ++ end_text end) }
+{
+    match end {
+        End::Lower(lower) => match lower.number() {
+            Some(number) => number_texts::push(out, &number),
+            None => out.extend_from_slice(b"-inf"),
+        },
+        End::Upper(upper) => match upper.number() {
+            Some(number) => number_texts::push(out, &number),
+            None => out.extend_from_slice(b"inf"),
+        },
+    }
+}
+
+fn no_dual_text(
+    alloc: Global,
+    program: &Program,
+    row: u32,
+    found: &Misplaced,
+) -> Result<Vec<u8>, AllocError>
+    ensures { IfOk result (λ text. text.items ≡ no_dual_text program.now row found.now) }
+{
+    let mut text = Vec::new(alloc);
+    text.extend_from_slice(b"no dual ")?;
+    push_row(&mut text, program, row)?;
+    text.extend_from_slice(b" y ")?;
+    number_texts::push(&mut text, &found.multiplier)?;
+    text.extend_from_slice(b" value ")?;
+    number_texts::push(&mut text, &found.value)?;
+    text.extend_from_slice(b" side ")?;
+    push_end(&mut text, found.end)?;
+    text.push(b'\n')?;
+    Ok(text)
+}
+
+fn no_reduced_cost_text(
+    alloc: Global,
+    program: &Program,
+    column: u32,
+    found: &Misplaced,
+) -> Result<Vec<u8>, AllocError>
+    ensures { IfOk result (λ text. text.items ≡ no_reduced_cost_text program.now column found.now) }
+{
+    let mut text = Vec::new(alloc);
+    text.extend_from_slice(b"no reduced cost ")?;
+    push_column(&mut text, program, column)?;
+    text.extend_from_slice(b" z ")?;
+    number_texts::push(&mut text, &found.multiplier)?;
+    text.extend_from_slice(b" value ")?;
+    number_texts::push(&mut text, &found.value)?;
+    text.extend_from_slice(b" bound ")?;
+    push_end(&mut text, found.end)?;
+    text.push(b'\n')?;
+    Ok(text)
+}
+
+/// What is said of a column that has to be whole, where duals are given.
+pub fn not_continuous_text(
+    alloc: Global,
+    program: &Program,
+    column: u32,
+) -> Result<Vec<u8>, AllocError>
+    ensures { IfOk result (λ text. text.items ≡ not_continuous_text program.now column) }
+{
+    let mut text = Vec::new(alloc);
+    text.extend_from_slice(b"not continuous: ")?;
+    push_column(&mut text, program, column)?;
+    text.push(b'\n')?;
+    Ok(text)
+}
+
+/// The ending of a check of a point with duals with this verdict.
+pub fn pair_verdict_ending(
+    alloc: Global,
+    program: &Program,
+    verdict: PairVerdict,
+) -> Result<Ending, AllocError>
+    ensures { IfOk result (λ ending. TellsPairVerdict program.now verdict ending) }
+{
+    match verdict {
+        PairVerdict::OnPoint(verdict) => verdict_ending(alloc, program, verdict),
+        PairVerdict::Dual { row, found } => {
+            Ok(Ending::Violated(no_dual_text(alloc, program, row, &found)?))
+        }
+        PairVerdict::ReducedCost { column, found } => Ok(Ending::Violated(no_reduced_cost_text(
+            alloc, program, column, &found,
+        )?)),
+        PairVerdict::PastReducedCost { column } => {
+            Ok(Ending::NoRoom(past_text(alloc, program, Item::Column(column))?))
+        }
+    }
+}

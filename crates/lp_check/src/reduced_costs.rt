@@ -1,0 +1,107 @@
+//! The columns' reduced costs.
+
+ghost use Rattle.std.specs.Prelude.{◌≡◌, ◌<◌, ◌^◌, ◌↔◌, length, IfOk, IsOk, MatchOption};
+ghost use Rattle.rational.specs.Number.{◌*ℚ◌};
+ghost use Rattle.rational.specs.Total.{total};
+ghost use Rattle.lp_model.specs.Vectors.{vector_of};
+ghost use Rattle.lp_model.specs.Sparse.{dense, Ascends};
+ghost use Rattle.lp_model.specs.Room.{ProductsFit};
+ghost use Rattle.lp_model.specs.Writable.{EntriesAscend};
+ghost use Rattle.lp_model.specs.Meaning.{meaning};
+ghost use Rattle.lp_model.specs.Optimality.{reduced_cost};
+ghost use Rattle.lp_check.specs.declared.verdicts.Item.TheVariants.{Cost};
+ghost use Rattle.lp_check.specs.Deciding.{EarlierPass};
+ghost use Rattle.lp_check.specs.DecidingPairs.{DualsPass, ReducedCostFits, ReducedCostPasses, ReducedCostsPass, DecidesPair};
+
+use crate::pair_verdicts::PairVerdict;
+use crate::placing::misplaced;
+use crate::sums::plus_product;
+use fractions::Past;
+use fractions::frac::Frac;
+use lp_model::{Duals, Point, Program, Term};
+
+/// The sum of a column's entries, each times the dual of its row, by ascending row.
+///
+/// # Errors
+/// [`Past`] exactly where a product or a step has no room.
+fn priced_sum(entries: &[Term], duals: &[Frac]) -> Result<Frac, Past>
+    requires { Ascends 0 (length duals.now) entries.now }
+    ensures value { IfOk result (λ s. s ≡ total (length duals.now) (λ i. vector_of duals.now i *ℚ dense entries.now i)) }
+    ensures fits { IsOk result ↔ ProductsFit (length duals.now) (vector_of duals.now) (dense entries.now) }
+{
+    let mut sum = Frac::zero();
+    let mut rest = entries;
+    while let Some((entry, after)) = rest.split_first() {
+        sum = plus_product(&sum, &duals[entry.id as usize], &entry.value)?;
+        rest = after;
+    }
+    Ok(sum)
+}
+
+/// The reduced cost of a column: its cost less the sum of its entries, each times the dual of its row.
+///
+/// # Errors
+/// [`Past`] exactly where the sum or the difference has no room.
+fn reduced_cost(program: &Program, column: usize, duals: &Duals) -> Result<Frac, Past>
+    requires each { length duals.now ≡ length program.now.rows }
+    requires ascends { EntriesAscend program.now }
+    requires within { column < length program.now.columns }
+    ensures value { IfOk result (λ z. z ≡ reduced_cost (meaning program.now) (vector_of duals.now) column) }
+    ensures fits { IsOk result ↔ ReducedCostFits (meaning program.now) (vector_of duals.now) column }
+{
+    let column = &program.columns()[column];
+    let sum = priced_sum(column.entries.as_slice(), duals.as_slice())?;
+    column.cost.sub(&sum)
+}
+
+/// No or past, where the reduced cost of a column does not pass.
+fn reduced_cost_verdict(
+    program: &Program,
+    point: &Point,
+    duals: &Duals,
+    column: u32,
+) -> Option<PairVerdict>
+    requires long { length point.now ≡ length program.now.columns }
+    requires each { length duals.now ≡ length program.now.rows }
+    requires ascends { EntriesAscend program.now }
+    requires within { column < length program.now.columns }
+    ensures { EarlierPass (meaning program.now) (vector_of point.now) Cost
+        → DualsPass program.now.sense (meaning program.now) (vector_of point.now) (vector_of duals.now) (length program.now.rows)
+        → ReducedCostsPass program.now.sense (meaning program.now) (vector_of point.now) (vector_of duals.now) column
+        → MatchOption result (ReducedCostPasses program.now.sense (meaning program.now) (vector_of point.now) (vector_of duals.now) column)
+        (λ verdict. DecidesPair program.now.sense (meaning program.now) (vector_of point.now) (vector_of duals.now) verdict) }
+{
+    let id = column as usize;
+    let Ok(multiplier) = reduced_cost(program, id, duals) else {
+        return Some(PairVerdict::PastReducedCost { column });
+    };
+    let bounds = &program.columns()[id];
+    let value = &point.as_slice()[id];
+    let found = misplaced(
+        program.sense(),
+        &multiplier,
+        value,
+        &bounds.lower,
+        &bounds.upper,
+    )?;
+    Some(PairVerdict::ReducedCost { column, found })
+}
+
+/// No or past, by the first column whose reduced cost does not pass.
+pub fn failing_reduced_cost(program: &Program, point: &Point, duals: &Duals) -> Option<PairVerdict>
+    requires long { length point.now ≡ length program.now.columns }
+    requires each { length duals.now ≡ length program.now.rows }
+    requires few { length program.now.columns < 2 ^ 32 }
+    requires ascends { EntriesAscend program.now }
+    requires point { EarlierPass (meaning program.now) (vector_of point.now) Cost }
+    requires duals { DualsPass program.now.sense (meaning program.now) (vector_of point.now) (vector_of duals.now) (length program.now.rows) }
+    ensures { MatchOption result (ReducedCostsPass program.now.sense (meaning program.now) (vector_of point.now) (vector_of duals.now) (length program.now.columns))
+        (λ verdict. DecidesPair program.now.sense (meaning program.now) (vector_of point.now) (vector_of duals.now) verdict) }
+{
+    for j in 0..program.columns().len() {
+        if let Some(verdict) = reduced_cost_verdict(program, point, duals, j as u32) {
+            return Some(verdict);
+        }
+    }
+    None
+}
