@@ -2,10 +2,13 @@
 #![tactic(auto)]
 
 mod labels;
+mod onlooker;
 mod outcome;
 mod pass;
 mod reduce;
 mod rounds;
 
+pub use onlooker::{NoOnlooker, Onlooker};
 pub use outcome::{DecidedProgram, Presolved, ReducedProgram};
-pub use reduce::presolve;
+pub use reduce::{opened, presolve};
+pub use rounds::run;

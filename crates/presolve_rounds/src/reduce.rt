@@ -9,6 +9,7 @@ ghost use Rattle.presolve_rounds.specs.Conclusions.{Concludes};
 ghost use Rattle.presolve_rounds.specs.Running.{EndsWith};
 
 use crate::labels::records_of;
+use crate::onlooker::NoOnlooker;
 use crate::outcome::{DecidedProgram, Presolved, ReducedProgram};
 use crate::rounds::run;
 use instances::says_no_point;
@@ -19,7 +20,7 @@ use std::alloc::{AllocError, Global};
 use txn_book::Book;
 
 /// A book of a program's problem.
-fn opened(alloc: Global, program: &Program, options: &Options) -> Result<Book, AllocError>
+pub fn opened(alloc: Global, program: &Program, options: &Options) -> Result<Book, AllocError>
     requires few_rows { length program.now.rows < 2 ^ 32 }
     requires few_columns { length program.now.columns < 2 ^ 32 }
     requires ascends { EntriesAscend program.now }
@@ -104,7 +105,7 @@ pub fn presolve(alloc: Global, program: Program, options: &Options) -> Result<Pr
     ensures { IfOk result (λ made. Concludes options.now program made) }
 {
     let mut book = opened(alloc, &program, options)?;
-    let end = run(alloc, &mut book)?;
+    let end = run(alloc, &mut book, &mut NoOnlooker)?;
     match end {
         Some(end) => Ok(Presolved::Reduced(reduced(alloc, &program, book, end)?)),
         None => Ok(concluded(&program, options, decided(&program, book))),

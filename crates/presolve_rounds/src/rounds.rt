@@ -17,6 +17,7 @@ ghost use Rattle.round_marks.specs.Marking.{AreReached};
 ghost use Rattle.presolve_rounds.specs.Readiness.{AreMarked, IsReady};
 ghost use Rattle.presolve_rounds.specs.Running.{EndsWith, IsFirst};
 
+use crate::onlooker::Onlooker;
 use crate::pass::pass;
 use instances::{Tally, reduction_rules, verdict_rules};
 use line_groups::Parallels;
@@ -146,10 +147,11 @@ fn end_at_limit(
 
 /// Rounds until nothing can be applied, a verdict was, or the limit is reached, with the groups of the book's problem. None where the book is
 /// decided.
-fn run_with(
+fn run_with<O: Onlooker>(
     alloc: Global,
     book: &mut Book,
     groups: &mut Parallels,
+    onlooker: &mut O,
 ) -> Result<Option<End>, AllocError>
     requires groups { AreGroupsOf groups.old book.old.problem }
     requires undecided { book.old.verdict ≡ None }
@@ -166,6 +168,7 @@ fn run_with(
     while book.applied() < limit {
         let applied = book.applied();
         round(alloc, book, &mut stamps, groups, &mut ids, &mut watch)?;
+        onlooker.after_round(alloc, book)?;
         if book.verdict().is_some() {
             return Ok(None);
         }
@@ -184,8 +187,13 @@ fn run_with(
     end_at_limit(alloc, book, groups)
 }
 
-/// Rounds until nothing can be applied, a verdict was, or the limit is reached. None where the book is decided.
-pub fn run(alloc: Global, book: &mut Book) -> Result<Option<End>, AllocError>
+/// Rounds until nothing can be applied, a verdict was, or the limit is reached. None where the book is decided. The onlooker is told after
+/// each round.
+pub fn run<O: Onlooker>(
+    alloc: Global,
+    book: &mut Book,
+    onlooker: &mut O,
+) -> Result<Option<End>, AllocError>
     requires undecided { book.old.verdict ≡ None }
     requires counted { (a : Part) → changes_of book.old.problem a ≤ length book.old.history }
     ensures book { OnOk result (IsSameBook book.old book.new) }
@@ -193,5 +201,5 @@ pub fn run(alloc: Global, book: &mut Book) -> Result<Option<End>, AllocError>
     ensures end { IfOk result (λ end. EndsWith end book.new) }
 {
     let mut groups = Parallels::of(alloc, book.problem())?;
-    run_with(alloc, book, &mut groups)
+    run_with(alloc, book, &mut groups, onlooker)
 }

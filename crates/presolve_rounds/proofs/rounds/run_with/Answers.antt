@@ -13,7 +13,7 @@ use Rattle.problem_model.specs.Sparse.{Sparse}
 use Rattle.presolve_model.specs.declared.conclusion.End.TheVariants.{Fixpoint}
 
 pub loop-book-init : goal.loop-book-init
-loop-book-init c = record {
+loop-book-init g c = record {
   same = record { start = refl; numbers = refl; limit = refl };
   limit = c.limit-limit.ensures;
   undecided = c.requires.undecided;
@@ -24,13 +24,13 @@ loop-book-init c = record {
 }
 
 pub loop-book-smaller : goal.loop-book-smaller
-loop-book-smaller c =
+loop-book-smaller g c =
     let more : length c.loop-book.book.history < length c.round.new.book.history =
     more_applied c.loop-book.book c.round.new.book c.in_ok-round.ensures.committed (λ e. c.if-applied.false (c.applied-in-loop-book.ensures ∙ e ∙ sym c.applied-applied.ensures)) in
     omega (arith, more, c.loop-book-test.true, c.applied.ensures)
 
 pub loop-book-preserved : goal.loop-book-preserved
-loop-book-preserved c =
+loop-book-preserved g c =
     let b = c.loop-book.book in
     let d = c.round.new.book in
     let room : length b.history < b.limit = omega (arith, c.loop-book-test.true, c.applied.ensures, c.loop-book.invariant.limit) in
@@ -47,7 +47,7 @@ loop-book-preserved c =
     }
 
 pub returns-then-applied-clause-end : goal.returns-then-applied-clause-end
-returns-then-applied-clause-end c =
+returns-then-applied-clause-end g c =
     let b = c.loop-book.book in
     let d = c.round.new.book in
     at_fixpoint b d c.in_ok-skipped.skipped c.loop-book.invariant.undecided (omega (arith, c.loop-book-test.true, c.applied.ensures, c.loop-book.invariant.limit)) c.in_ok-round.ensures.committed
@@ -55,14 +55,14 @@ returns-then-applied-clause-end c =
     (c.in_ok-skipped.ensures ∙ (λ t. skipped_on (open_on (c.tally.ensures t)) (c.problem-then-applied.ensures t)))
 
 pub returns-then-is_some-clause-ordered : goal.returns-then-is_some-clause-ordered
-returns-then-is_some-clause-ordered c =
+returns-then-is_some-clause-ordered g c =
     let b = c.loop-book.book in
     let d = c.round.new.book in
     c.loop-book.invariant.ordered None d (run_stops b d None (omega (arith, c.loop-book-test.true, c.applied.ensures, c.loop-book.invariant.limit)) c.in_ok-round.ensures.committed
     (some_of c.verdict.result d.verdict c.verdict.ensures c.if-is_some.ensures))
 
 pub skipped-requires : goal.skipped-requires
-skipped-requires c =
+skipped-requires g c =
     let b = c.loop-book.book in
     let d = c.round.new.book in
     let long : length d.history ≡ length b.history = sym c.applied-in-loop-book.ensures ∙ c.if-applied.true ∙ c.applied-applied.ensures in
@@ -76,7 +76,7 @@ skipped-requires c =
     }
 
 pub returns-then-applied-clause-ordered : goal.returns-then-applied-clause-ordered
-returns-then-applied-clause-ordered c =
+returns-then-applied-clause-ordered g c =
     let b = c.loop-book.book in
     let d = c.round.new.book in
     let long : length d.history ≡ length b.history = sym c.applied-in-loop-book.ensures ∙ c.if-applied.true ∙ c.applied-applied.ensures in
@@ -84,7 +84,7 @@ returns-then-applied-clause-ordered c =
     (none_of c.verdict.result d.verdict c.verdict.ensures c.if-is_some.ensures, long, c.in_ok-skipped.ensures ∙ (λ t. skipped_on (open_on (c.tally.ensures t)) (c.problem-then-applied.ensures t))))
 
 pub round-requires-clause-groups : goal.round-requires-clause-groups
-round-requires-clause-groups c = c.loop-book.invariant.groups
+round-requires-clause-groups g c = c.loop-book.invariant.groups
 
 pub end_at_limit-requires-clause-groups : goal.end_at_limit-requires-clause-groups
-end_at_limit-requires-clause-groups c = c.loop-book.invariant.groups
+end_at_limit-requires-clause-groups g c = c.loop-book.invariant.groups

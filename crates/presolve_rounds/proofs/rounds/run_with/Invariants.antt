@@ -9,7 +9,7 @@ use Rattle.presolve_rounds.proofs.rounds.run_with.Given as goal
 
 -- what ends the run from here ends it from the start
 abbrev pub invariant-loop-book : goal.invariant-loop-book
-invariant-loop-book l = record {
+invariant-loop-book g l = record {
   same : IsSameBook l.initial.book l.book;
   limit : l.limit ≡ l.book.limit;
   undecided : l.book.verdict ≡ None;
@@ -20,4 +20,4 @@ invariant-loop-book l = record {
 
 -- each round but the last applies something
 abbrev pub decreases-loop-book : goal.decreases-loop-book
-decreases-loop-book l = l.limit - length l.book.history
+decreases-loop-book g l = l.limit - length l.book.history

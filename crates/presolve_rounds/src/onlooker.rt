@@ -1,0 +1,23 @@
+//! Who looks on at a run.
+
+use std::alloc::{AllocError, Global};
+use txn_book::Book;
+
+/// Is told of a run after each of its rounds. It promises nothing but to return, so no result rests on it.
+pub trait Onlooker {
+    /// A round has ended, and left this book.
+    ///
+    /// # Errors
+    /// Memory ran out; the run ends with that.
+    fn after_round(&mut self, alloc: Global, book: &Book) -> Result<(), AllocError>;
+}
+
+/// Does not look.
+#[derive(Clone, Copy, Debug, Default)]
+pub struct NoOnlooker;
+
+impl Onlooker for NoOnlooker {
+    fn after_round(&mut self, _alloc: Global, _book: &Book) -> Result<(), AllocError> {
+        Ok(())
+    }
+}
