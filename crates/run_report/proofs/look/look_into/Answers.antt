@@ -1,0 +1,15 @@
+use Rattle.std.proofs.Common.{ap}
+use Rattle.presolve_model.specs.Ledger.{Ledger}
+use Rattle.presolve_rounds.proofs.Concluding.{counted_new}
+use Rattle.run_report.proofs.Holding.{run_looked}
+use Rattle.run_report.proofs.look.look_into.Goals as goal
+
+pub run-requires-clause-undecided : goal.run-requires-clause-undecided
+run-requires-clause-undecided g c = ap (λ (b : Ledger). b.verdict) c.in_ok-book.ensures.new
+
+pub run-requires-clause-counted : goal.run-requires-clause-counted
+run-requires-clause-counted g c = counted_new c.args.program.now c.args.options.now c.in_ok-book.book c.in_ok-book.ensures.start c.in_ok-book.ensures.new
+
+pub returns-clause-runs : goal.returns-clause-runs
+returns-clause-runs g c =
+    (run_looked c.args.program.now c.args.options.now c.in_ok-book.book c.run.new.book c.held_in.new.book c.in_ok-end.end c.in_ok-book.ensures.start c.in_ok-book.ensures.new c.in_ok-end.ensures.book c.in_ok-end.ensures.ordered c.held_in.ensures.book).1

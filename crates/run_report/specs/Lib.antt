@@ -1,0 +1,5 @@
+pub mod Holding
+pub mod Rules
+pub mod Counts
+pub mod Lines
+pub mod Naming
