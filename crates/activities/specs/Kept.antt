@@ -1,13 +1,13 @@
 -- What is kept of a row.
 use Rattle.std.specs.Prelude.{◌≡◌, Option, List, Ok}
 use Rattle.rational.specs.Number.{Number, zero_ℚ}
-use Rattle.activities.specs.declared.span.Span.{Span}
-use Rattle.activities.specs.declared.span.Extreme.TheVariants.{Least, Greatest}
+use Rattle.row_spans.specs.declared.span.Span.{Span}
+use Rattle.row_spans.specs.declared.span.Extreme.TheVariants.{Least, Greatest}
 use Rattle.activities.specs.declared.row_sums.Kept.{Kept}
 use Rattle.activities.specs.declared.row_sums.Kept.TheVariants.{Common, Before}
-use Rattle.activities.specs.CommonSums.{IsCommonSum}
+use Rattle.kept_sums.specs.CommonSums.{IsCommonSum}
 use Rattle.activities.specs.Prefixes.{sums_before}
-use Rattle.activities.specs.Spans.{ends_at, AreSpans}
+use Rattle.row_spans.specs.Spans.{ends_at, AreSpans}
 
 -- the sum of terms over one denominator, or the sums before each of them
 abbrev pub IsKept : List (Option Number) → Kept → Type 0

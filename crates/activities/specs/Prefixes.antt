@@ -2,7 +2,7 @@
 use Rattle.std.specs.Prelude.{Option, List, [], ◌∷◌, Result}
 use Rattle.rational.specs.Number.{Number}
 use Rattle.fractions.specs.declared.Past.{Past}
-use Rattle.activities.specs.RowSums.{continued, plus_end}
+use Rattle.row_spans.specs.RowSums.{continued, plus_end}
 
 -- a sum, that may be past, with one term more
 abbrev pub with_end : Result Number Past → Option Number → Result Number Past

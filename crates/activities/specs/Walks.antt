@@ -2,8 +2,8 @@
 use Rattle.std.specs.Prelude.{ℕ, Option, Some, None, List, [], ◌∷◌}
 use Rattle.lp_model.specs.declared.terms.Term.{Term}
 use Rattle.problem_model.specs.Sparse.{Sparse}
-use Rattle.activities.specs.declared.span.Span.{Span}
-use Rattle.activities.specs.Spans.{left_in, spans_among}
+use Rattle.row_spans.specs.declared.span.Span.{Span}
+use Rattle.row_spans.specs.Spans.{left_in, spans_among}
 
 -- the spans of terms at live columns, but for the column that is left out
 abbrev pub spans_seen : Sparse → Option ℕ → List Term → List Span

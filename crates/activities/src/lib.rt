@@ -4,20 +4,14 @@
 //! before each term are kept, and a rest is continued from there. `specs/` says what the activities are, and nothing of how they are made.
 #![tactic(auto)]
 
-mod common;
-pub mod exact;
-mod kept_sides;
-pub mod laws;
 mod prefixes;
 mod problem_rows;
 mod row_sums;
-mod span;
+mod spans;
 mod sums;
 
-pub use kept_sides::{Terms, terms_of};
 pub use problem_rows::{greatest, least};
 pub use row_sums::RowSums;
-pub use span::{Extreme, Span};
 
 #[cfg(test)]
 mod tests;

@@ -2,15 +2,15 @@
 
 ghost use Rattle.std.specs.Prelude.{◌≡◌, ◌++◌, IfOk, Ok};
 ghost use Rattle.rational.specs.Number.{zero_ℚ};
-ghost use Rattle.activities.specs.Spans.{end_at, ends_at};
-ghost use Rattle.activities.specs.RowSums.{all_finite as all_are_finite, row_sum, sum_from as sum_on};
+ghost use Rattle.row_spans.specs.Spans.{end_at, ends_at};
+ghost use Rattle.row_spans.specs.RowSums.{all_finite as all_are_finite, row_sum, sum_from as sum_on};
 ghost use Rattle.activities.specs.Prefixes.{sums_before as all_before, with_end};
 
-use crate::span::{Extreme, Span};
 use crate::sums::{all_finite, plus_end, sum_from};
 use fractions::Past;
 use fractions::ext::Ext;
 use fractions::frac::Frac;
+use row_spans::{Extreme, Span};
 use std::alloc::{AllocError, Global};
 
 /// A sum, that may be past, with one term more.

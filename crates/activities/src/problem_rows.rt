@@ -1,19 +1,23 @@
-//! The activities of a row of a problem, by one walk along its entries.
+//! The activities of a row of a problem: as the sums that are kept of it tell, or by one walk along its entries.
 
-ghost use Rattle.std.specs.Prelude.{◌≡◌, ◌∷◌, [], true};
+ghost use Rattle.std.specs.Prelude.{◌≡◌, ◌≢◌, ◌∷◌, [], true, IfSome, Ok};
+ghost use Rattle.lp_model.specs.Sparse.{dense};
 ghost use Rattle.rational.specs.Number.{zero_ℚ};
-ghost use Rattle.problem_model.specs.Problems.{row_at};
-ghost use Rattle.activities.specs.RowSums.{activity, all_finite, plus_end as with_end, row_sum, sum_from};
-ghost use Rattle.activities.specs.Spans.{ends_at, left_in, spans_of as spans_with};
+ghost use Rattle.problem_model.specs.Problems.{column_at, row_at};
+ghost use Rattle.row_spans.specs.RowSums.{activity, all_finite, plus_end as with_end, row_sum, sum_from};
+ghost use Rattle.row_spans.specs.Spans.{ends_at, left_in, others, span_of as span_with, spans_of as spans_with};
+ghost use Rattle.kept_sums.specs.CommonSums.{IsCommonSum};
 ghost use Rattle.activities.specs.Walks.{listed, spans_seen};
-ghost use Rattle.activities.specs.declared.span.Extreme.TheVariants.{Least, Greatest};
+ghost use Rattle.row_spans.specs.declared.span.Extreme.TheVariants.{Least, Greatest};
 
-use crate::span::{Extreme, Span, bound_at, span_of};
+use crate::spans::span_of;
 use crate::sums::plus_end;
 use fractions::Past;
 use fractions::ext::Ext;
 use fractions::frac::Frac;
-use lp_model::Term;
+use kept_sums::{CommonSum, told_activity, told_rest};
+use lp_model::{Term, number_at};
+use row_spans::{Extreme, Span, bound_at, end_of};
 use sparse_problem::Problem;
 
 /// A term with its column's bounds, where the column is live and isn't left out.
@@ -103,6 +107,93 @@ fn activity_of(
     Ok(Ext::at(total))
 }
 
+/// An entry of a row, by its column, with that column's bounds. `None` where the row has none there, or the column is gone.
+fn span_at(problem: &Problem, row: u32, column: u32) -> Option<Span>
+    requires { (row_at problem.now row).live ≡ true }
+    ensures live { IfSome result (λ s. (column_at problem.now column).live ≡ true) }
+    ensures value { IfSome result (λ s. s ≡ span_with problem.now (record { id = column; value = dense (row_at problem.now row).entries column })) }
+    ensures some { IfSome result (λ s. dense (row_at problem.now row).entries column ≢ zero_ℚ) }
+{
+    if !problem.is_column_live(column) {
+        return None;
+    }
+    let entries = problem.rows()[row as usize].entries.as_slice();
+    let value = number_at(entries, column as usize);
+    if value.is_zero() {
+        return None;
+    }
+    Some(span_of(problem, &Term { id: column, value }))
+}
+
+/// The activity without a column that a sum of a whole row tells.
+fn told_without(
+    problem: &Problem,
+    sum: &CommonSum,
+    extreme: Extreme,
+    row: u32,
+    column: u32,
+) -> Option<Ext>
+    requires live { (row_at problem.now row).live ≡ true }
+    requires sum { IsCommonSum (ends_at extreme (spans_with problem.now row)) sum.now }
+    ensures { IfSome result (λ e. activity extreme (others column (spans_with problem.now row)) ≡ Ok e) }
+{
+    problem.is_sparse();
+    let span = span_at(problem, row, column)?;
+    let Ok(end) = end_of(extreme, &span) else {
+        return None;
+    };
+    told_rest(sum, &end)
+}
+
+/// The activity that a sum of a whole row tells.
+fn told_by(
+    problem: &Problem,
+    sum: &CommonSum,
+    extreme: Extreme,
+    row: u32,
+    left_out: Option<u32>,
+) -> Option<Ext>
+    requires live { (row_at problem.now row).live ≡ true }
+    requires sum { IsCommonSum (ends_at extreme (spans_with problem.now row)) sum.now }
+    ensures { IfSome result (λ e. activity extreme (left_in left_out (spans_with problem.now row)) ≡ Ok e) }
+{
+    match left_out {
+        None => Some(told_activity(sum)),
+        Some(column) => told_without(problem, sum, extreme, row, column),
+    }
+}
+
+/// The activity that is told by what is kept of a row, if something is.
+fn told(problem: &Problem, extreme: Extreme, row: u32, left_out: Option<u32>) -> Option<Ext>
+    requires { (row_at problem.now row).live ≡ true }
+    ensures { IfSome result (λ e. activity extreme (left_in left_out (spans_with problem.now row)) ≡ Ok e) }
+{
+    let kept = problem.kept_sums(row)?;
+    match extreme {
+        Extreme::Least => told_by(problem, &kept.least, Extreme::Least, row, left_out),
+        Extreme::Greatest => told_by(problem, &kept.greatest, Extreme::Greatest, row, left_out),
+    }
+}
+
+/// The least, or the greatest, activity of a row.
+fn row_activity(
+    problem: &Problem,
+    extreme: Extreme,
+    row: u32,
+    left_out: Option<u32>,
+) -> Result<Ext, Past>
+    requires { (row_at problem.now row).live ≡ true }
+    ensures { result ≡ activity extreme (left_in left_out (spans_with problem.now row)) }
+{
+    match told(problem, extreme, row, left_out) {
+        Some(value) => Ok(value),
+        None => {
+            let line = &problem.rows()[row as usize];
+            activity_of(problem, extreme, line.entries.as_slice(), left_out)
+        }
+    }
+}
+
 /// The least activity of a row, whole or with one column left out.
 ///
 /// # Errors
@@ -111,8 +202,7 @@ pub fn least(problem: &Problem, row: u32, left_out: Option<u32>) -> Result<Ext, 
     requires { (row_at problem.now row).live ≡ true }
     ensures { result ≡ activity Least (left_in left_out (spans_with problem.now row)) }
 {
-    let line = &problem.rows()[row as usize];
-    activity_of(problem, Extreme::Least, line.entries.as_slice(), left_out)
+    row_activity(problem, Extreme::Least, row, left_out)
 }
 
 /// The greatest activity of a row, whole or with one column left out.
@@ -123,11 +213,5 @@ pub fn greatest(problem: &Problem, row: u32, left_out: Option<u32>) -> Result<Ex
     requires { (row_at problem.now row).live ≡ true }
     ensures { result ≡ activity Greatest (left_in left_out (spans_with problem.now row)) }
 {
-    let line = &problem.rows()[row as usize];
-    activity_of(
-        problem,
-        Extreme::Greatest,
-        line.entries.as_slice(),
-        left_out,
-    )
+    row_activity(problem, Extreme::Greatest, row, left_out)
 }

@@ -1,22 +1,25 @@
 //! The sums of one row, made in one pass.
 
-ghost use Rattle.std.specs.Prelude.{◌≡◌, ◌<◌, ◌+◌, ◌++◌, length, take, drop, IfOk, IfSome, IsTrue, Ok, Some};
+ghost use Rattle.std.specs.Prelude.{◌≡◌, ◌<◌, ◌+◌, ◌++◌, length, take, drop, List, IfOk, IfSome, IsTrue, Ok, Some};
 ghost use Rattle.rational.specs.Number.{zero_ℚ};
 ghost use Rattle.activities.specs.Kept.{IsKept};
-ghost use Rattle.activities.specs.CommonSums.{IsCommonSum};
+ghost use Rattle.kept_sums.specs.CommonSums.{IsCommonSum};
 ghost use Rattle.activities.specs.Prefixes.{sums_before as all_before};
-ghost use Rattle.activities.specs.RowSums.{activity as activity_by, rest as rest_without, row_sum, sum_from as sum_on};
-ghost use Rattle.activities.specs.Spans.{AreSpans, end_at, ends_at, span_at, spans_of as spans_with};
-ghost use Rattle.activities.specs.KeptSides.{KeepsWith};
+ghost use Rattle.row_spans.specs.RowSums.{activity as activity_by, rest as rest_without, row_sum, sum_from as sum_on};
+ghost use Rattle.row_spans.specs.Spans.{AreSpans, end_at, ends_at, span_at, spans_of as spans_with};
+ghost use Rattle.kept_sums.specs.KeptSides.{KeepsTurned};
+ghost use Rattle.kept_sums.specs.KeptSums.{AreSumsOf};
+ghost use Rattle.row_spans.specs.declared.span.Span.{Span as SpanValue};
+ghost use Rattle.row_spans.specs.declared.span.Extreme.TheVariants as extreme_of;
 
-use crate::common::{CommonSum, common_sum, told_activity, told_rest};
-use crate::kept_sides::keeps_replaced;
 use crate::prefixes::{continued_from, sums_before};
-use crate::span::{Extreme, Span, end_of, spans_of};
+use crate::spans::spans_of;
 use crate::sums::{all_finite, sum_from};
 use fractions::Past;
 use fractions::ext::Ext;
 use fractions::frac::Frac;
+use kept_sums::{CommonSum, KeptSums, common_sum, keeps_turned, told_activity, told_rest};
+use row_spans::{Extreme, Span, end_of};
 use sparse_problem::Problem;
 use std::alloc::{AllocError, Global};
 use std::marker::Model;
@@ -42,7 +45,7 @@ impl Model for RowSums {
     ghost use Rattle.std.specs.Prelude.{List};
     ghost use Rattle.std.specs.Coded.{codes};
     ghost use Rattle.rational.specs.Lowest.{number_code};
-    ghost use Rattle.activities.specs.declared.span.Span.{Span};
+    ghost use Rattle.row_spans.specs.declared.span.Span.{Span};
     ghost use Rattle.activities.specs.Kept.{AreRowSums};
 
     ghost Value = { List Span };
@@ -54,13 +57,51 @@ impl Model for RowSums {
     ghost invariant = { λ sums. AreRowSums sums.spans.items sums.least sums.greatest };
 }
 
-/// What is kept of entries.
+/// The sums of entries that are made when they are asked for.
 pub(crate) fn sums_of(alloc: Global, extreme: Extreme, spans: &[Span]) -> Result<Kept, AllocError>
     ensures { IfOk result (IsKept (ends_at extreme spans.now)) }
 {
     match common_sum(extreme, spans) {
         Some(sum) => Ok(Kept::Common(sum)),
         None => Ok(Kept::Before(sums_before(alloc, extreme, spans)?)),
+    }
+}
+
+/// The sums of both activities.
+#[derive(Drop)]
+struct Both {
+    least: Kept,
+    greatest: Kept,
+}
+
+/// Both, as they are kept.
+fn both_kept(kept: &KeptSums) -> Both
+    ensures { (ss : List SpanValue) → AreSumsOf ss kept.now → IsKept (ends_at extreme_of.Least ss) result.least × IsKept (ends_at extreme_of.Greatest ss) result.greatest }
+{
+    Both {
+        least: Kept::Common(kept.least),
+        greatest: Kept::Common(kept.greatest),
+    }
+}
+
+/// Both, made of entries.
+fn both_made(alloc: Global, spans: &[Span]) -> Result<Both, AllocError>
+    ensures { IfOk result (λ both. IsKept (ends_at extreme_of.Least spans.now) both.least × IsKept (ends_at extreme_of.Greatest spans.now) both.greatest) }
+{
+    Ok(Both {
+        least: sums_of(alloc, Extreme::Least, spans)?,
+        greatest: sums_of(alloc, Extreme::Greatest, spans)?,
+    })
+}
+
+/// Both sums of a row with these entries: those that are kept of it, if they are.
+fn both_of(alloc: Global, problem: &Problem, row: u32, spans: &[Span]) -> Result<Both, AllocError>
+    requires { spans.now ≡ spans_with problem.now row }
+    ensures { IfOk result (λ both. IsKept (ends_at extreme_of.Least spans.now) both.least × IsKept (ends_at extreme_of.Greatest spans.now) both.greatest) }
+{
+    match problem.kept_sums(row) {
+        Some(kept) => Ok(both_kept(&kept)),
+        None => both_made(alloc, spans),
     }
 }
 
@@ -98,43 +139,31 @@ fn common_rest(sum: &CommonSum, extreme: Extreme, spans: &[Span], place: usize) 
     told_rest(sum, &end)
 }
 
-/// Whether the rest by a sum of all keeps a side with another number beside it.
+/// Whether the rest by a sum of all keeps a side with the entry at its other end beside it.
 fn common_keeps(
     sum: &CommonSum,
     extreme: Extreme,
     spans: &[Span],
     place: usize,
-    term: &Frac,
-    other: &Frac,
     side: &Frac,
 ) -> bool
     requires spans { AreSpans 0 spans.now }
     requires sum { IsCommonSum (ends_at extreme spans.now) sum.now }
     requires place { place < length spans.now }
-    requires term { end_at extreme (span_at spans.now place) ≡ Some term.now }
-    ensures { IsTrue result → KeepsWith extreme side.now other.now (rest_without extreme (span_at spans.now place).id spans.now) }
+    ensures { IsTrue result → KeepsTurned extreme side.now (span_at spans.now place) (rest_without extreme (span_at spans.now place).id spans.now) }
 {
-    keeps_replaced(sum, extreme, term, other, side)
+    keeps_turned(sum, extreme, &spans[place], side)
 }
 
-/// Whether the rest keeps a side with another number beside it, where a sum of all tells.
-fn keeps_with(
-    kept: &Kept,
-    extreme: Extreme,
-    spans: &[Span],
-    place: usize,
-    term: &Frac,
-    other: &Frac,
-    side: &Frac,
-) -> bool
+/// The same, where a sum of all tells.
+fn keeps_with(kept: &Kept, extreme: Extreme, spans: &[Span], place: usize, side: &Frac) -> bool
     requires spans { AreSpans 0 spans.now }
     requires kept { IsKept (ends_at extreme spans.now) kept.now }
     requires place { place < length spans.now }
-    requires term { end_at extreme (span_at spans.now place) ≡ Some term.now }
-    ensures { IsTrue result → KeepsWith extreme side.now other.now (rest_without extreme (span_at spans.now place).id spans.now) }
+    ensures { IsTrue result → KeepsTurned extreme side.now (span_at spans.now place) (rest_without extreme (span_at spans.now place).id spans.now) }
 {
     match kept {
-        Kept::Common(sum) => common_keeps(sum, extreme, spans, place, term, other, side),
+        Kept::Common(sum) => common_keeps(sum, extreme, spans, place, side),
         Kept::Before(_) => false,
     }
 }
@@ -219,12 +248,11 @@ impl RowSums {
     {
         problem.is_sparse();
         let spans = spans_of(alloc, problem, row)?;
-        let least = sums_of(alloc, Extreme::Least, spans.as_slice())?;
-        let greatest = sums_of(alloc, Extreme::Greatest, spans.as_slice())?;
+        let sums = both_of(alloc, problem, row, spans.as_slice())?;
         Ok(RowSums {
             spans,
-            least,
-            greatest,
+            least: sums.least,
+            greatest: sums.greatest,
         })
     }
 
@@ -262,32 +290,17 @@ impl RowSums {
             Extreme::Greatest => rest_off(&self.greatest, extreme, self.spans.as_slice(), place),
         }
     }
-    /// Whether the rest keeps a side, the lower one with the greatest and the upper one with the least, with another number beside it in
-    /// place of the entry's own term. This takes one comparison of integers; it is `false` also where the row's sum does not tell.
-    pub fn keeps(
-        &self,
-        extreme: Extreme,
-        place: usize,
-        term: &Frac,
-        other: &Frac,
-        side: &Frac,
-    ) -> bool
-        requires place { place < length self.now }
-        requires term { end_at extreme (span_at self.now place) ≡ Some term.now }
-        ensures { IsTrue result → KeepsWith extreme side.now other.now (rest_without extreme (span_at self.now place).id self.now) }
+
+    /// Whether the rest keeps a side, the lower one with the greatest and the upper one with the least, with the entry at its other end
+    /// beside it. This takes one comparison of integers; it is `false` also where the row's sum does not tell.
+    pub fn keeps(&self, extreme: Extreme, place: usize, side: &Frac) -> bool
+        requires { place < length self.now }
+        ensures { IsTrue result → KeepsTurned extreme side.now (span_at self.now place) (rest_without extreme (span_at self.now place).id self.now) }
     {
         let spans = self.spans.as_slice();
         match extreme {
-            Extreme::Least => keeps_with(&self.least, extreme, spans, place, term, other, side),
-            Extreme::Greatest => keeps_with(
-                &self.greatest,
-                extreme,
-                spans,
-                place,
-                term,
-                other,
-                side,
-            ),
+            Extreme::Least => keeps_with(&self.least, extreme, spans, place, side),
+            Extreme::Greatest => keeps_with(&self.greatest, extreme, spans, place, side),
         }
     }
 }

@@ -1,13 +1,13 @@
 //! Sums of a row's terms, in order.
 
 ghost use Rattle.std.specs.Prelude.{◌≡◌, ◌++◌, length};
-ghost use Rattle.activities.specs.Spans.{end_at, ends_at};
-ghost use Rattle.activities.specs.RowSums.{all_finite as all_are_finite, plus_end as with_end, sum_from as sum_on};
+ghost use Rattle.row_spans.specs.Spans.{end_at, ends_at};
+ghost use Rattle.row_spans.specs.RowSums.{all_finite as all_are_finite, plus_end as with_end, sum_from as sum_on};
 
-use crate::exact::sum;
-use crate::span::{Extreme, Span, bound_at, end_of};
 use fractions::Past;
 use fractions::frac::Frac;
+use row_spans::exact::sum;
+use row_spans::{Extreme, Span, bound_at, end_of};
 
 /// A sum with one term more. A term that is infinite adds nothing.
 pub(crate) fn plus_end(total: &Frac, extreme: Extreme, span: &Span) -> Result<Frac, Past>

@@ -1,14 +1,14 @@
 ghost use Rattle.activities.specs.Kept.{IsKept};
-ghost use Rattle.activities.specs.Spans.{ends_at};
-ghost use Rattle.activities.specs.declared.span.Extreme.TheVariants.{Greatest};
+ghost use Rattle.row_spans.specs.Spans.{ends_at};
+ghost use Rattle.row_spans.specs.declared.span.Extreme.TheVariants.{Greatest};
 
-use crate::common::common_sum;
 use crate::row_sums::{Kept, activity_by_terms, activity_of, rest_of, sums_of};
-use crate::span::{Extreme, Span};
 use fractions::Past;
 use fractions::ext::Ext;
 use fractions::frac::Frac;
 use fractions::whole::Whole;
+use kept_sums::common_sum;
+use row_spans::{Extreme, Span};
 use std::alloc::{AllocError, Global};
 use std::test::Fail;
 

@@ -43,9 +43,9 @@ use Rattle.rule_words.proofs.Coefficients.{coefficient_in_row, end_live}
 use Rattle.rule_words.proofs.EndTestsSay.{not_true}
 use Rattle.rule_words.proofs.Named.{ids_on, nothing, one_on, one_sided}
 use Rattle.edit_laws.proofs.Reducing.{by_edits}
-use Rattle.activities.specs.declared.span.Extreme.{Extreme}
-use Rattle.activities.specs.declared.span.Extreme.TheVariants.{Least, Greatest}
-use Rattle.activities.specs.Spans.{span_of, spans_of}
+use Rattle.row_spans.specs.declared.span.Extreme.{Extreme}
+use Rattle.row_spans.specs.declared.span.Extreme.TheVariants.{Least, Greatest}
+use Rattle.row_spans.specs.Spans.{span_of, spans_of}
 use Rattle.activity_laws.specs.Rows.{all_in_order, has_some, on_activities}
 use Rattle.activity_laws.specs.ForcingRow.{at_lower, edits, edits_by, enabled, end_of, fixed_at_end, is_forcing_row, is_reached, record_by, record_of}
 use Rattle.activity_laws.proofs.Rows.{known, made, said}

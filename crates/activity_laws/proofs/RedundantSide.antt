@@ -19,7 +19,7 @@ use Rattle.rule_words.proofs.Coefficients.{end_live}
 use Rattle.rule_words.proofs.EndTestsSay.{not_true}
 use Rattle.rule_words.proofs.Named.{none_on, nothing, one_on, one_sided}
 use Rattle.edit_laws.proofs.Reducing.{by_edits}
-use Rattle.activities.specs.Spans.{spans_of}
+use Rattle.row_spans.specs.Spans.{spans_of}
 use Rattle.activity_laws.specs.Rows.{has_some, keeps_lower, keeps_upper, on_activities}
 use Rattle.activity_laws.specs.RedundantSide.{differ, edits, enabled, has_redundant_side, lower_is_kept, record_of, side_dropped}
 use Rattle.activity_laws.proofs.Rows.{high_above, known, low_below, made, said}

@@ -18,12 +18,12 @@ use Rattle.problem_model.specs.Showing.{shown}
 use Rattle.problem_model.specs.Sparse.{Sparse}
 use Rattle.rule_words.specs.Reading.{bounds_of, terms_in}
 use Rattle.rule_words.proofs.EndTestsSay.{not_true}
-use Rattle.activities.specs.declared.span.Span.{Span}
-use Rattle.activities.specs.declared.span.Extreme.TheVariants.{Least, Greatest}
-use Rattle.activities.specs.RowSums.{activity}
-use Rattle.activities.specs.Spans.{spans_from, spans_of}
-use Rattle.activities.proofs.Bridge.{activity-is}
-use Rattle.activities.proofs.Reading.{row_is_read}
+use Rattle.row_spans.specs.declared.span.Span.{Span}
+use Rattle.row_spans.specs.declared.span.Extreme.TheVariants.{Least, Greatest}
+use Rattle.row_spans.specs.RowSums.{activity}
+use Rattle.row_spans.specs.Spans.{spans_from, spans_of}
+use Rattle.row_spans.proofs.Bridge.{activity-is}
+use Rattle.row_spans.proofs.Reading.{row_is_read}
 use Rattle.activity_laws.specs.Rows.{RowTest, all_in_order, keeps_lower, keeps_upper, on_activities, on_both, on_parts, on_row, on_spans, row_found}
 
 -- a test of what was read of a row: the row is live, and the test holds of its sides and its spans

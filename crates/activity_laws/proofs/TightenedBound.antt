@@ -48,13 +48,13 @@ use Rattle.rule_words.proofs.Coefficients.{coefficient_in_row, end_live}
 use Rattle.rule_words.proofs.EndTestsSay.{not_true}
 use Rattle.rule_words.proofs.Named.{ids_on, lives, nothing, one_on, one_sided}
 use Rattle.edit_laws.proofs.Reducing.{by_edits}
-use Rattle.activities.specs.declared.span.Extreme.TheVariants.{Least, Greatest}
-use Rattle.activities.specs.declared.span.Span.{Span}
-use Rattle.activities.specs.Exact.{fits, if_room, sum_fits}
-use Rattle.activities.specs.RowSums.{rest}
-use Rattle.activities.specs.Spans.{span_of, spans_from, spans_of}
-use Rattle.activities.proofs.Bridge.{rest-is}
-use Rattle.activities.proofs.Reading.{row_is_read}
+use Rattle.row_spans.specs.declared.span.Extreme.TheVariants.{Least, Greatest}
+use Rattle.row_spans.specs.declared.span.Span.{Span}
+use Rattle.row_spans.specs.Exact.{fits, if_room, sum_fits}
+use Rattle.row_spans.specs.RowSums.{rest}
+use Rattle.row_spans.specs.Spans.{span_of, spans_from, spans_of}
+use Rattle.row_spans.proofs.Bridge.{rest-is}
+use Rattle.row_spans.proofs.Reading.{row_is_read}
 use Rattle.activity_laws.specs.Rows.{heads, row_found}
 use Rattle.activity_laws.specs.TightenedBound.{Improves, IsBetter, bound_set, by_lower_side, by_upper_side, edits, enabled, entry_at, has_two, holds, if_made, implied, is_better, is_tightened_at, is_tightened_bound, left_over, new_bound, old_bound, over_entry, record_of}
 use Rattle.activity_laws.proofs.Rows.{said}

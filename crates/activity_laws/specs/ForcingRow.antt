@@ -13,10 +13,10 @@ use Rattle.problem_model.specs.declared.edit.Edit.TheVariants.{DeleteRow, SetBou
 use Rattle.problem_model.specs.declared.part.Contents.{Contents}
 use Rattle.problem_model.specs.Problems.{row_entries, sides_at}
 use Rattle.problem_model.specs.Sparse.{Sparse}
-use Rattle.activities.specs.declared.span.Extreme.{Extreme}
-use Rattle.activities.specs.declared.span.Extreme.TheVariants.{Least, Greatest}
-use Rattle.activities.specs.declared.span.Span.{Span}
-use Rattle.activities.specs.Spans.{spans_of}
+use Rattle.row_spans.specs.declared.span.Extreme.{Extreme}
+use Rattle.row_spans.specs.declared.span.Extreme.TheVariants.{Least, Greatest}
+use Rattle.row_spans.specs.declared.span.Span.{Span}
+use Rattle.row_spans.specs.Spans.{spans_of}
 use Rattle.activity_laws.specs.Rows.{RowTest, has_some, on_activities, on_row, row_found}
 
 -- a side is finite, and it is the activity

@@ -8,8 +8,8 @@ use Rattle.problem_model.specs.declared.edit.Edit.TheVariants.{SetSides}
 use Rattle.problem_model.specs.declared.part.Contents.{Contents}
 use Rattle.problem_model.specs.Problems.{sides_at}
 use Rattle.problem_model.specs.Sparse.{Sparse}
-use Rattle.activities.specs.declared.span.Span.{Span}
-use Rattle.activities.specs.Spans.{spans_of}
+use Rattle.row_spans.specs.declared.span.Span.{Span}
+use Rattle.row_spans.specs.Spans.{spans_of}
 use Rattle.activity_laws.specs.Rows.{RowTest, has_some, keeps_lower, keeps_upper, on_activities, on_row, row_found}
 
 -- one of two holds, and the other doesn't

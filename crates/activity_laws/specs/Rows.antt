@@ -11,10 +11,10 @@ use Rattle.problem_model.specs.declared.part.Part.{Part}
 use Rattle.problem_model.specs.declared.part.Part.TheVariants as part
 use Rattle.problem_model.specs.Sparse.{Sparse}
 use Rattle.rule_words.specs.Reading.{bounds_named, found_on}
-use Rattle.activities.specs.declared.span.Span.{Span}
-use Rattle.activities.specs.declared.span.Extreme.TheVariants.{Least, Greatest}
-use Rattle.activities.specs.RowSums.{activity}
-use Rattle.activities.specs.Spans.{spans_from}
+use Rattle.row_spans.specs.declared.span.Span.{Span}
+use Rattle.row_spans.specs.declared.span.Extreme.TheVariants.{Least, Greatest}
+use Rattle.row_spans.specs.RowSums.{activity}
+use Rattle.row_spans.specs.Spans.{spans_from}
 
 -- a rule reads the row and its sides, and then the bounds of the row's columns
 abbrev pub heads : ℕ → List Part

@@ -1,8 +1,8 @@
 -- A row with two infinite ends: each rest is infinite, and no bound follows.
-use Rattle.std.proofs.Common.{◌≡◌, ◌≢◌, ◌⊎◌, inl, inr, ℕ, suc, ◌<◌, Bool, true, false, not, List, [], ◌∷◌, ◌++◌, append-nil, Option, Some, None, Ok, refl, sym, ap, ap₂, ◌∙◌, arith}
+use Rattle.std.proofs.Common.{◌≡◌, ◌≢◌, ◌⊎◌, inl, inr, ℕ, suc, ◌+◌, ◌<◌, ◌≤◌, ltb, Bool, true, false, not, List, [], ◌∷◌, ◌++◌, append-nil, Option, Some, None, Ok, refl, sym, ap, ap₂, ◌∙◌, arith}
 use Rattle.std.specs.Prelude.{if◌then◌else◌}
 use Rattle.std.specs.List.{filter}
-use Rattle.std.proofs.lemmas.Bool.{cases_eq, eq-eqb, ne_eqb, or_parts}
+use Rattle.std.proofs.lemmas.Bool.{cases_eq, eq-eqb, le-ltb, ne_eqb, or_parts}
 use Rattle.rational.specs.Number.{Number, zero_ℚ}
 use Rattle.rational.specs.Compare.{lt_ℚ}
 use Rattle.undo_records.specs.declared.side.Side.{Side}
@@ -11,13 +11,15 @@ use Rattle.problem_model.specs.declared.line.Sides.{Sides}
 use Rattle.problem_model.specs.Problems.{row_entries, sides_at, IsSparse}
 use Rattle.problem_model.specs.Sparse.{Sparse}
 use Rattle.problem_laws.proofs.Terms.{not_both}
-use Rattle.activities.specs.declared.span.Span.{Span}
-use Rattle.activities.specs.declared.span.Extreme.{Extreme}
-use Rattle.activities.specs.declared.span.Extreme.TheVariants.{Least, Greatest}
-use Rattle.activities.specs.Exact.{as_end}
-use Rattle.activities.specs.RowSums.{all_finite, rest, sum_from}
-use Rattle.activities.specs.Spans.{AreSpans, end_at, ends_at, others, spans_of}
-use Rattle.activities.proofs.Reading.{spans_of-are}
+use Rattle.row_spans.specs.declared.span.Span.{Span}
+use Rattle.row_spans.specs.declared.span.Extreme.{Extreme}
+use Rattle.row_spans.specs.declared.span.Extreme.TheVariants.{Least, Greatest}
+use Rattle.row_spans.specs.Exact.{as_end}
+use Rattle.row_spans.specs.RowSums.{all_finite, rest, sum_from}
+use Rattle.row_spans.specs.Spans.{AreSpans, end_at, ends_at, others, spans_of}
+use Rattle.row_spans.proofs.Reading.{spans_of-are}
+use Rattle.kept_sums.specs.CommonSums.{infinite_count, IsCommonSum}
+use Rattle.kept_sums.specs.declared.common.CommonSum.{CommonSum}
 use Rattle.activity_laws.specs.TightenedBound.{bounds_of, enabled, implied, is_better, left_over, old_bound}
 use Rattle.activity_rules.specs.Tightened.{at_most_one_infinite, bound_if, found_among, is_looked_at, is_tight, may_tell, may_tighten}
 use Rattle.activity_rules.proofs.Tightened.{all_found}
@@ -73,3 +75,20 @@ none_found b ss (s ∷ ts) a e =
 pub none_told : (p : Sparse) (i : ℕ) (x : List (ℕ × Side)) → is_looked_at p i ≡ true → IsSparse p → may_tighten (sides_at p i) (spans_of p i) ≡ false → x ≡ x ++ filter (λ y. enabled p i y.0 y.1) (bounds_of (row_entries p i))
 none_told p i x e s h = all_found p i (spans_of p i) (sides_at p i) x x e s refl refl
     (sym (ap (λ (l : List (ℕ × Side)). x ++ l) (none_found (sides_at p i) (spans_of p i) (spans_of p i) (spans_of-are p i s) h) ∙ append-nil x))
+
+-- ---- counted ends
+one_is : (es : List (Option Number)) → ltb (infinite_count es + 1) 2 ≡ all_finite es
+one_is [] = refl
+one_is (Some q ∷ es) = one_is es
+one_is (None ∷ es) = le-ltb (infinite_count es + 1 + 1) 2 (two (infinite_count es))
+  where
+    two : (n : ℕ) → 2 ≤ n + 1 + 1
+    two n = omega arith
+
+few_is : (es : List (Option Number)) → ltb (infinite_count es) 2 ≡ at_most_one_infinite es
+few_is [] = refl
+few_is (Some q ∷ es) = few_is es
+few_is (None ∷ es) = one_is es
+
+pub few_told : (es : List (Option Number)) (s : CommonSum) → IsCommonSum es s → ltb s.infinite 2 ≡ at_most_one_infinite es
+few_told es s h = ap (λ (n : ℕ). ltb n 2) h.infinite ∙ few_is es

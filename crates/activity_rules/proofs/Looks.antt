@@ -5,7 +5,7 @@ use Rattle.lp_model.specs.declared.terms.Term.{Term}
 use Rattle.lp_model.specs.EndTests.{is_crossed, is_in_order}
 use Rattle.problem_model.specs.Problems.{row_at, row_entries, sides_at}
 use Rattle.problem_model.specs.Sparse.{Sparse}
-use Rattle.activities.specs.Spans.{span_of, spans_of}
+use Rattle.row_spans.specs.Spans.{span_of, spans_of}
 use Rattle.activity_laws.specs.Rows.{RowTest, all_in_order, has_some, keeps_lower, on_both, on_row, row_found}
 use Rattle.activity_laws.specs.RedundantRow as redundant_row
 use Rattle.activity_laws.specs.RedundantSide as redundant_side

@@ -17,14 +17,14 @@ use Rattle.fractions.specs.declared.Past.{Past}
 use Rattle.problem_model.specs.declared.line.Sides.{Sides}
 use Rattle.undo_records.specs.declared.side.Side.{Side}
 use Rattle.undo_records.specs.declared.side.Side.TheVariants.{Lower, Upper}
-use Rattle.activities.specs.declared.span.Span.{Span}
-use Rattle.activities.specs.declared.span.Extreme.{Extreme}
-use Rattle.activities.specs.Exact.{fits, sum_fits, if_room}
-use Rattle.activities.specs.KeptSides.{Keeps}
-use Rattle.activities.specs.RowSums.{rest}
-use Rattle.activities.specs.Spans.{end_at}
+use Rattle.row_spans.specs.declared.span.Span.{Span}
+use Rattle.row_spans.specs.declared.span.Extreme.{Extreme}
+use Rattle.row_spans.specs.Exact.{fits, sum_fits, if_room}
+use Rattle.kept_sums.specs.KeptSides.{Keeps, opposite}
+use Rattle.row_spans.specs.RowSums.{rest}
+use Rattle.row_spans.specs.Spans.{end_at}
 use Rattle.activity_laws.specs.TightenedBound.{if_made, implied, is_better, left_over, old_bound, over_entry}
-use Rattle.activity_rules.specs.Tightened.{is_tight, other, source_of, IsSlack}
+use Rattle.activity_rules.specs.Tightened.{is_tight, source_of, IsSlack}
 
 none_better : (side : Side) (old : Option Number) → is_better side old None ≡ false
 none_better Lower old = refl
@@ -77,7 +77,7 @@ module _ (s : Span) (b t q : Number) where
   upper_not : (x : Number) → s.upper ≡ Some x → x ≤ℚ ((b -ℚ q) /ℚ s.value) → is_better Upper s.upper (left_over s.value (Some b) (Ok (Some q))) ≡ false
   upper_not x o h = ap (λ (l : Option Number). is_better Upper l (left_over s.value (Some b) (Ok (Some q)))) o ∙ as_made Upper (Some x) s.value b q (not_above ((b -ℚ q) /ℚ s.value) x h)
 
-  by_sign : (side : Side) (c : Bool) → lt_ℚ zero_ℚ s.value ≡ c → s.value ≢ zero_ℚ → end_at (other (source_of side c)) s ≡ Some t → Keeps (source_of side c) b (q +ℚ t)
+  by_sign : (side : Side) (c : Bool) → lt_ℚ zero_ℚ s.value ≡ c → s.value ≢ zero_ℚ → end_at (opposite (source_of side c)) s ≡ Some t → Keeps (source_of side c) b (q +ℚ t)
       → is_better side (old_bound side s.lower s.upper) (left_over s.value (Some b) (Ok (Some q))) ≡ false
   by_sign Lower true e n f k =
       let m = scaled_is s.value s.lower t (sym (term_pos s.value s.lower s.upper e) ∙ f) in
@@ -100,7 +100,7 @@ slack_is_not_better side x s ss b n e h =
     let k = h.2 in
     ap (λ (r : Result (Option Number) Past). is_better side (old_bound side s.lower s.upper) (left_over s.value (Some b) r)) k.1
     ∙ by_sign s b h.0 k.0 side (lt_ℚ zero_ℚ s.value) refl n
-    (subst (λ (y : Extreme). end_at (other y) s ≡ Some h.0) e h.1)
+    (subst (λ (y : Extreme). end_at (opposite y) s ≡ Some h.0) e h.1)
     (subst (λ (y : Extreme). Keeps y b (k.0 +ℚ h.0)) e k.2)
 
 -- the same of an entry that was read

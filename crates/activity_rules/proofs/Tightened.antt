@@ -15,8 +15,8 @@ use Rattle.problem_model.specs.Sparse.{Sparse}
 use Rattle.problem_laws.proofs.Entries.{dense-live_only, has-live_only, row_entries-ascend, row_entries-tell}
 use Rattle.problem_laws.proofs.Terms.{dense-absent, dense-named, dense-cons_other, dense-cons_same, has-cons_other, has-cons_same, not_both}
 use Rattle.lp_model.specs.EndTests.{is_in_order}
-use Rattle.activities.specs.declared.span.Span.{Span}
-use Rattle.activities.specs.Spans.{AreSpans, span_of, spans_of}
+use Rattle.row_spans.specs.declared.span.Span.{Span}
+use Rattle.row_spans.specs.Spans.{AreSpans, span_of, spans_of}
 use Rattle.activity_laws.specs.Rows.{all_in_order}
 use Rattle.activity_laws.specs.TightenedBound.{bounds_of, enabled, entry_at, has_two, implied, is_better, is_tightened_at, is_tightened_bound, old_bound}
 use Rattle.activity_laws.proofs.Rows.{tested}

@@ -5,7 +5,7 @@ use Rattle.fractions.specs.declared.Past.{Past}
 use Rattle.lp_model.specs.EndTests.{is_in_order}
 use Rattle.problem_model.specs.Problems.{row_at, sides_at}
 use Rattle.problem_model.specs.Sparse.{Sparse}
-use Rattle.activities.specs.Spans.{spans_of}
+use Rattle.row_spans.specs.Spans.{spans_of}
 use Rattle.activity_laws.specs.Rows.{all_in_order}
 
 -- the row is live, and neither its sides nor the bounds of its columns are crossed

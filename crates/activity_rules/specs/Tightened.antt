@@ -1,18 +1,18 @@
 -- The bounds that a row implies, by its entries with the bounds of their columns.
-use Rattle.std.specs.Prelude.{◌≡◌, ℕ, Bool, true, false, ◌&&◌, ◌||◌, Option, Some, None, List, [], ◌∷◌, ◌++◌, if◌then◌else◌}
+use Rattle.std.specs.Prelude.{ℕ, Bool, true, false, ◌&&◌, ◌||◌, Option, Some, None, List, [], ◌∷◌, ◌++◌, if◌then◌else◌}
 use Rattle.std.specs.List.{flat_map}
 use Rattle.undo_records.specs.declared.side.Side.{Side}
 use Rattle.undo_records.specs.declared.side.Side.TheVariants.{Lower, Upper}
 use Rattle.problem_model.specs.declared.line.Sides.{Sides}
 use Rattle.problem_model.specs.Problems.{bounds_at}
 use Rattle.problem_model.specs.Sparse.{Sparse}
-use Rattle.activities.specs.declared.span.Span.{Span}
+use Rattle.row_spans.specs.declared.span.Span.{Span}
 use Rattle.rational.specs.Number.{Number}
-use Rattle.activities.specs.declared.span.Extreme.{Extreme}
-use Rattle.activities.specs.declared.span.Extreme.TheVariants.{Least, Greatest}
-use Rattle.activities.specs.KeptSides.{KeepsWith}
-use Rattle.activities.specs.RowSums.{all_finite, rest}
-use Rattle.activities.specs.Spans.{end_at, ends_at, spans_of}
+use Rattle.row_spans.specs.declared.span.Extreme.{Extreme}
+use Rattle.row_spans.specs.declared.span.Extreme.TheVariants.{Least, Greatest}
+use Rattle.kept_sums.specs.KeptSides.{KeepsTurned}
+use Rattle.row_spans.specs.RowSums.{all_finite, rest}
+use Rattle.row_spans.specs.Spans.{ends_at, spans_of}
 use Rattle.activity_laws.specs.TightenedBound.{has_two, implied, is_better, new_bound, old_bound}
 use Rattle.activity_rules.specs.Looks.{is_uncrossed}
 
@@ -62,10 +62,6 @@ source_of Lower false = Least
 source_of Upper true = Least
 source_of Upper false = Greatest
 
-abbrev pub other : Extreme → Extreme
-other Least = Greatest
-other Greatest = Least
-
 -- the row keeps a side with the entry's column at its other end beside the rest that goes with the side
 abbrev pub IsSlack : Extreme → Number → Span → List Span → Type 0
-IsSlack extreme side s ss = (t : Number) × (end_at (other extreme) s ≡ Some t) × KeepsWith extreme side t (rest extreme s.id ss)
+IsSlack extreme side s ss = KeepsTurned extreme side s (rest extreme s.id ss)

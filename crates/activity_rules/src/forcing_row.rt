@@ -5,9 +5,9 @@ ghost use Rattle.std.specs.Prelude.{◌≡◌, ◌||◌, ◌++◌, ◌∷◌, []
 ghost use Rattle.problem_model.specs.Problems.{row_at, row_entries, sides_at};
 ghost use Rattle.problem_model.specs.declared.edit.Edit.TheVariants as edit;
 ghost use Rattle.rule_words.specs.Answers.{Changes};
-ghost use Rattle.activities.specs.Spans.{spans_of};
-ghost use Rattle.activities.specs.declared.span.Extreme.TheVariants.{Greatest, Least};
-ghost use Rattle.activities.specs.RowSums.{activity};
+ghost use Rattle.row_spans.specs.Spans.{spans_of};
+ghost use Rattle.row_spans.specs.declared.span.Extreme.TheVariants.{Greatest, Least};
+ghost use Rattle.row_spans.specs.RowSums.{activity};
 ghost use Rattle.activity_laws.specs.Rows.{on_activities};
 ghost use Rattle.activity_rules.specs.Looks.{on_one};
 ghost use Rattle.activity_laws.specs.ForcingRow.{at_lower, enabled, edits, edits_by, end_of as end_with, fixed_at_end as fixed_with, is_reached as side_is_reached, record_by, record_of, Computes};
@@ -15,9 +15,10 @@ ghost use Rattle.undo_records.specs.declared.side.Side.TheVariants.{Lower, Upper
 ghost use Rattle.undo_records.specs.declared.undo.Undo.TheVariants as undone;
 
 use crate::rows::{has_entries, is_uncrossed};
-use activities::{Extreme, RowSums, Span, greatest, least};
+use activities::{RowSums, greatest, least};
 use fractions::ext::Ext;
 use problem_model::{Edit, Refusal};
+use row_spans::{Extreme, Span};
 use rule_words::Change;
 use sparse_problem::Problem;
 use std::alloc::{AllocError, Global};

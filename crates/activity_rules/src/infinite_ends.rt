@@ -1,16 +1,16 @@
 //! Whether a side of a row can tell of a bound, by its infinite ends alone: where two are infinite, so is each rest.
 
-ghost use Rattle.std.specs.Prelude.{◌≡◌, ◌∷◌, [], true};
+ghost use Rattle.std.specs.Prelude.{◌≡◌, ◌∷◌, [], true, IfSome};
 ghost use Rattle.lp_theory.specs.Activities.{least_term};
 ghost use Rattle.problem_model.specs.Problems.{column_at, row_at, sides_at};
-ghost use Rattle.activities.specs.RowSums.{all_finite};
-ghost use Rattle.activities.specs.Spans.{end_at, ends_at, span_of, spans_among, spans_of};
+ghost use Rattle.row_spans.specs.RowSums.{all_finite};
+ghost use Rattle.row_spans.specs.Spans.{end_at, ends_at, span_of, spans_among, spans_of};
 ghost use Rattle.activity_rules.specs.Tightened.{at_most_one_infinite, may_tell as side_may_tell, may_tighten as row_may_tighten};
 
-use activities::Extreme;
 use fractions::ext::Ext;
 use fractions::frac::Frac;
 use lp_model::Term;
+use row_spans::Extreme;
 use sparse_problem::Problem;
 
 /// Whether the least product with a number is finite, for numbers from a first end to a second one.
@@ -65,15 +65,39 @@ fn are_finite_but_one(problem: &Problem, extreme: Extreme, terms: &[Term]) -> bo
     true
 }
 
+/// Whether what all terms but one of a row give is finite, if sums are kept of it.
+fn told_but_one(problem: &Problem, row: u32, extreme: Extreme) -> Option<bool>
+    ensures { IfSome result (λ b. b ≡ at_most_one_infinite (ends_at extreme (spans_of problem.now row))) }
+{
+    let kept = problem.kept_sums(row)?;
+    match extreme {
+        Extreme::Least => Some(kept.least.infinite < 2),
+        Extreme::Greatest => Some(kept.greatest.infinite < 2),
+    }
+}
+
+/// Whether what all terms but one of a row give is finite.
+fn is_finite_but_one(problem: &Problem, row: u32, extreme: Extreme) -> bool
+    requires { (row_at problem.now row).live ≡ true }
+    ensures { result ≡ at_most_one_infinite (ends_at extreme (spans_of problem.now row)) }
+{
+    match told_but_one(problem, row, extreme) {
+        Some(told) => told,
+        None => {
+            let line = &problem.rows()[row as usize];
+            are_finite_but_one(problem, extreme, line.entries.as_slice())
+        }
+    }
+}
+
 /// Whether a side of a row is finite, and a rest that goes with it may be.
 fn may_tell(problem: &Problem, row: u32, extreme: Extreme, side: &Ext) -> bool
     requires { (row_at problem.now row).live ≡ true }
     ensures { result ≡ side_may_tell extreme side.now (spans_of problem.now row) }
 {
-    let line = &problem.rows()[row as usize];
     match side.number() {
         None => false,
-        Some(_) => are_finite_but_one(problem, extreme, line.entries.as_slice()),
+        Some(_) => is_finite_but_one(problem, row, extreme),
     }
 }
 

@@ -3,9 +3,9 @@
 ghost use Rattle.std.specs.Prelude.{◌≡◌, ◌||◌, true};
 ghost use Rattle.lp_model.specs.EndTests.{is_crossed};
 ghost use Rattle.problem_model.specs.Problems.{row_at, sides_at};
-ghost use Rattle.activities.specs.Spans.{spans_of};
-ghost use Rattle.activities.specs.declared.span.Extreme.TheVariants.{Greatest, Least};
-ghost use Rattle.activities.specs.RowSums.{activity};
+ghost use Rattle.row_spans.specs.Spans.{spans_of};
+ghost use Rattle.row_spans.specs.declared.span.Extreme.TheVariants.{Greatest, Least};
+ghost use Rattle.row_spans.specs.RowSums.{activity};
 ghost use Rattle.activity_laws.specs.Rows.{on_activities};
 ghost use Rattle.activity_rules.specs.Looks.{on_one};
 ghost use Rattle.activity_laws.specs.OutOfReach.{enabled};

@@ -3,9 +3,9 @@
 ghost use Rattle.std.specs.Prelude.{◌≡◌, ◌&&◌, true};
 ghost use Rattle.problem_model.specs.Problems.{row_at, sides_at};
 ghost use Rattle.rule_words.specs.Answers.{Changes};
-ghost use Rattle.activities.specs.Spans.{spans_of};
-ghost use Rattle.activities.specs.declared.span.Extreme.TheVariants.{Greatest, Least};
-ghost use Rattle.activities.specs.RowSums.{activity};
+ghost use Rattle.row_spans.specs.Spans.{spans_of};
+ghost use Rattle.row_spans.specs.declared.span.Extreme.TheVariants.{Greatest, Least};
+ghost use Rattle.row_spans.specs.RowSums.{activity};
 ghost use Rattle.activity_rules.specs.Looks.{on_one};
 ghost use Rattle.activity_laws.specs.Rows.{keeps_lower as lower_is_kept, keeps_upper as upper_is_kept, on_activities};
 ghost use Rattle.activity_laws.specs.RedundantRow.{enabled, edits, record_of, Computes};

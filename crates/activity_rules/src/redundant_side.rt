@@ -3,7 +3,7 @@
 ghost use Rattle.std.specs.Prelude.{◌≡◌, ◌&&◌, not, true, is_none};
 ghost use Rattle.problem_model.specs.Problems.{row_at, sides_at};
 ghost use Rattle.rule_words.specs.Answers.{Changes};
-ghost use Rattle.activities.specs.Spans.{spans_of};
+ghost use Rattle.row_spans.specs.Spans.{spans_of};
 ghost use Rattle.activity_laws.specs.Rows.{keeps_lower as lower_kept, keeps_upper as upper_kept, on_activities};
 ghost use Rattle.activity_laws.specs.RedundantSide.{differ, enabled, edits, lower_is_kept, record_of, side_dropped, Computes};
 

@@ -3,18 +3,18 @@
 ghost use Rattle.std.specs.Prelude.{◌≡◌, ◌≢◌, ℕ, List};
 ghost use Rattle.rational.specs.Number.{zero_ℚ};
 ghost use Rattle.rational.specs.Compare.{lt_ℚ};
-ghost use Rattle.activities.specs.declared.span.Span.{Span};
-ghost use Rattle.activities.specs.RowSums.{rest};
+ghost use Rattle.row_spans.specs.declared.span.Span.{Span};
+ghost use Rattle.row_spans.specs.RowSums.{rest};
 ghost use Rattle.activity_laws.specs.TightenedBound.{implied, is_better as better_by, left_over as left_by, old_bound as old_by};
 ghost use Rattle.activity_rules.specs.Tightened.{source_of};
 
-use activities::Extreme;
-use activities::exact::{difference, quotient};
 use fractions::Past;
 use fractions::ext::Ext;
 use fractions::frac::Frac;
 use lp_model::ends::apart;
 use problem_model::Sides;
+use row_spans::Extreme;
+use row_spans::exact::{difference, quotient};
 use undo_records::Side;
 
 /// What a rest leaves of a side, over an entry: none where one of the two is infinite, or where a number has no room.

@@ -3,7 +3,7 @@
 ghost use Rattle.std.specs.Prelude.{◌≡◌, true};
 ghost use Rattle.lp_model.specs.EndTests.{is_in_order};
 ghost use Rattle.problem_model.specs.Problems.{bounds_at, column_at, row_at};
-ghost use Rattle.activities.specs.Spans.{spans_among, spans_of};
+ghost use Rattle.row_spans.specs.Spans.{spans_among, spans_of};
 ghost use Rattle.activity_laws.specs.Rows.{all_in_order, has_some, keeps_lower as lower_is_kept, keeps_upper as upper_is_kept};
 ghost use Rattle.activity_rules.specs.Looks.{is_uncrossed as nothing_is_crossed};
 

@@ -1,26 +1,26 @@
 //! K8: a bound of a column becomes the one that a row implies with the bounds of its other columns, where that is a better one.
 
-ghost use Rattle.std.specs.Prelude.{◌≡◌, ◌≢◌, ◌<◌, ◌++◌, true, false, length, IfOk, IfSome, IsTrue, OnOk, Some};
+ghost use Rattle.std.specs.Prelude.{◌≡◌, ◌≢◌, ◌<◌, ◌++◌, true, false, length, IfOk, IsTrue, OnOk};
 ghost use Rattle.std.specs.List.{filter};
 ghost use Rattle.rational.specs.Number.{zero_ℚ};
 ghost use Rattle.lp_model.specs.Sparse.{dense, has};
 ghost use Rattle.problem_model.specs.Problems.{bounds_at, row_at, row_entries, sides_at};
 ghost use Rattle.rule_words.specs.Answers.{Changes};
-ghost use Rattle.activities.specs.RowSums.{rest as rest_without};
-ghost use Rattle.activities.specs.Spans.{end_at, span_at, spans_of};
-ghost use Rattle.activities.specs.declared.span.Extreme.TheVariants as extreme_of;
+ghost use Rattle.row_spans.specs.RowSums.{rest as rest_without};
+ghost use Rattle.row_spans.specs.Spans.{span_at, spans_of};
 ghost use Rattle.activity_laws.specs.TightenedBound.{bound_set, bounds_of, enabled, edits, has_two, implied, new_bound as new_by, old_bound as old_by, record_of, Computes};
-ghost use Rattle.activity_rules.specs.Tightened.{bound_if, found_among, found_at, gets_better as bound_gets_better, is_looked_at as row_is_looked_at, is_tight as is_tight_by, IsSlack};
+ghost use Rattle.activity_rules.specs.Tightened.{bound_if, found_among, found_at, gets_better as bound_gets_better, is_looked_at as row_is_looked_at, is_tight as is_tight_by};
 
 use crate::infinite_ends::may_tighten;
 use crate::row_bounds::{is_better, left_over, old_bound, source};
 use crate::rows::is_uncrossed;
-use activities::{Extreme, RowSums, Span, Terms, greatest, least, terms_of};
+use activities::{RowSums, greatest, least};
 use fractions::Past;
 use fractions::ext::Ext;
 use fractions::frac::Frac;
 use lp_model::{Term, number_at};
 use problem_model::{Edit, Refusal, Sides};
+use row_spans::{Extreme, Span};
 use rule_words::Change;
 use sparse_problem::Problem;
 use std::alloc::{AllocError, Global};
@@ -204,31 +204,16 @@ fn implied_at(sums: &RowSums, sides: &Sides, place: usize, side: Side) -> Ext
     left_over(&span.value, &end, sums.rest(extreme, place))
 }
 
-/// Whether the row keeps a side with the column of that entry at its other end, beside the rest that goes with the side.
-fn keeps_side(sums: &RowSums, place: usize, terms: &Terms, extreme: Extreme, side: &Frac) -> bool
-    requires place { place < length sums.now }
-    requires least { end_at extreme_of.Least (span_at sums.now place) ≡ Some terms.now.least }
-    requires greatest { end_at extreme_of.Greatest (span_at sums.now place) ≡ Some terms.now.greatest }
-    ensures { IsTrue result → IsSlack extreme side.now (span_at sums.now place) sums.now }
-{
-    match extreme {
-        Extreme::Least => sums.keeps(extreme, place, &terms.least, &terms.greatest, side),
-        Extreme::Greatest => sums.keeps(extreme, place, &terms.greatest, &terms.least, side),
-    }
-}
-
 /// Whether one comparison of integers tells that the row implies no better bound for the column of that entry.
-fn is_slack(sums: &RowSums, sides: &Sides, place: usize, terms: &Terms, side: Side) -> bool
-    requires place { place < length sums.now }
-    requires least { end_at extreme_of.Least (span_at sums.now place) ≡ Some terms.now.least }
-    requires greatest { end_at extreme_of.Greatest (span_at sums.now place) ≡ Some terms.now.greatest }
+fn is_slack(sums: &RowSums, sides: &Sides, place: usize, side: Side) -> bool
+    requires { place < length sums.now }
     ensures { IsTrue result → is_tight_by sides.now sums.now (span_at sums.now place) side ≡ false }
 {
     let span = span_of(sums, place);
     let (extreme, end) = source(side, &span.value, sides);
     match end.number() {
         None => false,
-        Some(number) => keeps_side(sums, place, terms, extreme, &number),
+        Some(number) => sums.keeps(extreme, place, &number),
     }
 }
 
@@ -242,23 +227,13 @@ fn is_tight(sums: &RowSums, sides: &Sides, place: usize, side: Side) -> bool
     is_better(side, &old, &implied_at(sums, sides, place, side))
 }
 
-/// The same. Where the entry's terms are known, most that are not better are told by one comparison.
-fn is_tight_beside(
-    sums: &RowSums,
-    sides: &Sides,
-    place: usize,
-    terms: &Option<Terms>,
-    side: Side,
-) -> bool
-    requires place { place < length sums.now }
-    requires least { IfSome terms.now (λ t. end_at extreme_of.Least (span_at sums.now place) ≡ Some t.least) }
-    requires greatest { IfSome terms.now (λ t. end_at extreme_of.Greatest (span_at sums.now place) ≡ Some t.greatest) }
+/// The same. Most that are not better are told by one comparison.
+fn is_tight_beside(sums: &RowSums, sides: &Sides, place: usize, side: Side) -> bool
+    requires { place < length sums.now }
     ensures { result ≡ is_tight_by sides.now sums.now (span_at sums.now place) side }
 {
-    if let Some(both) = terms {
-        if is_slack(sums, sides, place, both, side) {
-            return false;
-        }
+    if is_slack(sums, sides, place, side) {
+        return false;
     }
     is_tight(sums, sides, place, side)
 }
@@ -268,16 +243,13 @@ fn add_bound(
     sums: &RowSums,
     sides: &Sides,
     place: usize,
-    terms: &Option<Terms>,
     side: Side,
     found: &mut Vec<(u32, Side)>,
 ) -> Result<(), AllocError>
-    requires place { place < length sums.now }
-    requires least { IfSome terms.now (λ t. end_at extreme_of.Least (span_at sums.now place) ≡ Some t.least) }
-    requires greatest { IfSome terms.now (λ t. end_at extreme_of.Greatest (span_at sums.now place) ≡ Some t.greatest) }
+    requires { place < length sums.now }
     ensures { OnOk result (found.new.items ≡ found.old.items ++ bound_if (is_tight_by sides.now sums.now (span_at sums.now place) side) (span_at sums.now place).id side) }
 {
-    if is_tight_beside(sums, sides, place, terms, side) {
+    if is_tight_beside(sums, sides, place, side) {
         found.push((span_of(sums, place).id, side))?;
     }
     Ok(())
@@ -293,9 +265,8 @@ fn add_both(
     requires { place < length sums.now }
     ensures { OnOk result (found.new.items ≡ found.old.items ++ found_at sides.now sums.now (span_at sums.now place)) }
 {
-    let terms = terms_of(&span_of(sums, place));
-    add_bound(sums, sides, place, &terms, Side::Lower, found)?;
-    add_bound(sums, sides, place, &terms, Side::Upper, found)
+    add_bound(sums, sides, place, Side::Lower, found)?;
+    add_bound(sums, sides, place, Side::Upper, found)
 }
 
 /// Adds the bounds of the columns of a row with these sides for which it implies better ones.

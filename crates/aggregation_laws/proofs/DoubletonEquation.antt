@@ -51,7 +51,7 @@ use Rattle.problem_laws.proofs.Terms.{ascends-filter, dense-absent, dense-cons_o
 use Rattle.edit_laws.proofs.Lists.{allowed_more}
 use Rattle.edit_laws.proofs.Reducing.{by_edits}
 use Rattle.edit_laws.proofs.Sweeps.{sweep, programs_more, added_more, sweep_matrix, sweep_allowed, sweep_added, sweep_flags, sweep_no_entries, sweep_sided, sweep_only, sweep_lower, sweep_upper}
-use Rattle.activities.specs.Exact.{exact_quotient, if_room}
+use Rattle.row_spans.specs.Exact.{exact_quotient, if_room}
 use Rattle.rule_words.specs.Owed.{Owes}
 use Rattle.rule_words.proofs.Coefficients.{coefficient_in_column, coefficient_in_row, end_live}
 use Rattle.rule_words.proofs.EndTestsSay.{AreFixed, fixed_ends, not_true}

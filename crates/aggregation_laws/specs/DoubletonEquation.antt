@@ -22,7 +22,7 @@ use Rattle.problem_model.specs.declared.part.Part.{Part}
 use Rattle.problem_model.specs.declared.part.Part.TheVariants as part
 use Rattle.problem_model.specs.Problems.{row_entries, column_entries, sides_at, bounds_at, cost_at}
 use Rattle.problem_model.specs.Sparse.{Sparse}
-use Rattle.activities.specs.Exact.{exact_quotient}
+use Rattle.row_spans.specs.Exact.{exact_quotient}
 use Rattle.rule_words.specs.Reading.{found_on, no_more}
 
 -- it reads the row, its sides, and the bounds of both columns

@@ -4,14 +4,14 @@ ghost use Rattle.std.specs.Prelude.{◌≡◌, ◌≢◌, ◌&&◌, true};
 ghost use Rattle.rational.specs.Number.{zero_ℚ};
 ghost use Rattle.lp_model.specs.EndTests.{is_in_order};
 ghost use Rattle.problem_model.specs.Problems.{bounds_at, column_at, row_at, row_entries};
-ghost use Rattle.activities.specs.Exact.{exact_quotient};
+ghost use Rattle.row_spans.specs.Exact.{exact_quotient};
 ghost use Rattle.aggregation_laws.specs.DoubletonEquation.{are_at, entry_at, equal_of, is_made_whole};
 ghost use Rattle.aggregation_rules.specs.Looks.{equation_at, is_in_range as is_within, is_pair as is_pair_of, keeps_whole as whole_is_kept};
 
-use activities::exact::quotient;
 use fractions::frac::Frac;
 use lp_model::ends::{fixed, in_order};
 use lp_model::{Term, number_at};
+use row_spans::exact::quotient;
 use sparse_problem::Problem;
 
 /// The numbers of a row a x + b y = r, whose column x goes: a, b and r.

@@ -12,6 +12,8 @@
 //! - `program NAME FORMAT NUMBERS`: reads the program of a file's text, and writes it
 //! - `records NAME`: reads the records of a file's text, and writes them
 //! - `rule NAME WORD ..`: applies the reduction that the words name, as a record names it, to the program of a file's text, by itself
+//! - `sums NAME EDIT; ..`: makes edits, one after the other, of the problem of a file's text, and tells its rows' sums before the first and
+//!   after each: `bounds J L U`, `sides I L U`, `entry I J A`, `row I` or `column J`, by ids, `-` for no end
 //! - `each NAME TAIL`: the last of these again for each line that follows, as if the line, and then the tail, stood behind the
 //!   text of that file
 //! - `begin NAME`: the last of these again for each proper beginning of the text of that file
@@ -26,6 +28,7 @@ mod rule;
 mod runs;
 mod script;
 mod shown;
+mod sums;
 
 use anyhow::Result;
 use script::Script;

@@ -48,7 +48,7 @@ pub fn reduction(words: &str) -> Result<Reduction> {
 }
 
 /// The problem of a text.
-fn problem_of(alloc: Global, bytes: &[u8]) -> Result<Problem> {
+pub fn problem_of(alloc: Global, bytes: &[u8]) -> Result<Problem> {
     ensure!(bytes.len() < 1 << 32, "a text that is too long");
     let dialect = Dialect {
         format: Format::Free,
@@ -62,7 +62,7 @@ fn problem_of(alloc: Global, bytes: &[u8]) -> Result<Problem> {
 }
 
 /// Prints a number.
-fn number(rt: &HostRuntime, value: &Frac) -> Result<()> {
+pub fn number(rt: &HostRuntime, value: &Frac) -> Result<()> {
     let text = number_texts::write(rt.alloc(), value)?;
     let text = str::from_utf8(&text)?;
     print!(rt; " {text}")?;
@@ -70,7 +70,7 @@ fn number(rt: &HostRuntime, value: &Frac) -> Result<()> {
 }
 
 /// Prints an end of a range.
-fn end(rt: &HostRuntime, end: &Ext) -> Result<()> {
+pub fn end(rt: &HostRuntime, end: &Ext) -> Result<()> {
     match end.number() {
         Some(value) => number(rt, &value),
         None => {

@@ -2,7 +2,7 @@
 
 use crate::request::Request;
 use crate::runs::Case;
-use crate::{again, rule};
+use crate::{again, rule, sums};
 use anyhow::{Context, Result, anyhow};
 use fractions::Numbers;
 use std::alloc::Global;
@@ -73,6 +73,7 @@ impl Script {
             "program" => self.program(rt, rest),
             "records" => self.records(rt, rest),
             "rule" => self.rule(rt, rest),
+            "sums" => self.sums(rt, rest),
             "numbers" => {
                 self.text = Text::Number;
                 Ok(())
@@ -174,6 +175,12 @@ impl Script {
         println!(rt; "{words}")?;
         self.request = Request::Rule(self.case.place(name)?, rule::reduction(words)?);
         self.request.answer(rt, &self.case)
+    }
+
+    fn sums(&mut self, rt: &HostRuntime, rest: &str) -> Result<()> {
+        let (name, edits) = rest.split_once(' ').context("a name and edits")?;
+        let place = self.case.place(name)?;
+        sums::mended(rt, self.case.bytes_at(place)?, edits)
     }
 
     fn text(&mut self, rt: &HostRuntime, text: &str, end: &str) -> Result<()> {

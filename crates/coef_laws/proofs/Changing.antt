@@ -30,9 +30,9 @@ use Rattle.edit_laws.proofs.Committed.{shown_committed}
 use Rattle.rule_words.specs.Reading.{bounds_of as named_bounds, terms_in}
 use Rattle.rule_words.proofs.Coefficients.{coefficient_in_row}
 use Rattle.rule_words.proofs.EndTestsSay.{not_true}
-use Rattle.activities.specs.declared.span.Span.{Span}
-use Rattle.activities.specs.Spans.{spans_from, spans_of}
-use Rattle.activities.proofs.Reading.{row_is_read}
+use Rattle.row_spans.specs.declared.span.Span.{Span}
+use Rattle.row_spans.specs.Spans.{spans_from, spans_of}
+use Rattle.row_spans.proofs.Reading.{row_is_read}
 use Rattle.activity_laws.specs.Rows.{row_found}
 use Rattle.activity_laws.proofs.Rows.{said}
 use Rattle.coef_laws.specs.declared.tightening.Tightening.{Tightening}

@@ -39,12 +39,12 @@ use Rattle.rule_words.proofs.Coefficients.{coefficient_in_row, end_live}
 use Rattle.rule_words.proofs.EndTestsSay.{not_true}
 use Rattle.rule_words.proofs.Named.{nothing_twice, one_on, two_sided}
 use Rattle.edit_laws.proofs.Reducing.{by_edits}
-use Rattle.activities.specs.declared.span.Extreme.TheVariants.{Least, Greatest}
-use Rattle.activities.specs.declared.span.Span.{Span}
-use Rattle.activities.specs.Exact.{exact_difference, exact_product, exact_sum, if_room}
-use Rattle.activities.specs.RowSums.{continued, rest}
-use Rattle.activities.specs.Spans.{span_of, spans_of}
-use Rattle.activities.proofs.Bridge.{rest-is}
+use Rattle.row_spans.specs.declared.span.Extreme.TheVariants.{Least, Greatest}
+use Rattle.row_spans.specs.declared.span.Span.{Span}
+use Rattle.row_spans.specs.Exact.{exact_difference, exact_product, exact_sum, if_room}
+use Rattle.row_spans.specs.RowSums.{continued, rest}
+use Rattle.row_spans.specs.Spans.{span_of, spans_of}
+use Rattle.row_spans.proofs.Bridge.{rest-is}
 use Rattle.activity_laws.specs.TightenedBound.{entry_at, if_made}
 use Rattle.activity_laws.proofs.Rows.{said}
 use Rattle.activity_laws.proofs.TightenedBound.{found}

@@ -18,12 +18,12 @@ use Rattle.problem_model.specs.declared.edit.Edit.TheVariants.{SetEntry, SetSide
 use Rattle.problem_model.specs.declared.part.Contents.{Contents}
 use Rattle.problem_model.specs.Problems.{sides_at}
 use Rattle.problem_model.specs.Sparse.{Sparse}
-use Rattle.activities.specs.declared.span.Extreme.{Extreme}
-use Rattle.activities.specs.declared.span.Extreme.TheVariants.{Least, Greatest}
-use Rattle.activities.specs.declared.span.Span.{Span}
-use Rattle.activities.specs.Exact.{exact_difference, exact_product, exact_sum}
-use Rattle.activities.specs.RowSums.{continued, rest}
-use Rattle.activities.specs.Spans.{spans_of}
+use Rattle.row_spans.specs.declared.span.Extreme.{Extreme}
+use Rattle.row_spans.specs.declared.span.Extreme.TheVariants.{Least, Greatest}
+use Rattle.row_spans.specs.declared.span.Span.{Span}
+use Rattle.row_spans.specs.Exact.{exact_difference, exact_product, exact_sum}
+use Rattle.row_spans.specs.RowSums.{continued, rest}
+use Rattle.row_spans.specs.Spans.{spans_of}
 use Rattle.activity_laws.specs.Rows.{RowTest, on_row, row_found}
 use Rattle.activity_laws.specs.TightenedBound.{entry_at, if_made}
 use Rattle.coef_laws.specs.declared.tightening.Tightening.{Tightening}

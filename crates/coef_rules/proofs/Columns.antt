@@ -8,9 +8,9 @@ use Rattle.lp_model.specs.declared.terms.Term.{Term}
 use Rattle.undo_records.specs.declared.side.Side.{Side}
 use Rattle.problem_model.specs.Problems.{row_entries, sides_at}
 use Rattle.problem_model.specs.Sparse.{Sparse}
-use Rattle.activities.specs.declared.span.Span.{Span}
-use Rattle.activities.specs.RowSums.{rest}
-use Rattle.activities.specs.Spans.{AreSpans, span_at, span_of, spans_of}
+use Rattle.row_spans.specs.declared.span.Span.{Span}
+use Rattle.row_spans.specs.RowSums.{rest}
+use Rattle.row_spans.specs.Spans.{AreSpans, span_at, span_of, spans_of}
 use Rattle.activity_laws.specs.TightenedBound.{entry_at}
 use Rattle.activity_rules.specs.Looks.{is_uncrossed}
 use Rattle.coef_laws.specs.TightenedCoefficient.{enabled, extreme_of, given, one_side, tightened_at, tightened_in, tightening_of}

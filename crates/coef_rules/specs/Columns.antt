@@ -3,7 +3,7 @@ use Rattle.std.specs.Prelude.{ℕ, List, map, is_some}
 use Rattle.std.specs.List.{filter}
 use Rattle.rational.specs.Number.{Number}
 use Rattle.undo_records.specs.declared.side.Side.{Side}
-use Rattle.activities.specs.declared.span.Span.{Span}
+use Rattle.row_spans.specs.declared.span.Span.{Span}
 use Rattle.coef_laws.specs.TightenedCoefficient.{tightened_in}
 
 -- the columns of these spans at which a row ss with the side b alone is tightened

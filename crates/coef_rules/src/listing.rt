@@ -3,7 +3,7 @@
 ghost use Rattle.std.specs.Prelude.{◌≡◌, ◌<◌, ◌++◌, ◌∷◌, [], length, map, OnOk};
 ghost use Rattle.std.specs.List.{filter};
 ghost use Rattle.problem_model.specs.Problems.{row_entries};
-ghost use Rattle.activities.specs.Spans.{span_at};
+ghost use Rattle.row_spans.specs.Spans.{span_at};
 ghost use Rattle.coef_laws.specs.TightenedCoefficient.{enabled, tightened_in};
 ghost use Rattle.coef_rules.specs.Columns.{ids_among};
 

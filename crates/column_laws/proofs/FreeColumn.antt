@@ -31,12 +31,12 @@ use Rattle.rule_words.specs.Owed.{Owes}
 use Rattle.rule_words.proofs.Coefficients.{end_live}
 use Rattle.rule_words.proofs.EndTestsSay.{not_true}
 use Rattle.rule_words.proofs.Named.{nothing_twice, one_on, two_sided}
-use Rattle.activities.specs.declared.span.Extreme.TheVariants.{Greatest, Least}
-use Rattle.activities.specs.declared.span.Span.{Span}
-use Rattle.activities.specs.Exact.{fits, if_room}
-use Rattle.activities.specs.RowSums.{rest}
-use Rattle.activities.specs.Spans.{span_of, spans_of}
-use Rattle.activities.proofs.Bridge.{rest-is}
+use Rattle.row_spans.specs.declared.span.Extreme.TheVariants.{Greatest, Least}
+use Rattle.row_spans.specs.declared.span.Span.{Span}
+use Rattle.row_spans.specs.Exact.{fits, if_room}
+use Rattle.row_spans.specs.RowSums.{rest}
+use Rattle.row_spans.specs.Spans.{span_of, spans_of}
+use Rattle.row_spans.proofs.Bridge.{rest-is}
 use Rattle.activity_laws.specs.Rows.{keeps_lower, keeps_upper}
 use Rattle.activity_laws.specs.TightenedBound.{entry_at, if_made, implied, left_over}
 use Rattle.activity_laws.proofs.Rows as rows

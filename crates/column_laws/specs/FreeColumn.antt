@@ -15,8 +15,8 @@ use Rattle.problem_model.specs.declared.part.Part.TheVariants as part
 use Rattle.problem_model.specs.Problems.{cost_at, sides_at}
 use Rattle.problem_model.specs.Sparse.{Sparse}
 use Rattle.rule_words.specs.Reading.{bounds_named, found_on}
-use Rattle.activities.specs.declared.span.Span.{Span}
-use Rattle.activities.specs.Exact.{exact_quotient}
+use Rattle.row_spans.specs.declared.span.Span.{Span}
+use Rattle.row_spans.specs.Exact.{exact_quotient}
 use Rattle.activity_laws.specs.Rows.{RowTest, keeps_lower, keeps_upper, on_parts}
 use Rattle.activity_laws.specs.TightenedBound.{entry_at, if_made, implied}
 use Rattle.column_laws.specs.SoleEntry.{CostsCompute, costs_less, entry_of, is_sole_at, others_of, price_of}

@@ -11,8 +11,8 @@ use Rattle.problem_model.specs.Problems.{IsSparse, column_at, column_entries, ro
 use Rattle.problem_model.specs.Sparse.{Sparse}
 use Rattle.problem_laws.proofs.Terms.{dense-cons_other, dense-cons_same, has-cons_other}
 use Rattle.rule_words.proofs.EndTestsSay.{not_true}
-use Rattle.activities.specs.declared.span.Span.{Span}
-use Rattle.activities.specs.Spans.{span_of, spans_of}
+use Rattle.row_spans.specs.declared.span.Span.{Span}
+use Rattle.row_spans.specs.Spans.{span_of, spans_of}
 use Rattle.activity_laws.specs.TightenedBound.{entry_at}
 use Rattle.activity_rules.specs.Looks.{is_uncrossed}
 use Rattle.activity_rules.proofs.Looks.{split}

@@ -11,7 +11,7 @@ use Rattle.lp_model.specs.declared.terms.Term.{Term}
 use Rattle.problem_model.specs.declared.line.Line.{Line}
 use Rattle.problem_model.specs.Matrices.{line_at, live_only, no_line}
 use Rattle.problem_laws.proofs.AtIds.{live_inside}
-use Rattle.activities.specs.Exact.{fits, if_room}
+use Rattle.row_spans.specs.Exact.{fits, if_room}
 use Rattle.line_groups.specs.Keys.{first_number, mixed, with_number, with_parts}
 
 -- ---- a number in a key, as its quotient is made

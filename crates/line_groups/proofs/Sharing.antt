@@ -13,7 +13,7 @@ use Rattle.problem_model.specs.Parts.{contents_of}
 use Rattle.problem_model.specs.Problems.{IsSparse, column_at, column_entries, cost_at, row_at, row_entries}
 use Rattle.problem_model.specs.Sparse.{Sparse}
 use Rattle.problem_laws.proofs.Entries.{column_entries-none_zero, row_entries-none_zero}
-use Rattle.activities.specs.Exact.{fits}
+use Rattle.row_spans.specs.Exact.{fits}
 use Rattle.rule_words.specs.Entries.{has_none}
 use Rattle.rule_words.proofs.EndTestsSay.{not_true}
 use Rattle.parallel_column_laws.specs.ParallelColumns as columns

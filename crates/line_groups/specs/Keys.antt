@@ -9,7 +9,7 @@ use Rattle.problem_model.specs.declared.part.Contents.TheVariants.{Gone, Entries
 use Rattle.problem_model.specs.declared.part.Part.{Part}
 use Rattle.problem_model.specs.Parts.{contents_of}
 use Rattle.problem_model.specs.Sparse.{Sparse}
-use Rattle.activities.specs.Exact.{fits}
+use Rattle.row_spans.specs.Exact.{fits}
 
 -- a key with one more word in it
 abbrev pub mixed : ℕ → ℕ → ℕ

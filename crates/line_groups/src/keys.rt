@@ -11,12 +11,13 @@ ghost use Rattle.problem_model.specs.declared.part.Part.TheVariants as part;
 ghost use Rattle.line_groups.specs.Keys.{key_at, key_of as key_by, mixed as mixed_with, sign_of as sign_as, with_number as number_in, with_parts as parts_in, with_terms as terms_in};
 ghost use Rattle.line_groups.specs.Keys.{first_number as number_first};
 
-use activities::exact::quotient;
 use fractions::frac::Frac;
 use fractions::whole::Whole;
 use lp_model::Term;
+use problem_data::is_live;
 use problem_model::{Line, Part};
-use sparse_problem::{Problem, is_live};
+use row_spans::exact::quotient;
+use sparse_problem::Problem;
 
 /// A key with one more word in it.
 fn mixed(key: u64, word: u64) -> u64

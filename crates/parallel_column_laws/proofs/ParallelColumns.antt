@@ -46,7 +46,7 @@ use Rattle.rule_words.specs.Owed.{Owes}
 use Rattle.rule_words.proofs.Coefficients.{coefficient_in_column, end_live}
 use Rattle.rule_words.proofs.EndTestsSay.{not_true}
 use Rattle.rule_words.proofs.Named.{lives, none_on, nothing_twice, one_on, two_sided}
-use Rattle.activities.specs.Exact.{fits}
+use Rattle.row_spans.specs.Exact.{fits}
 use Rattle.parallel_column_laws.specs.ParallelColumns.{are_in_order, are_of_a_kind, are_times, are_whole, edits, enabled, factor, factor_of, is_multiple, is_parallel, is_unit, joined_lower, joined_upper, record_of}
 
 -- ---- entries

@@ -19,7 +19,7 @@ use Rattle.problem_model.specs.declared.part.Part.{Part}
 use Rattle.problem_model.specs.declared.part.Part.TheVariants as part
 use Rattle.problem_model.specs.Problems.{bounds_at, column_entries, first_of}
 use Rattle.problem_model.specs.Sparse.{Sparse}
-use Rattle.activities.specs.Exact.{fits}
+use Rattle.row_spans.specs.Exact.{fits}
 use Rattle.rule_words.specs.Entries.{has_none}
 use Rattle.rule_words.specs.Reading.{found_on, no_more}
 

@@ -14,8 +14,8 @@ use Rattle.lp_model.specs.declared.terms.Term.{Term}
 use Rattle.problem_model.specs.declared.line.Line.{Line}
 use Rattle.problem_model.specs.Matrices.{line_at, live_only}
 use Rattle.problem_laws.proofs.Terms.{not_both}
-use Rattle.activities.specs.Exact.{fits, if_room}
-use Rattle.activities.proofs.Rooms.{fits-is}
+use Rattle.row_spans.specs.Exact.{fits, if_room}
+use Rattle.row_spans.proofs.Rooms.{fits-is}
 use Rattle.rule_words.specs.Entries.{has_none}
 use Rattle.rule_words.proofs.EndTestsSay.{not_true}
 use Rattle.parallel_column_laws.specs.ParallelColumns.{are_times, factor_of}

@@ -11,7 +11,7 @@ use Rattle.problem_model.specs.Matrices.{live_only}
 use Rattle.problem_model.specs.Problems.{IsSparse, bounds_at, column_at, column_entries, cost_at}
 use Rattle.problem_model.specs.Sparse.{Sparse}
 use Rattle.problem_laws.proofs.Entries.{column_entries-none_zero}
-use Rattle.activities.specs.Exact.{fits}
+use Rattle.row_spans.specs.Exact.{fits}
 use Rattle.parallel_column_laws.specs.ParallelColumns.{are_in_order, are_of_a_kind, are_times, enabled, factor, factor_of, is_multiple, is_parallel}
 use Rattle.parallel_column_laws.proofs.ParallelColumns as law
 use Rattle.parallel_columns.specs.Looks.{are_two, factor_if, held, joins_if}

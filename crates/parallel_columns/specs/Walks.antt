@@ -6,7 +6,7 @@ use Rattle.rational.specs.Division.{◌/ℚ◌}
 use Rattle.lp_model.specs.declared.terms.Term.{Term}
 use Rattle.problem_model.specs.declared.line.Line.{Line}
 use Rattle.problem_model.specs.Matrices.{line_at}
-use Rattle.activities.specs.Exact.{fits}
+use Rattle.row_spans.specs.Exact.{fits}
 
 -- the terms from the first on that names a live line
 abbrev pub from_live : List Line → List Term → List Term

@@ -10,11 +10,11 @@ ghost use Rattle.rule_words.specs.Entries.{has_none};
 ghost use Rattle.parallel_column_laws.specs.ParallelColumns.{are_times as times_are};
 ghost use Rattle.parallel_columns.specs.Walks.{after_first, begin_alike as begins_alike, first_number as number_first, first_over as over_first, from_live as live_from};
 
-use activities::exact::{product, quotient};
 use fractions::frac::Frac;
 use lp_model::Term;
+use problem_data::is_live;
 use problem_model::Line;
-use sparse_problem::is_live;
+use row_spans::exact::{product, quotient};
 
 /// The entries of a row or a column, those that name deleted lines among them.
 pub fn entries_of(lines: &[Line], line: u32) -> &[Term]

@@ -37,7 +37,7 @@ use Rattle.rule_words.specs.Owed.{Owes}
 use Rattle.rule_words.proofs.Coefficients.{coefficient_in_row}
 use Rattle.rule_words.proofs.EndTestsSay.{not_true}
 use Rattle.rule_words.proofs.Named.{ids_on, lives, nothing_twice, one_on, two_sided}
-use Rattle.activities.specs.Exact.{fits}
+use Rattle.row_spans.specs.Exact.{fits}
 use Rattle.parallel_column_laws.specs.ParallelColumns.{are_times, factor_of}
 use Rattle.parallel_column_laws.proofs.ParallelColumns.{times_at, times_some}
 use Rattle.parallel_row_laws.specs.ParallelRows.{edits, enabled, factor, is_parallel, joined_lower, joined_upper, record_of}

@@ -12,7 +12,7 @@ use Rattle.problem_model.specs.Matrices.{live_only}
 use Rattle.problem_model.specs.Problems.{IsSparse, row_at, row_entries}
 use Rattle.problem_model.specs.Sparse.{Sparse}
 use Rattle.problem_laws.proofs.Entries.{row_entries-none_zero}
-use Rattle.activities.specs.Exact.{fits}
+use Rattle.row_spans.specs.Exact.{fits}
 use Rattle.rule_words.proofs.EndTestsSay.{not_true}
 use Rattle.parallel_column_laws.specs.ParallelColumns.{are_times, factor_of}
 use Rattle.parallel_columns.specs.Walks.{first_over}

@@ -9,7 +9,7 @@ ghost use Rattle.presolve_model.specs.Telling.{are_live, IsToldOf};
 
 use lp_model::{ColumnDef, Program, RowDef};
 use presolve_model::Line;
-use sparse_problem::in_sense;
+use problem_data::in_sense;
 use std::alloc::{AllocError, Global};
 use txn_book::Book;
 use undo_records::{Label, Records};

@@ -328,8 +328,8 @@ fn visit_rules(
     Ok(())
 }
 
-/// All instances at these rows and columns, in instance order. Notes what changes, and a part of what was left over, or marks it as asleep.
-pub fn pass(
+/// All instances at these rows and columns, in instance order.
+fn visit_all(
     alloc: Global,
     book: &mut Book,
     frozen: &Snapshot<Book>,
@@ -364,4 +364,24 @@ pub fn pass(
         watch,
     )?;
     Ok(())
+}
+
+/// All instances at these rows and columns, in instance order. Notes what changes, and a part of what was left over, or marks it as asleep.
+/// First the sums of the rows are made where none are kept.
+pub fn pass(
+    alloc: Global,
+    book: &mut Book,
+    frozen: &Snapshot<Book>,
+    stamps: &Stamps,
+    groups: &Parallels,
+    ids: &Around,
+    watch: &mut Watch,
+) -> Result<(), AllocError>
+    requires going { IsGoing frozen.now.value watch.old book.old }
+    requires stamps { AreStampsOf stamps.now frozen.now.value.problem }
+    requires groups { AreGroupsOf groups.now frozen.now.value.problem }
+    ensures { OnOk result (IsPassed frozen.now.value (visited (open_on frozen.now.value.tally) frozen.now.value.problem ids.now) watch.old book.old watch.new book.new) }
+{
+    book.keep_sums(ids.of(Rule::TightenedBound));
+    visit_all(alloc, book, frozen, stamps, groups, ids, watch)
 }

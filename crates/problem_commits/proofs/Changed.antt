@@ -10,7 +10,7 @@ use Rattle.problem_model.specs.Raised.{risen, numbered_line, numbered_sides, num
 use Rattle.problem_model.specs.Sparse.{Sparse}
 use Rattle.problem_laws.proofs.Numbering.{length-each_at}
 use Rattle.edit_laws.proofs.SameContents.{is-same_contents, other-same_contents}
-use Rattle.sparse_problem.specs.Renumbered.{number_put, changes_put, IsThere}
+use Rattle.problem_data.specs.Renumbered.{number_put, changes_put, IsThere}
 use Rattle.problem_commits.specs.declared.notes.Note.{Note}
 use Rattle.problem_commits.specs.Noting.{is_other, has_changed, raised_note, all_raised}
 

@@ -20,8 +20,8 @@ use Rattle.problem_laws.proofs.Numbering.{contents-numbered, changes-row, change
 use Rattle.edit_laws.proofs.NumbersStay.{changes_applied}
 use Rattle.edit_laws.proofs.SameContents.{is-same_contents, other-same_contents}
 use Rattle.problem_laws.proofs.Terms.{not_both}
-use Rattle.sparse_problem.specs.Renumbered.{same_part, number_put, changes_put, IsThere}
-use Rattle.sparse_problem.proofs.Renumbering.{numbered_self}
+use Rattle.problem_data.specs.Renumbered.{same_part, number_put, changes_put, IsThere}
+use Rattle.problem_data.proofs.Renumbering.{numbered_self}
 use Rattle.problem_commits.specs.declared.notes.Note.{Note}
 use Rattle.problem_commits.specs.Noting.{asked, certain, all_noted, is_other, has_changed, raised_note, all_raised}
 use Rattle.problem_commits.proofs.Noted.{names, same_part-is, IsTrueNote, notes_true, unnoted_stay}

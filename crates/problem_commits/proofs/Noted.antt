@@ -26,7 +26,7 @@ use Rattle.edit_laws.proofs.NumbersStay.{Lives, lives_self, lives_more, lives_ed
 use Rattle.problem_laws.proofs.Terms.{not_both, without-absent, has-cons_other, named_by}
 use Rattle.problem_laws.proofs.Single.{sparse_edited}
 use Rattle.edit_laws.proofs.Untouched.{rows_hold, columns_hold, stays_edited}
-use Rattle.sparse_problem.specs.Renumbered.{same_part, IsThere}
+use Rattle.problem_data.specs.Renumbered.{same_part, IsThere}
 use Rattle.problem_commits.specs.declared.notes.Note.{Note}
 use Rattle.problem_commits.specs.Noting.{asked, certain, columns_noted, rows_noted, goes_on, column_noted, noted, all_noted}
 

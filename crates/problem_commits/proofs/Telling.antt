@@ -15,7 +15,7 @@ use Rattle.problem_model.specs.Sparse.{Sparse}
 use Rattle.problem_laws.proofs.Numbering.{contents-numbered}
 use Rattle.problem_laws.proofs.Terms.{not_both}
 use Rattle.edit_laws.proofs.Raising.{counted_committed}
-use Rattle.sparse_problem.specs.Renumbered.{same_part}
+use Rattle.problem_data.specs.Renumbered.{same_part}
 use Rattle.problem_commits.specs.declared.notes.Note.{Note}
 use Rattle.problem_commits.specs.Noting.{all_noted, asked, certain, has_changed, is_other}
 use Rattle.problem_commits.proofs.Noted.{IsTrueNote, names, notes_true, same_part-is, unnoted_stay}

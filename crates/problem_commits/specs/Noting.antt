@@ -10,7 +10,7 @@ use Rattle.problem_model.specs.Parts.{contents_of, changes_of}
 use Rattle.problem_model.specs.Problems.{row_entries, column_entries}
 use Rattle.problem_model.specs.Raised.{risen, same_contents}
 use Rattle.problem_model.specs.Sparse.{Sparse}
-use Rattle.sparse_problem.specs.Renumbered.{changes_put}
+use Rattle.problem_data.specs.Renumbered.{changes_put}
 use Rattle.problem_commits.specs.declared.notes.Note.{Note}
 
 -- a part that may change, and one that changes for certain

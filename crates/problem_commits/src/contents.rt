@@ -6,8 +6,8 @@ ghost use Rattle.problem_commits.specs.Lefts.{IsLeft};
 
 use fractions::ext::Ext;
 use lp_model::Term;
+use problem_data::is_live;
 use problem_model::Line;
-use sparse_problem::is_live;
 
 /// Whether two terms are the same.
 fn same_term(a: &Term, b: &Term) -> bool

@@ -3,7 +3,7 @@
 ghost use Rattle.std.specs.Prelude.{◌≡◌, ◌+◌, ◌<◌, ◌≤◌, ◌++◌, ◌∷◌, [], length, map, vec_capacity};
 ghost use Rattle.std.specs.List.{All, filter};
 ghost use Rattle.problem_model.specs.Raised.{risen};
-ghost use Rattle.sparse_problem.specs.Renumbered.{IsThere};
+ghost use Rattle.problem_data.specs.Renumbered.{IsThere};
 ghost use Rattle.problem_commits.specs.Noting.{all_raised, has_changed, raised_note};
 
 use crate::notes::Note;

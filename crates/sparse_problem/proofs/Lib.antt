@@ -1,12 +1,5 @@
-pub mod Named
-pub mod Places
-pub mod Deleting
-pub mod Counting
-pub mod LiveTerms
-pub mod Edited
-pub mod Crossing
-pub mod MadeProblems
-pub mod WrittenRows
-pub mod Renumbering
-pub mod Below
-pub mod Putting
+pub mod Splitting
+pub mod Rows
+pub mod Mending
+pub mod Staying
+pub mod TermWalks

@@ -1,17 +1,8 @@
-//! A problem in sparse rows and columns, by the ids of the program that it was made of.
+//! A problem to be minimized, by the ids of the program that it was made of, with what is kept of its rows' activities.
 #![tactic(auto)]
 
-mod entries;
-mod lines;
-mod living;
-mod made;
-mod moves;
-mod numbers;
+mod kept_rows;
 mod problem;
-mod transpose;
-mod written;
+mod row_totals;
 
-pub use entries::{Held, Replaced};
-pub use living::is_live;
-pub use made::in_sense;
 pub use problem::Problem;

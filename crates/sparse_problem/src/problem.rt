@@ -1,36 +1,37 @@
 //! Problems.
 
-ghost use Rattle.std.specs.Prelude.{◌≡◌, ◌<◌, ◌^◌, length, IfOk, OnErr, OnOk, true, [], ◌∷◌};
+ghost use Rattle.std.specs.Prelude.{◌≡◌, ◌<◌, ◌^◌, length, IfNone, IfOk, IfSome, OnErr, OnOk, true, [], ◌∷◌};
 ghost use Rattle.std.specs.List.{All};
+ghost use Rattle.lp_model.specs.Writable.{EntriesAscend};
 ghost use Rattle.problem_model.specs.Edits.{bounds_set, column_deleted, cost_set, offset_set, row_deleted, sides_set};
 ghost use Rattle.problem_model.specs.Parts.{changes_of};
-ghost use Rattle.problem_model.specs.declared.part.Part.TheVariants as part;
-ghost use Rattle.sparse_problem.specs.Putting.{AreInside, entries_given, entries_set, GivesBack, IdsAscend};
-ghost use Rattle.sparse_problem.specs.Renumbered.{changes_put, IsThere};
 ghost use Rattle.problem_model.specs.Problems.{bounds_at, column_at, column_entries, cost_at, IsSparse, row_at, row_entries, sides_at};
+ghost use Rattle.problem_model.specs.Programs.{IsProblemOf, written_program};
+ghost use Rattle.problem_data.specs.Putting.{AreInside, entries_given, entries_set, GivesBack, IdsAscend};
+ghost use Rattle.problem_data.specs.Renumbered.{changes_put, IsThere};
+ghost use Rattle.row_spans.specs.Spans.{spans_of};
+ghost use Rattle.kept_sums.specs.KeptSums.{AreSumsOf};
+ghost use Rattle.kept_sums.specs.RowTotals.{AreTotals, IsTame};
 
-use crate::entries::{Replaced, exchange, exchange_all, give_back, line_with_terms, rows_with};
-use crate::lines::{delete_line, first_live, live_entries_of, live_terms_of};
-use crate::living::is_live;
-use crate::moves::{move_bounds, move_sides};
-use crate::numbers::{line_changes, number_line};
+use crate::kept_rows::{
+    forget_all, forget_rows, kept_of, lose_in_rows, move_in_rows, nothing_kept, put, sums_of_row,
+};
+use crate::row_totals::totals_of_row;
 use fractions::ext::Ext;
 use fractions::frac::Frac;
-use lp_model::{Term, Terms};
+use kept_sums::{KeptSums, RowTotals};
+use lp_model::{Program, Term, Terms};
+use problem_data::{ProblemData, Replaced};
 use problem_model::{Bounds, Line, Part, Sides};
 use std::alloc::{AllocError, Global};
 use std::marker::Model;
 
-/// A problem to be minimized: rows and columns by the ids of the program that it was made of, deleted ones among them.
+/// A problem to be minimized: rows and columns by the ids of the program that it was made of, deleted ones among them. Beside them it keeps
+/// sums of rows, which are mended as the problem changes.
 #[derive(Drop)]
 pub struct Problem {
-    rows: Vec<Line>,
-    columns: Vec<Line>,
-    sides: Vec<Sides>,
-    bounds: Vec<Bounds>,
-    costs: Vec<Frac>,
-    offset: Frac,
-    constant: Frac,
+    parts: ProblemData,
+    kept: Vec<Option<KeptSums>>,
 }
 
 impl Model for Problem {
@@ -42,57 +43,100 @@ impl Model for Problem {
 
     ghost coded = { Prim.hlevel (codes, number_code) };
 
-    ghost use Rattle.problem_model.specs.Problems.{IsSparse};
+    ghost use Rattle.sparse_problem.specs.KeptRows.{AreKept};
 
-    ghost view = { λ p. record { matrix = record { rows = p.rows.items; columns = p.columns.items }; sides = p.sides.items; bounds = p.bounds.items; costs = p.costs.items; offset = p.offset; constant = p.constant } };
+    ghost view = { λ p. p.parts };
 
-    ghost invariant = { λ p. IsSparse (record { matrix = record { rows = p.rows.items; columns = p.columns.items }; sides = p.sides.items; bounds = p.bounds.items; costs = p.costs.items; offset = p.offset; constant = p.constant }) };
+    ghost invariant = { λ p. AreKept p.parts p.kept.items };
 }
 
 impl Problem {
-    /// The problem of these parts.
-    pub(crate) fn new(
-        rows: Vec<Line>,
-        columns: Vec<Line>,
-        sides: Vec<Sides>,
-        bounds: Vec<Bounds>,
-        costs: Vec<Frac>,
-        offset: Frac,
-        constant: Frac,
-    ) -> Problem
-        requires { IsSparse (record { matrix = record { rows = rows.items; columns = columns.items }; sides = sides.items; bounds = bounds.items; costs = costs.items; offset = offset; constant = constant }) }
-        ensures { result ≡ record { matrix = record { rows = rows.items; columns = columns.items }; sides = sides.items; bounds = bounds.items; costs = costs.items; offset = offset; constant = constant } }
+    /// The problem of a program: with its rows and columns, all live, and costs negated for MAX.
+    pub fn from_program(alloc: Global, program: &Program) -> Result<Problem, AllocError>
+        requires entries { EntriesAscend program.now }
+        requires few_rows { length program.now.rows < 2 ^ 32 }
+        requires few_columns { length program.now.columns < 2 ^ 32 }
+        ensures { IfOk result (IsProblemOf program.now) }
     {
-        Problem {
-            rows,
-            columns,
-            sides,
-            bounds,
-            costs,
-            offset,
-            constant,
+        let parts = ProblemData::from_program(alloc, program)?;
+        let kept = nothing_kept(alloc, parts.row_count())?;
+        Ok(Problem { parts, kept })
+    }
+
+    /// An equal problem, which keeps the same sums.
+    pub fn copy(&self, alloc: Global) -> Result<Problem, AllocError>
+        ensures { IfOk result (λ p. p ≡ self.now) }
+    {
+        let parts = self.parts.copy(alloc)?;
+        let kept = Vec::from_slice(alloc, self.kept.as_slice())?;
+        Ok(Problem { parts, kept })
+    }
+
+    /// The program of the live rows and columns, with new ids in the same order. Names, sense, objective and constant are those of
+    /// the program that the problem was made of.
+    pub fn to_program(&self, alloc: Global, original: &Program) -> Result<Program, AllocError>
+        requires rows { length original.now.rows ≡ length self.now.matrix.rows }
+        requires columns { length original.now.columns ≡ length self.now.matrix.columns }
+        ensures { IfOk result (λ r. r ≡ written_program original.now self.now) }
+    {
+        self.parts.to_program(alloc, original)
+    }
+
+    /// What is kept of a row.
+    pub fn kept_sums(&self, i: u32) -> Option<KeptSums>
+        ensures { IfSome result (AreSumsOf (spans_of self.now i)) }
+    {
+        kept_of(self.kept.as_slice(), i)
+    }
+
+    /// Makes the sums of a row, if none are kept and its numbers have room. The problem stays the same.
+    fn keep_row(&mut self, i: u32)
+        ensures { self.new ≡ self.old }
+    {
+        if kept_of(self.kept.as_slice(), i).is_none() {
+            put(&mut self.kept, i, sums_of_row(&self.parts, i));
         }
+    }
+
+    /// Makes the sums of these rows, where none are kept and their numbers have room. The problem stays the same.
+    pub fn keep_sums(&mut self, rows: &[u32])
+        ensures { self.new ≡ self.old }
+    {
+        for row in rows {
+            self.keep_row(*row);
+        }
+    }
+
+    /// What a row's least and greatest terms come to, over the least denominator that they have in common. `None` exactly where the row is
+    /// gone, or where this denominator or a sum of absolute numerators over it is above 2^63. It takes no memory.
+    pub fn row_sums(&self, i: u32) -> Option<RowTotals>
+        ensures live { IfSome result (λ r. (row_at self.now i).live ≡ true) }
+        ensures some { IfSome result (AreTotals (spans_of self.now i)) }
+        ensures tame { IfSome result (λ r. IsTame (spans_of self.now i)) }
+        ensures none { IfNone result ((row_at self.now i).live ≡ true → IsTame (spans_of self.now i) → ⊥) }
+    {
+        totals_of_row(&self.parts, i)
     }
 
     /// That rows and columns agree, and that ids have 32 bits.
     pub fn is_sparse(&self)
         ensures { IsSparse self.now }
     {
-        let _ = &self.offset;
+        self.parts.is_sparse()
     }
 
     /// The rows, by id, deleted ones among them.
     pub fn rows(&self) -> &[Line]
         ensures { result.now ≡ self.now.matrix.rows }
     {
-        self.rows.as_slice()
+        self.parts.rows()
     }
 
     /// The columns, by id, deleted ones among them.
     pub fn columns(&self) -> &[Line]
         ensures { result.now ≡ self.now.matrix.columns }
     {
-        self.columns.as_slice()
+        self.parts.columns()
     }
 
     /// The sides of each row.
@@ -100,7 +144,7 @@ impl Problem {
         ensures value { result.now ≡ self.now.sides }
         ensures long { length result.now ≡ length self.now.matrix.rows }
     {
-        self.sides.as_slice()
+        self.parts.all_sides()
     }
 
     /// The bounds of each column.
@@ -108,7 +152,7 @@ impl Problem {
         ensures value { result.now ≡ self.now.bounds }
         ensures long { length result.now ≡ length self.now.matrix.columns }
     {
-        self.bounds.as_slice()
+        self.parts.all_bounds()
     }
 
     /// The cost of each column, in the minimizing sense.
@@ -116,21 +160,21 @@ impl Problem {
         ensures value { result.now ≡ self.now.costs }
         ensures long { length result.now ≡ length self.now.matrix.columns }
     {
-        self.costs.as_slice()
+        self.parts.costs()
     }
 
     /// What was added to the cost, in the minimizing sense.
     pub fn offset(&self) -> Frac
         ensures { result ≡ self.now.offset }
     {
-        self.offset
+        self.parts.offset()
     }
 
     /// The constant of the cost, in the minimizing sense.
     pub fn constant(&self) -> Frac
         ensures { result ≡ self.now.constant }
     {
-        self.constant
+        self.parts.constant()
     }
 
     /// How many rows there are, deleted ones among them.
@@ -138,7 +182,7 @@ impl Problem {
         ensures value { result ≡ length self.now.matrix.rows }
         ensures few { result < 2 ^ 32 }
     {
-        self.rows.len()
+        self.parts.row_count()
     }
 
     /// How many columns there are, deleted ones among them.
@@ -146,35 +190,35 @@ impl Problem {
         ensures value { result ≡ length self.now.matrix.columns }
         ensures few { result < 2 ^ 32 }
     {
-        self.columns.len()
+        self.parts.column_count()
     }
 
     /// Whether a row is there. One past the last isn't.
     pub fn is_row_live(&self, i: u32) -> bool
         ensures { result ≡ (row_at self.now i).live }
     {
-        is_live(self.rows.as_slice(), i)
+        self.parts.is_row_live(i)
     }
 
     /// Whether a column is there. One past the last isn't.
     pub fn is_column_live(&self, j: u32) -> bool
         ensures { result ≡ (column_at self.now j).live }
     {
-        is_live(self.columns.as_slice(), j)
+        self.parts.is_column_live(j)
     }
 
     /// How many entries of a row are in live columns.
     pub fn live_row_entries(&self, i: u32) -> usize
         ensures { result ≡ length (row_entries self.now i) }
     {
-        live_entries_of(self.rows.as_slice(), i)
+        self.parts.live_row_entries(i)
     }
 
     /// How many entries of a column are in live rows.
     pub fn live_column_entries(&self, j: u32) -> usize
         ensures { result ≡ length (column_entries self.now j) }
     {
-        live_entries_of(self.columns.as_slice(), j)
+        self.parts.live_column_entries(j)
     }
 
     /// The sides of a row.
@@ -182,7 +226,7 @@ impl Problem {
         requires { (row_at self.now i).live ≡ true }
         ensures { result ≡ sides_at self.now i }
     {
-        self.sides[i as usize]
+        self.parts.sides(i)
     }
 
     /// The bounds of a column.
@@ -190,7 +234,7 @@ impl Problem {
         requires { (column_at self.now j).live ≡ true }
         ensures { result ≡ bounds_at self.now j }
     {
-        self.bounds[j as usize]
+        self.parts.bounds(j)
     }
 
     /// The cost of a column, in the minimizing sense.
@@ -198,7 +242,7 @@ impl Problem {
         requires { (column_at self.now j).live ≡ true }
         ensures { result ≡ cost_at self.now j }
     {
-        self.costs[j as usize]
+        self.parts.cost(j)
     }
 
     /// The one entry of a row in a live column.
@@ -207,32 +251,35 @@ impl Problem {
         requires sole { length (row_entries self.now i) ≡ 1 }
         ensures { row_entries self.now i ≡ result ∷ [] }
     {
-        let row = &self.rows[i as usize];
-        match first_live(self.columns.as_slice(), row.entries.as_slice()) {
-            Some(term) => term,
-            None => unreachable!(),
-        }
+        self.parts.sole_entry(i)
     }
 
     /// The entries of a row in live columns, by column id.
     pub fn row_terms(&self, alloc: Global, i: u32) -> Result<Terms, AllocError>
         ensures { IfOk result (λ terms. terms ≡ row_entries self.now i) }
     {
-        live_terms_of(alloc, self.rows.as_slice(), self.columns.as_slice(), i)
+        self.parts.row_terms(alloc, i)
     }
 
     /// The entries of a column in live rows, by row id.
     pub fn column_terms(&self, alloc: Global, j: u32) -> Result<Terms, AllocError>
         ensures { IfOk result (λ terms. terms ≡ column_entries self.now j) }
     {
-        live_terms_of(alloc, self.columns.as_slice(), self.rows.as_slice(), j)
+        self.parts.column_terms(alloc, j)
+    }
+
+    /// How often a part has changed; a part past the ids never has.
+    pub fn changes(&self, part: Part) -> u64
+        ensures { result ≡ changes_of self.now part }
+    {
+        self.parts.changes(part)
     }
 
     /// Sets what was added to the cost, in the minimizing sense.
     pub fn set_offset(&mut self, offset: Frac)
         ensures { self.new ≡ offset_set self.old offset }
     {
-        self.offset = offset;
+        self.parts.set_offset(offset);
     }
 
     /// Gives a row sides.
@@ -240,7 +287,7 @@ impl Problem {
         requires { (row_at self.old i).live ≡ true }
         ensures { self.new ≡ sides_set self.old i lower upper }
     {
-        move_sides(&mut self.sides[i as usize], lower, upper);
+        self.parts.set_sides(i, lower, upper);
     }
 
     /// Gives a column bounds.
@@ -248,7 +295,8 @@ impl Problem {
         requires { (column_at self.old j).live ≡ true }
         ensures { self.new ≡ bounds_set self.old j lower upper }
     {
-        move_bounds(&mut self.bounds[j as usize], lower, upper);
+        move_in_rows(&mut self.kept, &self.parts, j, &lower, &upper);
+        self.parts.set_bounds(j, lower, upper);
     }
 
     /// Gives a column a cost, in the minimizing sense.
@@ -256,7 +304,7 @@ impl Problem {
         requires { (column_at self.old j).live ≡ true }
         ensures { self.new ≡ cost_set self.old j cost }
     {
-        self.costs[j as usize] = cost;
+        self.parts.set_cost(j, cost);
     }
 
     /// Deletes a row with its sides. The columns' entries there are live no more; a column that has fewer live entries than others keeps
@@ -265,7 +313,8 @@ impl Problem {
         requires { (row_at self.old i).live ≡ true }
         ensures { self.new ≡ row_deleted self.old i }
     {
-        delete_line(&mut self.rows, &mut self.columns, i);
+        put(&mut self.kept, i, None);
+        self.parts.delete_row(i);
     }
 
     /// Deletes a column with its bounds and its cost. The rows' entries there are live no more; a row that has fewer live entries than
@@ -274,41 +323,8 @@ impl Problem {
         requires { (column_at self.old j).live ≡ true }
         ensures { self.new ≡ column_deleted self.old j }
     {
-        delete_line(&mut self.columns, &mut self.rows, j);
-    }
-
-    /// Says how often a row's entries have changed.
-    fn set_row_changes(&mut self, i: u32, changes: u64)
-        requires { i < length self.old.matrix.rows }
-        ensures { self.new ≡ changes_put self.old (part.Row i) changes }
-    {
-        number_line(&mut self.rows, i, changes);
-    }
-
-    /// Says how often a column's entries and cost have changed.
-    fn set_column_changes(&mut self, j: u32, changes: u64)
-        requires { j < length self.old.matrix.columns }
-        ensures { self.new ≡ changes_put self.old (part.Col j) changes }
-    {
-        number_line(&mut self.columns, j, changes);
-    }
-
-    /// Says how often a row's sides have changed.
-    fn set_sides_changes(&mut self, i: u32, changes: u64)
-        requires { i < length self.old.sides }
-        ensures { self.new ≡ changes_put self.old (part.Sides i) changes }
-    {
-        let sides = &mut self.sides[i as usize];
-        sides.changes = changes;
-    }
-
-    /// Says how often a column's bounds have changed.
-    fn set_bounds_changes(&mut self, j: u32, changes: u64)
-        requires { j < length self.old.bounds }
-        ensures { self.new ≡ changes_put self.old (part.Bounds j) changes }
-    {
-        let bounds = &mut self.bounds[j as usize];
-        bounds.changes = changes;
+        lose_in_rows(&mut self.kept, &self.parts, j);
+        self.parts.delete_column(j);
     }
 
     /// Says how often a part has changed.
@@ -316,30 +332,7 @@ impl Problem {
         requires { IsThere self.old part }
         ensures { self.new ≡ changes_put self.old part changes }
     {
-        match part {
-            Part::Row(i) => self.set_row_changes(i, changes),
-            Part::Sides(i) => self.set_sides_changes(i, changes),
-            Part::Col(j) => self.set_column_changes(j, changes),
-            Part::Bounds(j) => self.set_bounds_changes(j, changes),
-        }
-    }
-
-    /// How often a part has changed; a part past the ids never has.
-    pub fn changes(&self, part: Part) -> u64
-        ensures { result ≡ changes_of self.now part }
-    {
-        match part {
-            Part::Row(i) => line_changes(self.rows.as_slice(), i),
-            Part::Sides(i) => match self.sides.get(i as usize) {
-                Some(sides) => sides.changes,
-                None => 0,
-            },
-            Part::Col(j) => line_changes(self.columns.as_slice(), j),
-            Part::Bounds(j) => match self.bounds.get(j as usize) {
-                Some(bounds) => bounds.changes,
-                None => 0,
-            },
-        }
+        self.parts.set_changes(part, changes);
     }
 
     /// Sets entries of a column, each in the row that its term names, and hands out the entries that these lines had. 0 leaves no entry.
@@ -360,11 +353,9 @@ impl Problem {
         ensures back { IfOk result (λ c. GivesBack c self.new self.old) }
         ensures err { OnErr result (self.new ≡ self.old) }
     {
-        let mut in_column = line_with_terms(alloc, self.columns.as_slice(), j, terms)?;
-        let mut in_rows = rows_with(alloc, self.rows.as_slice(), j, terms)?;
-        exchange(&mut self.columns, &mut in_column);
-        exchange_all(&mut self.rows, &mut in_rows);
-        Ok(Replaced { in_column, in_rows })
+        let replaced = self.parts.set_entries(alloc, j, terms)?;
+        forget_rows(&mut self.kept, terms);
+        Ok(replaced)
     }
 
     /// Gives rows and a column the entries that they had.
@@ -374,8 +365,7 @@ impl Problem {
         requires sound { IsSparse (entries_given self.old before) }
         ensures { self.new ≡ entries_given self.old before }
     {
-        let mut in_column = before.in_column;
-        exchange(&mut self.columns, &mut in_column);
-        give_back(&mut self.rows, before.in_rows);
+        forget_all(&mut self.kept);
+        self.parts.put_back(before);
     }
 }

@@ -122,6 +122,13 @@ impl Book {
         &self.problem
     }
 
+    /// Makes the sums of rows of the present problem, where none are kept. The book stays the same.
+    pub fn keep_sums(&mut self, rows: &[u32])
+        ensures { self.new ≡ self.old }
+    {
+        self.problem.keep_sums(rows);
+    }
+
     /// How often each bound was tightened.
     pub fn tally(&self) -> &Tally
         ensures { result.now ≡ self.now.tally }

@@ -11,11 +11,11 @@ use Rattle.problem_model.specs.declared.part.Contents.TheVariants as holding
 use Rattle.problem_model.specs.Problems.{column_at, row_at, row_entries}
 use Rattle.problem_model.specs.Sparse.{Sparse}
 use Rattle.problem_laws.proofs.Entries.{row_entries-live}
-use Rattle.activities.specs.declared.span.Extreme.{Extreme}
-use Rattle.activities.specs.declared.span.Extreme.TheVariants.{Least, Greatest}
-use Rattle.activities.specs.declared.span.Span.{Span}
-use Rattle.activities.specs.RowSums.{activity, rest, row_sum}
-use Rattle.activities.specs.Spans.{end_at, ends_at, joined, others, span_of, spans_from, spans_of}
+use Rattle.row_spans.specs.declared.span.Extreme.{Extreme}
+use Rattle.row_spans.specs.declared.span.Extreme.TheVariants.{Least, Greatest}
+use Rattle.row_spans.specs.declared.span.Span.{Span}
+use Rattle.row_spans.specs.RowSums.{activity, rest, row_sum}
+use Rattle.row_spans.specs.Spans.{end_at, ends_at, joined, others, span_of, spans_from, spans_of}
 use Rattle.activity_laws.specs.Rows.{RowTest, all_in_order, has_some, on_activities, on_both, on_parts, on_row, on_spans}
 use Rattle.written_ids.specs.NewIds.{Ids, term_at, terms_at}
 use Rattle.written_ids.specs.Standing.{LinesStand}

@@ -23,10 +23,10 @@ use Rattle.problem_model.specs.Problems.{bounds_at, column_at, row_at, row_entri
 use Rattle.problem_model.specs.Sparse.{Sparse}
 use Rattle.problem_laws.proofs.Entries.{has-live_only, row_entries-live}
 use Rattle.rule_words.specs.Reading.{bounds_of, terms_in}
-use Rattle.activities.specs.declared.span.Extreme.{Extreme}
-use Rattle.activities.specs.declared.span.Extreme.TheVariants.{Least, Greatest}
-use Rattle.activities.specs.declared.span.Span.{Span}
-use Rattle.activities.specs.Spans.{span_of, spans_of}
+use Rattle.row_spans.specs.declared.span.Extreme.{Extreme}
+use Rattle.row_spans.specs.declared.span.Extreme.TheVariants.{Least, Greatest}
+use Rattle.row_spans.specs.declared.span.Span.{Span}
+use Rattle.row_spans.specs.Spans.{span_of, spans_of}
 use Rattle.activity_laws.specs.Rows.{RowTest, all_in_order, has_some, heads, keeps_lower, keeps_upper, on_activities, on_row, row_found}
 use Rattle.activity_laws.specs.RedundantRow as redundant_row
 use Rattle.activity_laws.specs.RedundantSide as redundant_side

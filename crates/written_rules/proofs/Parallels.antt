@@ -17,7 +17,7 @@ use Rattle.problem_model.specs.declared.part.Part.TheVariants.{Row, Col, Bounds}
 use Rattle.problem_model.specs.Problems.{bounds_at, column_at, column_entries, cost_at, first_of, row_at, row_entries, sides_at}
 use Rattle.problem_model.specs.Sparse.{Sparse}
 use Rattle.problem_laws.proofs.Entries.{column_entries-live, row_entries-live}
-use Rattle.activities.specs.Exact.{fits}
+use Rattle.row_spans.specs.Exact.{fits}
 use Rattle.rule_words.specs.Reading.{found_on, no_more}
 use Rattle.parallel_column_laws.specs.ParallelColumns as columns
 use Rattle.parallel_column_laws.specs.ParallelColumns.{are_in_order, are_of_a_kind, are_times, factor_of}

@@ -25,8 +25,8 @@ use Rattle.problem_model.specs.Problems.{bounds_at, column_at, column_entries, c
 use Rattle.problem_model.specs.Sparse.{Sparse}
 use Rattle.problem_laws.proofs.Entries.{column_entries-live, row_entries-live}
 use Rattle.rule_words.specs.Reading.{bounds_named, bounds_of, found_on, no_more, terms_in}
-use Rattle.activities.specs.declared.span.Span.{Span}
-use Rattle.activities.specs.Spans.{spans_of}
+use Rattle.row_spans.specs.declared.span.Span.{Span}
+use Rattle.row_spans.specs.Spans.{spans_of}
 use Rattle.activity_laws.specs.Rows.{RowTest, all_in_order, keeps_lower, keeps_upper, row_found}
 use Rattle.activity_laws.specs.TightenedBound.{entry_at}
 use Rattle.activity_laws.proofs.Rows.{tested}

@@ -10,9 +10,9 @@ use Rattle.problem_model.specs.declared.edit.Edit.TheVariants.{SetEntry}
 use Rattle.problem_model.specs.declared.part.Part.TheVariants.{Bounds}
 use Rattle.problem_model.specs.Problems.{column_at, row_at, sides_at}
 use Rattle.problem_model.specs.Sparse.{Sparse}
-use Rattle.activities.specs.declared.span.Span.{Span}
-use Rattle.activities.specs.RowSums.{rest}
-use Rattle.activities.specs.Spans.{spans_of}
+use Rattle.row_spans.specs.declared.span.Span.{Span}
+use Rattle.row_spans.specs.RowSums.{rest}
+use Rattle.row_spans.specs.Spans.{spans_of}
 use Rattle.activity_laws.specs.Rows.{RowTest, all_in_order, heads, row_found}
 use Rattle.activity_laws.specs.TightenedBound.{entry_at}
 use Rattle.activity_laws.proofs.Rows.{tested}

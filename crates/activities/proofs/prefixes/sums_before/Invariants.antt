@@ -1,7 +1,7 @@
 use Rattle.std.proofs.Common.{◌≡◌, ◌++◌, length, Ok}
 use Rattle.rational.specs.Number.{zero_ℚ}
 use Rattle.activities.specs.Prefixes.{sums_before}
-use Rattle.activities.specs.Spans.{ends_at}
+use Rattle.row_spans.specs.Spans.{ends_at}
 use Rattle.activities.proofs.prefixes.sums_before.Given as goal
 
 -- those that are made, and those of what is left

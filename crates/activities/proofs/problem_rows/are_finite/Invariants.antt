@@ -1,6 +1,6 @@
 use Rattle.std.proofs.Common.{◌≡◌, length}
-use Rattle.activities.specs.RowSums.{all_finite}
-use Rattle.activities.specs.Spans.{ends_at}
+use Rattle.row_spans.specs.RowSums.{all_finite}
+use Rattle.row_spans.specs.Spans.{ends_at}
 use Rattle.activities.specs.Walks.{spans_seen}
 use Rattle.activities.proofs.problem_rows.are_finite.Given as goal
 

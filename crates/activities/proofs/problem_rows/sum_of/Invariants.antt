@@ -1,7 +1,7 @@
 use Rattle.std.proofs.Common.{◌≡◌, length}
 use Rattle.rational.specs.Number.{zero_ℚ}
-use Rattle.activities.specs.RowSums.{sum_from}
-use Rattle.activities.specs.Spans.{ends_at}
+use Rattle.row_spans.specs.RowSums.{sum_from}
+use Rattle.row_spans.specs.Spans.{ends_at}
 use Rattle.activities.specs.Walks.{spans_seen}
 use Rattle.activities.proofs.problem_rows.sum_of.Given as goal
 

@@ -1,9 +1,10 @@
 use Rattle.std.proofs.Common.{◌≡◌, ◌+◌, ◌++◌, ◌∷◌, List, Option, Some, None, take, drop, sym, ap, ◌∙◌, subst, Ok, IfSome}
 use Rattle.rational.specs.Number.{Number}
-use Rattle.activities.specs.CommonSums.{IsCommonSum}
-use Rattle.activities.specs.RowSums.{row_sum}
-use Rattle.activities.specs.Spans.{ends_at}
-use Rattle.activities.proofs.Pieces.{ends_all_at, ends_at-++}
+use Rattle.kept_sums.specs.CommonSums.{IsCommonSum}
+use Rattle.row_spans.specs.RowSums.{row_sum}
+use Rattle.row_spans.specs.Spans.{ends_at}
+use Rattle.kept_sums.proofs.Mended.{ends_at-++}
+use Rattle.activities.proofs.Pieces.{ends_all_at}
 use Rattle.activities.proofs.row_sums.common_rest.Goals as goal
 
 pub returns : goal.returns

@@ -1,5 +1,5 @@
 use Rattle.std.proofs.Common.{sym, ap, ◌∙◌}
-use Rattle.activities.specs.RowSums.{activity}
+use Rattle.row_spans.specs.RowSums.{activity}
 use Rattle.activities.proofs.Pieces.{others_place}
 use Rattle.activities.proofs.row_sums.rest_off.Goals as goal
 

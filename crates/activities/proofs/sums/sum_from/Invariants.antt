@@ -1,6 +1,6 @@
 use Rattle.std.proofs.Common.{◌≡◌, length}
-use Rattle.activities.specs.RowSums.{sum_from}
-use Rattle.activities.specs.Spans.{ends_at}
+use Rattle.row_spans.specs.RowSums.{sum_from}
+use Rattle.row_spans.specs.Spans.{ends_at}
 use Rattle.activities.proofs.sums.sum_from.Given as goal
 
 -- what is left leads to the same

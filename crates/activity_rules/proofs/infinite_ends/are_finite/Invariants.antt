@@ -1,6 +1,6 @@
 use Rattle.std.proofs.Common.{◌≡◌, length}
-use Rattle.activities.specs.RowSums.{all_finite}
-use Rattle.activities.specs.Spans.{ends_at, spans_among}
+use Rattle.row_spans.specs.RowSums.{all_finite}
+use Rattle.row_spans.specs.Spans.{ends_at, spans_among}
 use Rattle.activity_rules.proofs.infinite_ends.are_finite.Given as goal
 
 -- what is left decides

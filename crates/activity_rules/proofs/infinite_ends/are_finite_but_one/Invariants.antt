@@ -1,5 +1,5 @@
 use Rattle.std.proofs.Common.{◌≡◌, length}
-use Rattle.activities.specs.Spans.{ends_at, spans_among}
+use Rattle.row_spans.specs.Spans.{ends_at, spans_among}
 use Rattle.activity_rules.specs.Tightened.{at_most_one_infinite}
 use Rattle.activity_rules.proofs.infinite_ends.are_finite_but_one.Given as goal
 

@@ -1,5 +1,5 @@
 use Rattle.std.proofs.Common.{◌≡◌, length}
-use Rattle.activities.specs.Spans.{spans_among}
+use Rattle.row_spans.specs.Spans.{spans_among}
 use Rattle.activity_laws.specs.Rows.{all_in_order}
 use Rattle.activity_rules.proofs.rows.all_bounds_in_order.Given as goal
 

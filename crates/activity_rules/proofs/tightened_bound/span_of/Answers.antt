@@ -1,5 +1,5 @@
 use Rattle.std.proofs.Common.{◌∙◌, List, get_or, ap}
-use Rattle.activities.specs.declared.span.Span.{Span}
+use Rattle.row_spans.specs.declared.span.Span.{Span}
 use Rattle.activity_rules.proofs.Tightened.{none_zero}
 use Rattle.activity_rules.proofs.tightened_bound.span_of.Goals as goal
 

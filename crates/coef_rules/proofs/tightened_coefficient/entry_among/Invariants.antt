@@ -1,5 +1,5 @@
 use Rattle.std.proofs.Common.{◌≡◌, length}
-use Rattle.activities.specs.Spans.{spans_among}
+use Rattle.row_spans.specs.Spans.{spans_among}
 use Rattle.activity_laws.specs.TightenedBound.{entry_at}
 use Rattle.coef_rules.proofs.tightened_coefficient.entry_among.Given as goal
 

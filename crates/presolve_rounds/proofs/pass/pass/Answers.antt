@@ -1,15 +1,14 @@
-use Rattle.std.proofs.Common.{List, subst}
-use Rattle.presolve_model.specs.declared.instance.Rule.{Rule}
-use Rattle.presolve_model.specs.Order.{reduction_order, verdict_order}
+use Rattle.std.proofs.Common.{OnOk, subst, sym}
+use Rattle.presolve_model.specs.Ledger.{Ledger}
 use Rattle.presolve_model.specs.Tallies.{open_on}
-use Rattle.place_laws.specs.Choosing.{instances_of}
-use Rattle.presolve_rounds.specs.Walking.{IsPassed}
-use Rattle.presolve_rounds.proofs.Running.{both_passed}
+use Rattle.place_laws.specs.Choosing.{visited}
+use Rattle.presolve_rounds.specs.Walking.{IsGoing, IsPassed}
 use Rattle.presolve_rounds.proofs.pass.pass.Goals as goal
+
+pub visit_all-requires-clause-going : goal.visit_all-requires-clause-going
+visit_all-requires-clause-going c = subst (IsGoing c.args.frozen.now.value c.args.watch.now) (sym c.keep_sums.ensures) c.requires.going
 
 pub returns : goal.returns
 returns c =
     let a = c.args.frozen.now.value in
-    both_passed a (instances_of (open_on a.tally) a.problem c.args.ids.now verdict_order) (instances_of (open_on a.tally) a.problem c.args.ids.now reduction_order) _ _ _ _ _ _
-    (subst (λ (rs : List Rule). IsPassed a (instances_of (open_on a.tally) a.problem c.args.ids.now rs) c.args.watch.now c.args.book.now c.visit_rules.new.watch c.visit_rules.new.book) c.verdict_rules.ensures c.in_ok-visit_rules.ensures)
-    (subst (λ (rs : List Rule). IsPassed a (instances_of (open_on a.tally) a.problem c.args.ids.now rs) c.visit_rules.new.watch c.visit_rules.new.book c.visit_rules-2.new.watch c.visit_rules-2.new.book) c.reduction_rules.ensures c.in_ok-visit_rules-2.ensures)
+    subst (λ (b : Ledger). OnOk c.visit_all.result (IsPassed a (visited (open_on a.tally) a.problem c.args.ids.now) c.args.watch.now b c.visit_all.new.watch c.visit_all.new.book)) c.keep_sums.ensures c.visit_all.ensures

@@ -5,7 +5,7 @@ use Rattle.problem_model.specs.Applied.{applied}
 use Rattle.problem_model.specs.Noted.{AreNoted}
 use Rattle.problem_model.specs.Raised.{committed}
 use Rattle.problem_model.specs.Sparse.{Sparse}
-use Rattle.sparse_problem.specs.Renumbered.{IsThere}
+use Rattle.problem_data.specs.Renumbered.{IsThere}
 use Rattle.problem_commits.specs.declared.notes.Note.{Note}
 use Rattle.problem_commits.specs.Noting.{all_noted, all_raised, has_changed}
 use Rattle.problem_commits.proofs.Committing.{committed_is, notes_there}

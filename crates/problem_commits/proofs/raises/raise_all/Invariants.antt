@@ -1,7 +1,7 @@
 use Rattle.std.proofs.Common.{◌≡◌, drop}
 use Rattle.std.specs.List.{All}
 use Rattle.problem_commits.specs.declared.notes.Note.{Note}
-use Rattle.sparse_problem.specs.Renumbered.{IsThere}
+use Rattle.problem_data.specs.Renumbered.{IsThere}
 use Rattle.problem_commits.specs.Noting.{all_raised}
 use Rattle.problem_commits.proofs.raises.raise_all.Given as goal
 

@@ -1,8 +1,0 @@
-use Rattle.std.proofs.Common.{take}
-use Rattle.activities.specs.CommonSums.{IsCommonSum}
-use Rattle.activities.specs.Spans.{ends_at}
-use Rattle.activities.proofs.common.common_sum.Given as goal
-
--- the sum is that of the terms that were passed
-abbrev pub invariant-loop-span : goal.invariant-loop-span
-invariant-loop-span l = IsCommonSum (ends_at l.extreme (take l.span-index l.spans)) l.sum

@@ -1,8 +1,0 @@
-use Rattle.std.proofs.Common.{sym, ap, ◌∙◌}
-use Rattle.std.specs.Ordering.{is_le}
-use Rattle.rational.specs.Compare.{number_cmp-ratio}
-use Rattle.rational.proofs.Comparisons.{is_le-cmp}
-use Rattle.activities.proofs.kept_sides.is_at_most.Goals as goal
-
-pub returns : goal.returns
-returns c = c.is_le.ensures ∙ ap is_le (c.compare_parts.ensures ∙ sym (number_cmp-ratio _ _ _ _ c.requires.left c.requires.right)) ∙ is_le-cmp _ _

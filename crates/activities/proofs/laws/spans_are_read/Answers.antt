@@ -1,8 +1,0 @@
-use Rattle.activities.proofs.Reading.{row_is_read, spans_of-are}
-use Rattle.activities.proofs.laws.spans_are_read.Goals as goal
-
-pub returns-clause-read : goal.returns-clause-read
-returns-clause-read c = row_is_read
-
-pub returns-clause-spans : goal.returns-clause-spans
-returns-clause-spans c = spans_of-are

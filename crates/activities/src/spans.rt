@@ -1,0 +1,58 @@
+//! The entries of a row of a problem with the bounds of their columns.
+
+ghost use Rattle.std.specs.Prelude.{◌≡◌, ◌++◌, ◌∷◌, [], true, IfOk, OnOk};
+ghost use Rattle.problem_model.specs.Problems.{column_at};
+ghost use Rattle.row_spans.specs.Spans.{span_of as span_with, spans_among, spans_of as spans_with};
+
+use lp_model::Term;
+use row_spans::Span;
+use sparse_problem::Problem;
+use std::alloc::{AllocError, Global};
+
+/// A term with its column's bounds.
+pub(crate) fn span_of(problem: &Problem, term: &Term) -> Span
+    requires { (column_at problem.now term.now.id).live ≡ true }
+    ensures { result ≡ span_with problem.now term.now }
+{
+    let bounds = problem.bounds(term.id);
+    Span {
+        id: term.id,
+        value: term.value,
+        lower: bounds.lower,
+        upper: bounds.upper,
+        whole: bounds.whole,
+    }
+}
+
+/// Adds a term with its column's bounds, where the column is live.
+fn push_live(spans: &mut Vec<Span>, problem: &Problem, term: &Term) -> Result<(), AllocError>
+    ensures { OnOk result (spans.new.items ≡ spans.old.items ++ spans_among problem.now (term.now ∷ [])) }
+{
+    if problem.is_column_live(term.id) {
+        spans.push(span_of(problem, term))?;
+    }
+    Ok(())
+}
+
+/// The terms at live columns, with those columns' bounds.
+fn spans_of_terms(alloc: Global, problem: &Problem, terms: &[Term]) -> Result<Vec<Span>, AllocError>
+    ensures { IfOk result (λ spans. spans.items ≡ spans_among problem.now terms.now) }
+{
+    let mut spans = Vec::with_capacity(alloc, terms.len())?;
+    let mut rest = terms;
+    while let [term, after @ ..] = rest {
+        push_live(&mut spans, problem, term)?;
+        rest = after;
+    }
+    Ok(spans)
+}
+
+/// The entries of a row in live columns, with those columns' bounds. A row past the last has none.
+pub(crate) fn spans_of(alloc: Global, problem: &Problem, row: u32) -> Result<Vec<Span>, AllocError>
+    ensures { IfOk result (λ spans. spans.items ≡ spans_with problem.now row) }
+{
+    match problem.rows().get(row as usize) {
+        Some(line) => spans_of_terms(alloc, problem, line.entries.as_slice()),
+        None => Ok(Vec::new(alloc)),
+    }
+}

@@ -1,0 +1,6 @@
+pub mod Over
+pub mod Numerators
+pub mod Replaced
+pub mod Mended
+pub mod Totals
+pub mod Walks

@@ -1,0 +1,4 @@
+pub mod CommonSums
+pub mod KeptSides
+pub mod KeptSums
+pub mod RowTotals

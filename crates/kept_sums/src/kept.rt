@@ -1,0 +1,86 @@
+//! What is kept of a row, and how it is mended.
+
+ghost use Rattle.std.specs.Prelude.{◌++◌, ◌∷◌, [], List, IfSome};
+ghost use Rattle.row_spans.specs.Spans.{ends_at};
+ghost use Rattle.row_spans.specs.declared.span.Span.{Span as SpanValue};
+ghost use Rattle.row_spans.specs.declared.span.Extreme.TheVariants as extreme_of;
+ghost use Rattle.kept_sums.specs.CommonSums.{HasRoom, IsCommonSum};
+ghost use Rattle.kept_sums.specs.KeptSums.{AreSumsOf, HaveRoom};
+
+use crate::common::{CommonSum, less_term, no_terms, plus_term, raised};
+use row_spans::{Extreme, Span};
+
+/// The sums of both activities of a row. Both are over one denominator as long as entries come and go by the calls here.
+#[derive(Clone, Copy)]
+pub struct KeptSums {
+    /// The sum of the least that each entry gives.
+    pub least: CommonSum,
+    /// The sum of the greatest.
+    pub greatest: CommonSum,
+}
+
+/// A sum with what a span gives, at its place among the others.
+fn with_span(sum: &CommonSum, extreme: Extreme, span: &Span) -> Option<CommonSum>
+    requires { HasRoom sum.now }
+    ensures room { IfSome result (λ t. HasRoom t) }
+    ensures value { IfSome result (λ t. (a b : List SpanValue) → IsCommonSum (ends_at extreme (a ++ b)) sum.now → IsCommonSum (ends_at extreme (a ++ span.now ∷ b)) t) }
+{
+    plus_term(sum, extreme, span)
+}
+
+/// A sum without what a span gives.
+fn without_span(sum: &CommonSum, extreme: Extreme, span: &Span) -> Option<CommonSum>
+    requires { HasRoom sum.now }
+    ensures room { IfSome result (λ t. HasRoom t) }
+    ensures value { IfSome result (λ t. (a b : List SpanValue) → IsCommonSum (ends_at extreme (a ++ span.now ∷ b)) sum.now → IsCommonSum (ends_at extreme (a ++ b)) t) }
+{
+    less_term(sum, extreme, span)
+}
+
+/// Two sums over a denominator of both.
+fn levelled(least: &CommonSum, greatest: &CommonSum) -> Option<KeptSums>
+    requires least { HasRoom least.now }
+    requires greatest { HasRoom greatest.now }
+    ensures room { IfSome result (λ k. HaveRoom k) }
+    ensures value { IfSome result (λ k. (ss : List SpanValue) → IsCommonSum (ends_at extreme_of.Least ss) least.now → IsCommonSum (ends_at extreme_of.Greatest ss) greatest.now → AreSumsOf ss k) }
+{
+    Some(KeptSums {
+        least: raised(least, greatest.denominator)?,
+        greatest: raised(greatest, least.denominator)?,
+    })
+}
+
+impl KeptSums {
+    /// The sums of no entries.
+    pub fn none() -> KeptSums
+        ensures { AreSumsOf [] result }
+    {
+        KeptSums {
+            least: no_terms(),
+            greatest: no_terms(),
+        }
+    }
+
+    /// The sums with one entry more, wherever it stands among the others. `None` where a number has no room.
+    pub fn with(&self, span: &Span) -> Option<KeptSums>
+        requires { HaveRoom self.now }
+        ensures room { IfSome result (λ k. HaveRoom k) }
+        ensures value { IfSome result (λ k. (a b : List SpanValue) → AreSumsOf (a ++ b) self.now → AreSumsOf (a ++ span.now ∷ b) k) }
+    {
+        let least = with_span(&self.least, Extreme::Least, span)?;
+        let greatest = with_span(&self.greatest, Extreme::Greatest, span)?;
+        levelled(&least, &greatest)
+    }
+
+    /// The sums without one of the entries. `None` where a number has no room.
+    pub fn without(&self, span: &Span) -> Option<KeptSums>
+        requires { HaveRoom self.now }
+        ensures room { IfSome result (λ k. HaveRoom k) }
+        ensures value { IfSome result (λ k. (a b : List SpanValue) → AreSumsOf (a ++ span.now ∷ b) self.now → AreSumsOf (a ++ b) k) }
+    {
+        Some(KeptSums {
+            least: without_span(&self.least, Extreme::Least, span)?,
+            greatest: without_span(&self.greatest, Extreme::Greatest, span)?,
+        })
+    }
+}

@@ -1,0 +1,6 @@
+pub mod Places
+pub mod Losses
+pub mod Across
+pub mod Ranks
+pub mod Renumbered
+pub mod Putting
