@@ -1,5 +1,8 @@
 //! Sums of rows, after edits one by one.
 
+ghost use Rattle.std.specs.Prelude.{◌≡◌, true};
+ghost use Rattle.problem_model.specs.Problems.{row_at};
+
 use crate::rule::{end, number, problem_of};
 use activities::{greatest, least};
 use anyhow::{Context, Result, anyhow, ensure};
@@ -98,7 +101,9 @@ fn activity(rt: &HostRuntime, value: Result<Ext, Past>) -> Result<()> {
 }
 
 /// Prints both activities of a row, what its sums come to over their least denominator, and whether sums are kept of it.
-fn row(rt: &HostRuntime, problem: &Problem, row: u32) -> Result<()> {
+fn row(rt: &HostRuntime, problem: &Problem, row: u32) -> Result<()>
+    requires { (row_at problem.now row).live ≡ true }
+{
     print!(rt; "row {row}:")?;
     activity(rt, least(problem, row, None))?;
     activity(rt, greatest(problem, row, None))?;
