@@ -2,5 +2,6 @@ pub mod Over
 pub mod Numerators
 pub mod Replaced
 pub mod Mended
+pub mod Crossed
 pub mod Totals
 pub mod Walks

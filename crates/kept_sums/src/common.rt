@@ -1,7 +1,7 @@
 //! Sums of fractions over one denominator that have room in whatever order they are made.
 
 ghost use Rattle.std.specs.Prelude.{◌≡◌, ◌<◌, ◌^◌, ◌++◌, ◌∷◌, [], ◌+ℤ◌, neg_ℤ, List, Option, IfSome, Some, None, Ok};
-ghost use Rattle.rational.specs.Number.{Number};
+ghost use Rattle.rational.specs.Number.{Number, ◌*ℚ◌};
 ghost use Rattle.row_spans.specs.Spans.{end_at, ends_at};
 ghost use Rattle.row_spans.specs.RowSums.{row_sum};
 ghost use Rattle.kept_sums.specs.CommonSums.{HasRoom, numerator, IsCommonMultiple, IsCommonSum};
@@ -10,7 +10,8 @@ use fractions::divisor::{gcd, quotient};
 use fractions::ext::Ext;
 use fractions::frac::Frac;
 use fractions::whole::Whole;
-use row_spans::{Extreme, Span, end_of};
+use row_spans::exact::product;
+use row_spans::{Extreme, Span, bound_at, end_of};
 
 /// A sum of finite terms over one denominator, and how many further ones are infinite.
 #[derive(Clone, Copy)]
@@ -248,17 +249,30 @@ pub(crate) fn less_term(sum: &CommonSum, extreme: Extreme, span: &Span) -> Optio
     }
 }
 
-/// The sum without one of its finite terms.
+/// The sum without one of its terms, where all are finite.
 fn less_number(sum: &CommonSum, number: &Frac) -> Option<Ext>
     requires positive { 0 < sum.now.denominator }
     requires short { sum.now.denominator < 2 ^ 127 }
+    requires finite { sum.now.infinite ≡ 0 }
     ensures { IfSome result (λ e. (a b : List (Option Number)) → IsCommonSum (a ++ Some number.now ∷ b) sum.now → row_sum (a ++ b) ≡ Ok e) }
+{
+    let rest = less_numerator(sum, number)?;
+    Some(Ext::at(Frac::ratio_of(rest, sum.denominator)))
+}
+
+/// The sum without one of its terms that is a product, which is not made where another term is infinite.
+fn less_product(sum: &CommonSum, value: &Frac, bound: &Frac) -> Option<Ext>
+    requires positive { 0 < sum.now.denominator }
+    requires short { sum.now.denominator < 2 ^ 127 }
+    ensures { IfSome result (λ e. (a b : List (Option Number)) → IsCommonSum (a ++ Some (value.now *ℚ bound.now) ∷ b) sum.now → row_sum (a ++ b) ≡ Ok e) }
 {
     if sum.infinite != 0 {
         return Some(Ext::none());
     }
-    let rest = less_numerator(sum, number)?;
-    Some(Ext::at(Frac::ratio_of(rest, sum.denominator)))
+    match product(value, bound) {
+        Ok(term) => less_number(sum, &term),
+        Err(_) => None,
+    }
 }
 
 /// The sum without one of its infinite terms.
@@ -274,14 +288,14 @@ fn less_infinite(sum: &CommonSum) -> Ext
     }
 }
 
-/// The activity of which a sum tells where one of its terms is left out.
-pub fn told_rest(sum: &CommonSum, end: &Ext) -> Option<Ext>
+/// The activity of which a sum tells where one of a row's entries is left out.
+pub fn told_rest(sum: &CommonSum, extreme: Extreme, span: &Span) -> Option<Ext>
     requires positive { 0 < sum.now.denominator }
     requires short { sum.now.denominator < 2 ^ 127 }
-    ensures { IfSome result (λ e. (a b : List (Option Number)) → IsCommonSum (a ++ end.now ∷ b) sum.now → row_sum (a ++ b) ≡ Ok e) }
+    ensures { IfSome result (λ e. (a b : List (Option Number)) → IsCommonSum (a ++ end_at extreme span.now ∷ b) sum.now → row_sum (a ++ b) ≡ Ok e) }
 {
-    match end.number() {
+    match bound_at(extreme, span).number() {
         None => Some(less_infinite(sum)),
-        Some(number) => less_number(sum, &number),
+        Some(bound) => less_product(sum, &span.value, &bound),
     }
 }

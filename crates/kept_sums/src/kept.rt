@@ -1,22 +1,37 @@
 //! What is kept of a row, and how it is mended.
 
-ghost use Rattle.std.specs.Prelude.{◌++◌, ◌∷◌, [], List, IfSome};
+ghost use Rattle.std.specs.Prelude.{◌≡◌, ◌++◌, ◌∷◌, [], List, IfSome};
 ghost use Rattle.row_spans.specs.Spans.{ends_at};
 ghost use Rattle.row_spans.specs.declared.span.Span.{Span as SpanValue};
 ghost use Rattle.row_spans.specs.declared.span.Extreme.TheVariants as extreme_of;
 ghost use Rattle.kept_sums.specs.CommonSums.{HasRoom, IsCommonSum};
-ghost use Rattle.kept_sums.specs.KeptSums.{AreSumsOf, HaveRoom};
+ghost use Rattle.kept_sums.specs.KeptSums.{AreSumsOf, HaveRoom, crossed_count, crossed_in as crossed_by};
 
 use crate::common::{CommonSum, less_term, no_terms, plus_term, raised};
+use lp_model::ends::in_order;
 use row_spans::{Extreme, Span};
 
-/// The sums of both activities of a row. Both are over one denominator as long as entries come and go by the calls here.
+/// The sums of both activities of a row, and how many of its columns have crossed bounds. Both sums are over one denominator as long as
+/// entries come and go by the calls here.
 #[derive(Clone, Copy)]
 pub struct KeptSums {
     /// The sum of the least that each entry gives.
     pub least: CommonSum,
     /// The sum of the greatest.
     pub greatest: CommonSum,
+    /// How many entries are at columns with crossed bounds.
+    pub crossed: usize,
+}
+
+/// 1 where the bounds of an entry's column are crossed, else 0.
+fn crossed_in(span: &Span) -> usize
+    ensures { result ≡ crossed_by span.now }
+{
+    if in_order(&span.lower, &span.upper) {
+        0
+    } else {
+        1
+    }
 }
 
 /// A sum with what a span gives, at its place among the others.
@@ -37,16 +52,17 @@ fn without_span(sum: &CommonSum, extreme: Extreme, span: &Span) -> Option<Common
     less_term(sum, extreme, span)
 }
 
-/// Two sums over a denominator of both.
-fn levelled(least: &CommonSum, greatest: &CommonSum) -> Option<KeptSums>
+/// Two sums over a denominator of both, with a count of crossed bounds.
+fn levelled(least: &CommonSum, greatest: &CommonSum, crossed: usize) -> Option<KeptSums>
     requires least { HasRoom least.now }
     requires greatest { HasRoom greatest.now }
     ensures room { IfSome result (λ k. HaveRoom k) }
-    ensures value { IfSome result (λ k. (ss : List SpanValue) → IsCommonSum (ends_at extreme_of.Least ss) least.now → IsCommonSum (ends_at extreme_of.Greatest ss) greatest.now → AreSumsOf ss k) }
+    ensures value { IfSome result (λ k. (ss : List SpanValue) → IsCommonSum (ends_at extreme_of.Least ss) least.now → IsCommonSum (ends_at extreme_of.Greatest ss) greatest.now → crossed ≡ crossed_count ss → AreSumsOf ss k) }
 {
     Some(KeptSums {
         least: raised(least, greatest.denominator)?,
         greatest: raised(greatest, least.denominator)?,
+        crossed,
     })
 }
 
@@ -58,6 +74,7 @@ impl KeptSums {
         KeptSums {
             least: no_terms(),
             greatest: no_terms(),
+            crossed: 0,
         }
     }
 
@@ -69,7 +86,8 @@ impl KeptSums {
     {
         let least = with_span(&self.least, Extreme::Least, span)?;
         let greatest = with_span(&self.greatest, Extreme::Greatest, span)?;
-        levelled(&least, &greatest)
+        let crossed = self.crossed.checked_add(crossed_in(span))?;
+        levelled(&least, &greatest, crossed)
     }
 
     /// The sums without one of the entries. `None` where a number has no room.
@@ -78,9 +96,13 @@ impl KeptSums {
         ensures room { IfSome result (λ k. HaveRoom k) }
         ensures value { IfSome result (λ k. (a b : List SpanValue) → AreSumsOf (a ++ span.now ∷ b) self.now → AreSumsOf (a ++ b) k) }
     {
+        let least = without_span(&self.least, Extreme::Least, span)?;
+        let greatest = without_span(&self.greatest, Extreme::Greatest, span)?;
+        let crossed = self.crossed.checked_sub(crossed_in(span))?;
         Some(KeptSums {
-            least: without_span(&self.least, Extreme::Least, span)?,
-            greatest: without_span(&self.greatest, Extreme::Greatest, span)?,
+            least,
+            greatest,
+            crossed,
         })
     }
 }

@@ -1,16 +1,18 @@
-use Rattle.std.proofs.Common.{◌++◌, ◌∷◌, List, Option, Some, None, IfSome}
+use Rattle.std.proofs.Common.{◌≡◌, ◌++◌, ◌∷◌, List, Option, Some, None, IfSome}
 use Rattle.row_spans.specs.declared.span.Span.{Span}
 use Rattle.row_spans.specs.declared.span.Extreme.TheVariants.{Least, Greatest}
 use Rattle.row_spans.specs.Spans.{ends_at}
 use Rattle.kept_sums.specs.CommonSums.{IsCommonSum}
-use Rattle.kept_sums.specs.KeptSums.{AreSumsOf}
+use Rattle.kept_sums.specs.KeptSums.{AreSumsOf, crossed_count}
 use Rattle.kept_sums.specs.declared.kept.KeptSums.{KeptSums}
+use Rattle.kept_sums.proofs.Crossed.{counted}
 use Rattle.kept_sums.proofs.kept.KeptSums.with.Goals as goal
 
 pub returns-clause-value : goal.returns-clause-value
 returns-clause-value c = by c.levelled.result c.levelled.ensures.value
   where
-    by : (o : Option KeptSums) → IfSome o (λ k. (ss : List Span) → IsCommonSum (ends_at Least ss) c.in_ok-least.least → IsCommonSum (ends_at Greatest ss) c.in_ok-greatest.greatest → AreSumsOf ss k)
+    by : (o : Option KeptSums) → IfSome o (λ k. (ss : List Span) → IsCommonSum (ends_at Least ss) c.in_ok-least.least → IsCommonSum (ends_at Greatest ss) c.in_ok-greatest.greatest → c.in_ok-crossed.crossed ≡ crossed_count ss → AreSumsOf ss k)
         → IfSome o (λ k. (a b : List Span) → AreSumsOf (a ++ b) c.args.self.now → AreSumsOf (a ++ c.args.span.now ∷ b) k)
     by None f = tt
     by (Some k) f = λ a b h. f (a ++ c.args.span.now ∷ b) (c.in_ok-least.ensures.value a b h.least) (c.in_ok-greatest.ensures.value a b h.greatest)
+        (counted a b c.args.span.now c.args.self.now.crossed c.in_ok-crossed.crossed c.crossed_in.result c.crossed_in.ensures h.crossed c.in_ok-crossed.ensures.1)
