@@ -10,7 +10,7 @@ ghost use Rattle.problem_model.specs.Programs.{IsProblemOf, written_program};
 ghost use Rattle.problem_data.specs.Putting.{AreInside, entries_given, entries_set, GivesBack, IdsAscend};
 ghost use Rattle.problem_data.specs.Renumbered.{changes_put, IsThere};
 ghost use Rattle.row_spans.specs.Spans.{spans_of};
-ghost use Rattle.kept_sums.specs.KeptSums.{AreSumsOf};
+ghost use Rattle.kept_sums.specs.KeptSums.{AreSumsOf, crossed_count};
 ghost use Rattle.kept_sums.specs.RowTotals.{AreTotals, IsTame};
 
 use crate::kept_rows::{
@@ -27,7 +27,7 @@ use std::alloc::{AllocError, Global};
 use std::marker::Model;
 
 /// A problem to be minimized: rows and columns by the ids of the program that it was made of, deleted ones among them. Beside them it keeps
-/// sums of rows, which are mended as the problem changes.
+/// sums of rows and counts of their crossed bounds, which are mended as the problem changes.
 #[derive(Drop)]
 pub struct Problem {
     parts: ProblemData,
@@ -87,6 +87,14 @@ impl Problem {
         ensures { IfSome result (AreSumsOf (spans_of self.now i)) }
     {
         kept_of(self.kept.as_slice(), i)
+    }
+
+    /// How many entries of a row are at columns with crossed bounds, if sums are kept of it.
+    pub fn crossed_columns(&self, i: u32) -> Option<usize>
+        ensures { IfSome result (λ n. n ≡ crossed_count (spans_of self.now i)) }
+    {
+        let kept = self.kept_sums(i)?;
+        Some(kept.crossed)
     }
 
     /// Makes the sums of a row, if none are kept and its numbers have room. The problem stays the same.
