@@ -17,7 +17,7 @@ use fractions::ext::Ext;
 use fractions::frac::Frac;
 use kept_sums::{CommonSum, told_activity, told_rest};
 use lp_model::{Term, number_at};
-use row_spans::{Extreme, Span, bound_at, end_of};
+use row_spans::{Extreme, Span, bound_at};
 use sparse_problem::Problem;
 
 /// A term with its column's bounds, where the column is live and isn't left out.
@@ -139,10 +139,7 @@ fn told_without(
 {
     problem.is_sparse();
     let span = span_at(problem, row, column)?;
-    let Ok(end) = end_of(extreme, &span) else {
-        return None;
-    };
-    told_rest(sum, &end)
+    told_rest(sum, extreme, &span)
 }
 
 /// The activity that a sum of a whole row tells.

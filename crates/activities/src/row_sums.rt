@@ -19,7 +19,7 @@ use fractions::Past;
 use fractions::ext::Ext;
 use fractions::frac::Frac;
 use kept_sums::{CommonSum, KeptSums, common_sum, keeps_turned, told_activity, told_rest};
-use row_spans::{Extreme, Span, end_of};
+use row_spans::{Extreme, Span};
 use sparse_problem::Problem;
 use std::alloc::{AllocError, Global};
 use std::marker::Model;
@@ -133,10 +133,7 @@ fn common_rest(sum: &CommonSum, extreme: Extreme, spans: &[Span], place: usize) 
     requires place { place < length spans.now }
     ensures { IfSome result (λ e. row_sum (ends_at extreme (take place spans.now ++ drop (place + 1) spans.now)) ≡ Ok e) }
 {
-    let Ok(end) = end_of(extreme, &spans[place]) else {
-        return None;
-    };
-    told_rest(sum, &end)
+    told_rest(sum, extreme, &spans[place])
 }
 
 /// Whether the rest by a sum of all keeps a side with the entry at its other end beside it.

@@ -1,4 +1,4 @@
-use Rattle.std.proofs.Common.{◌≡◌, ◌++◌, ◌∷◌, List, Option, Some, None, IfSome, Ok, ap, ◌∙◌}
+use Rattle.std.proofs.Common.{◌≡◌, ◌++◌, ◌∷◌, List, Option, Some, None, IfSome, Ok, ap}
 use Rattle.rational.specs.Number.{Number}
 use Rattle.row_spans.specs.RowSums.{activity, row_sum}
 use Rattle.row_spans.specs.Spans.{end_at, others, spans_of}
@@ -9,8 +9,8 @@ use Rattle.activities.proofs.problem_rows.told_without.Goals as goal
 pub returns : goal.returns
 returns c = by c.told_rest.result c.told_rest.ensures
   where
-    by : (r : Option (Option Number)) → IfSome r (λ o. (a b : List (Option Number)) → IsCommonSum (a ++ c.in-Ok.end ∷ b) c.args.sum.now → row_sum (a ++ b) ≡ Ok o)
+    by : (r : Option (Option Number)) → IfSome r (λ o. (a b : List (Option Number)) → IsCommonSum (a ++ end_at c.args.extreme c.in_ok-span.span ∷ b) c.args.sum.now → row_sum (a ++ b) ≡ Ok o)
         → IfSome r (λ o. activity c.args.extreme (others c.args.column (spans_of c.args.problem.now c.args.row)) ≡ Ok o)
     by None f = tt
-    by (Some o) f = told_is c.args.problem.now c.args.row c.args.column c.args.extreme c.is_sparse.ensures c.in_ok-span.ensures.live c.in_ok-span.ensures.some c.args.sum.now c.in-Ok.end o
-        (c.in-Ok.ensures.value ∙ ap (end_at c.args.extreme) c.in_ok-span.ensures.value) c.requires.sum f
+    by (Some o) f = told_is c.args.problem.now c.args.row c.args.column c.args.extreme c.is_sparse.ensures c.in_ok-span.ensures.live c.in_ok-span.ensures.some c.args.sum.now (end_at c.args.extreme c.in_ok-span.span) o
+        (ap (end_at c.args.extreme) c.in_ok-span.ensures.value) c.requires.sum f

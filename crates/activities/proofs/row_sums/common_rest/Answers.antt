@@ -2,7 +2,7 @@ use Rattle.std.proofs.Common.{◌≡◌, ◌+◌, ◌++◌, ◌∷◌, List, Opt
 use Rattle.rational.specs.Number.{Number}
 use Rattle.kept_sums.specs.CommonSums.{IsCommonSum}
 use Rattle.row_spans.specs.RowSums.{row_sum}
-use Rattle.row_spans.specs.Spans.{ends_at}
+use Rattle.row_spans.specs.Spans.{end_at, ends_at}
 use Rattle.kept_sums.proofs.Mended.{ends_at-++}
 use Rattle.activities.proofs.Pieces.{ends_all_at}
 use Rattle.activities.proofs.row_sums.common_rest.Goals as goal
@@ -16,11 +16,10 @@ returns c = by c.told_rest.result c.told_rest.ensures
     after : List (Option Number)
     after = ends_at c.args.extreme (drop (c.args.place + 1) c.args.spans.now)
 
-    all : IsCommonSum (before ++ c.in-Ok.end ∷ after) c.args.sum.now
-    all = subst (λ x. IsCommonSum (before ++ x ∷ after) c.args.sum.now) (sym c.in-Ok.ensures.value)
-        (subst (λ es. IsCommonSum es c.args.sum.now) (ends_all_at c.args.extreme c.args.spans.now c.args.place _ c.requires.place c.index-spans-place.is) c.requires.sum)
+    all : IsCommonSum (before ++ end_at c.args.extreme c.index-spans-place.result ∷ after) c.args.sum.now
+    all = subst (λ es. IsCommonSum es c.args.sum.now) (ends_all_at c.args.extreme c.args.spans.now c.args.place _ c.requires.place c.index-spans-place.is) c.requires.sum
 
-    by : (o : Option (Option Number)) → IfSome o (λ e. (a b : List (Option Number)) → IsCommonSum (a ++ c.in-Ok.end ∷ b) c.args.sum.now → row_sum (a ++ b) ≡ Ok e)
+    by : (o : Option (Option Number)) → IfSome o (λ e. (a b : List (Option Number)) → IsCommonSum (a ++ end_at c.args.extreme c.index-spans-place.result ∷ b) c.args.sum.now → row_sum (a ++ b) ≡ Ok e)
         → IfSome o (λ e. row_sum (ends_at c.args.extreme (take c.args.place c.args.spans.now ++ drop (c.args.place + 1) c.args.spans.now)) ≡ Ok e)
     by None h = h
     by (Some e) h = ap row_sum (ends_at-++ c.args.extreme (take c.args.place c.args.spans.now) (drop (c.args.place + 1) c.args.spans.now)) ∙ h before after all
