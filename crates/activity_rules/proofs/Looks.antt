@@ -1,11 +1,14 @@
 -- What the looks at a row say of the rules.
-use Rattle.std.proofs.Common.{◌≡◌, ℕ, Bool, true, false, not, ◌&&◌, ◌||◌, nat_eq, Option, Some, None, is_none, Result, Ok, Err, true≢false, List, [], ◌∷◌, length, map, refl, sym, ap, ◌∙◌, arith}
+use Rattle.std.proofs.Common.{◌≡◌, ℕ, Bool, true, false, not, ◌&&◌, ◌||◌, nat_eq, Option, Some, None, is_none, Result, Ok, Err, true≢false, List, [], ◌∷◌, length, map, refl, sym, ap, ◌∙◌, arith, ◌+◌}
+use Rattle.std.specs.Prelude.{if◌then◌else◌}
 use Rattle.std.proofs.lemmas.Bool.{ne_eqb}
 use Rattle.lp_model.specs.declared.terms.Term.{Term}
 use Rattle.lp_model.specs.EndTests.{is_crossed, is_in_order}
 use Rattle.problem_model.specs.Problems.{row_at, row_entries, sides_at}
 use Rattle.problem_model.specs.Sparse.{Sparse}
+use Rattle.row_spans.specs.declared.span.Span.{Span}
 use Rattle.row_spans.specs.Spans.{span_of, spans_of}
+use Rattle.kept_sums.specs.KeptSums.{crossed_count}
 use Rattle.activity_laws.specs.Rows.{RowTest, all_in_order, has_some, keeps_lower, on_both, on_row, row_found}
 use Rattle.activity_laws.specs.RedundantRow as redundant_row
 use Rattle.activity_laws.specs.RedundantSide as redundant_side
@@ -141,3 +144,15 @@ pub none_below : (l : Option Number) (a : Result (Option Number) Past) → is_no
 none_below None (Ok v) h = refl
 none_below None (Err e) h = refl
 none_below (Some l) a h = absurd (true≢false (sym h))
+
+-- ---- counted crossed bounds
+pub none_crossed : (ss : List Span) → nat_eq (crossed_count ss) 0 ≡ all_in_order ss
+none_crossed [] = refl
+none_crossed (s ∷ ss) = by (is_in_order s.lower s.upper) (crossed_count ss) (none_crossed ss)
+  where
+    by : (b : Bool) (n : ℕ) → nat_eq n 0 ≡ all_in_order ss → nat_eq ((if b then 0 else 1) + n) 0 ≡ (b && all_in_order ss)
+    by true n h = ap (λ (m : ℕ). nat_eq m 0) (plain n) ∙ h
+      where
+        plain : (m : ℕ) → 0 + m ≡ m
+        plain m = omega arith
+    by false n h = ne_eqb (1 + n) 0 (omega arith)

@@ -35,13 +35,19 @@ fn all_bounds_in_order(problem: &Problem, terms: &[Term]) -> bool
     true
 }
 
-/// Whether the bounds of each column of a row are in order.
+/// Whether the bounds of each column of a row are in order: as the count of crossed ones that is kept of it says, or by a walk along it.
+#[tactic(auto, using(crate::proofs::Looks::none_crossed))]
 fn columns_in_order(problem: &Problem, row: u32) -> bool
     requires { (row_at problem.now row).live ≡ true }
     ensures { result ≡ all_in_order (spans_of problem.now row) }
 {
-    let line = &problem.rows()[row as usize];
-    all_bounds_in_order(problem, line.entries.as_slice())
+    match problem.crossed_columns(row) {
+        Some(crossed) => crossed == 0,
+        None => {
+            let line = &problem.rows()[row as usize];
+            all_bounds_in_order(problem, line.entries.as_slice())
+        }
+    }
 }
 
 /// Whether a row is live, and neither its sides nor the bounds of its columns are crossed.
