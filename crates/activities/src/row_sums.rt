@@ -7,7 +7,7 @@ ghost use Rattle.kept_sums.specs.CommonSums.{IsCommonSum};
 ghost use Rattle.activities.specs.Prefixes.{sums_before as all_before};
 ghost use Rattle.row_spans.specs.RowSums.{activity as activity_by, rest as rest_without, row_sum, sum_from as sum_on};
 ghost use Rattle.row_spans.specs.Spans.{AreSpans, end_at, ends_at, span_at, spans_of as spans_with};
-ghost use Rattle.kept_sums.specs.KeptSides.{KeepsTurned};
+ghost use Rattle.kept_sums.specs.KeptSides.{EndKept, KeepsTurned};
 ghost use Rattle.kept_sums.specs.KeptSums.{AreSumsOf};
 ghost use Rattle.row_spans.specs.declared.span.Span.{Span as SpanValue};
 ghost use Rattle.row_spans.specs.declared.span.Extreme.TheVariants as extreme_of;
@@ -18,7 +18,9 @@ use crate::sums::{all_finite, sum_from};
 use fractions::Past;
 use fractions::ext::Ext;
 use fractions::frac::Frac;
-use kept_sums::{CommonSum, KeptSums, common_sum, keeps_turned, told_activity, told_rest};
+use kept_sums::{
+    CommonSum, KeptSums, common_sum, keeps_both, keeps_turned, told_activity, told_rest,
+};
 use row_spans::{Extreme, Span};
 use sparse_problem::Problem;
 use std::alloc::{AllocError, Global};
@@ -165,6 +167,25 @@ fn keeps_with(kept: &Kept, extreme: Extreme, spans: &[Span], place: usize, side:
     }
 }
 
+/// Whether the rests by sums of all keep both sides, where these are finite, with the entry at its other end beside them.
+fn common_keep_both(
+    least: &CommonSum,
+    greatest: &CommonSum,
+    spans: &[Span],
+    place: usize,
+    lower: &Ext,
+    upper: &Ext,
+) -> bool
+    requires spans { AreSpans 0 spans.now }
+    requires least { IsCommonSum (ends_at extreme_of.Least spans.now) least.now }
+    requires greatest { IsCommonSum (ends_at extreme_of.Greatest spans.now) greatest.now }
+    requires place { place < length spans.now }
+    ensures below { IsTrue result → EndKept extreme_of.Greatest lower.now (span_at spans.now place) (rest_without extreme_of.Greatest (span_at spans.now place).id spans.now) }
+    ensures above { IsTrue result → EndKept extreme_of.Least upper.now (span_at spans.now place) (rest_without extreme_of.Least (span_at spans.now place).id spans.now) }
+{
+    keeps_both(least, greatest, &spans[place], lower, upper)
+}
+
 /// The sum before a place, of those before each term.
 fn sum_at(
     sums: &[Result<Frac, Past>],
@@ -299,5 +320,21 @@ impl RowSums {
             Extreme::Least => keeps_with(&self.least, extreme, spans, place, side),
             Extreme::Greatest => keeps_with(&self.greatest, extreme, spans, place, side),
         }
+    }
+    /// Whether the greatest rest keeps the lower side and the least one the upper side, where these are finite, with the entry at its other
+    /// end beside it. This takes two comparisons of integers; it is `false` also where the row's sums do not tell.
+    pub fn keeps_both(&self, place: usize, lower: &Ext, upper: &Ext) -> bool
+        requires { place < length self.now }
+        ensures spans { AreSpans 0 self.now }
+        ensures below { IsTrue result → EndKept extreme_of.Greatest lower.now (span_at self.now place) (rest_without extreme_of.Greatest (span_at self.now place).id self.now) }
+        ensures above { IsTrue result → EndKept extreme_of.Least upper.now (span_at self.now place) (rest_without extreme_of.Least (span_at self.now place).id self.now) }
+    {
+        let Kept::Common(least) = &self.least else {
+            return false;
+        };
+        let Kept::Common(greatest) = &self.greatest else {
+            return false;
+        };
+        common_keep_both(least, greatest, self.spans.as_slice(), place, lower, upper)
     }
 }

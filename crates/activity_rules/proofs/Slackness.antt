@@ -1,5 +1,5 @@
 -- Where a row keeps its side with a column at its other end, it implies no better bound.
-use Rattle.std.proofs.Common.{◌≡◌, ◌≢◌, ℕ, Bool, true, false, not, [], ◌∷◌, List, Option, Some, None, Result, Ok, refl, sym, ap, ◌∙◌, subst}
+use Rattle.std.proofs.Common.{◌≡◌, ◌≢◌, ℕ, Bool, true, false, not, [], ◌∷◌, List, Option, Some, None, Result, Ok, refl, sym, ap, ap₂, ◌∙◌, ◌++◌, append-nil, subst}
 use Rattle.std.specs.Prelude.{if◌then◌else◌}
 use Rattle.rational.specs.Number.{Number, zero_ℚ, ◌+ℚ◌, ◌-ℚ◌, ◌*ℚ◌, neg_ℚ}
 use Rattle.rational.specs.Order.{◌≤ℚ◌, ◌<ℚ◌}
@@ -19,12 +19,13 @@ use Rattle.undo_records.specs.declared.side.Side.{Side}
 use Rattle.undo_records.specs.declared.side.Side.TheVariants.{Lower, Upper}
 use Rattle.row_spans.specs.declared.span.Span.{Span}
 use Rattle.row_spans.specs.declared.span.Extreme.{Extreme}
+use Rattle.row_spans.specs.declared.span.Extreme.TheVariants.{Least, Greatest}
 use Rattle.row_spans.specs.Exact.{fits, sum_fits, if_room}
-use Rattle.kept_sums.specs.KeptSides.{Keeps, opposite}
+use Rattle.kept_sums.specs.KeptSides.{EndKept, Keeps, opposite}
 use Rattle.row_spans.specs.RowSums.{rest}
 use Rattle.row_spans.specs.Spans.{end_at}
 use Rattle.activity_laws.specs.TightenedBound.{if_made, implied, is_better, left_over, old_bound, over_entry}
-use Rattle.activity_rules.specs.Tightened.{is_tight, source_of, IsSlack}
+use Rattle.activity_rules.specs.Tightened.{bound_if, is_tight, source_of, IsSlack}
 
 none_better : (side : Side) (old : Option Number) → is_better side old None ≡ false
 none_better Lower old = refl
@@ -111,3 +112,24 @@ slack_is_not_tight side sides ss s t x end b f n h e g k =
     ap (is_better side (old_bound side s.lower s.upper)) (sym (subst (λ (r : Span). left_over r.value end (rest x s.id ss) ≡ implied side s.id r.value sides.lower sides.upper ss) f (h s.id ss)))
     ∙ ap (λ (o : Option Number). is_better side (old_bound side s.lower s.upper) (left_over s.value o (rest x s.id ss))) g
     ∙ slack_is_not_better side x s ss b (subst (λ (r : Span). r.value ≢ zero_ℚ) f n) (subst (λ (r : Span). x ≡ source_of side (lt_ℚ zero_ℚ r.value)) f e) k
+
+-- ---- both sides, as far as they are finite
+end_not_better : (side : Side) (x : Extreme) (s : Span) (ss : List Span) (o : Option Number) → s.value ≢ zero_ℚ → x ≡ source_of side (lt_ℚ zero_ℚ s.value) → EndKept x o s (rest x s.id ss)
+    → is_better side (old_bound side s.lower s.upper) (left_over s.value o (rest x s.id ss)) ≡ false
+end_not_better side x s ss None n e h = none_better side (old_bound side s.lower s.upper)
+end_not_better side x s ss (Some b) n e h = slack_is_not_better side x s ss b n e h
+
+pub kept_not_tight : (sides : Sides) (ss : List Span) (s : Span) → s.value ≢ zero_ℚ → EndKept Greatest sides.lower s (rest Greatest s.id ss) → EndKept Least sides.upper s (rest Least s.id ss) → (side : Side) → is_tight sides ss s side ≡ false
+kept_not_tight sides ss s n g l Lower = by (lt_ℚ zero_ℚ s.value) refl
+  where
+    by : (c : Bool) → lt_ℚ zero_ℚ s.value ≡ c → is_better Lower (old_bound Lower s.lower s.upper) (if c then left_over s.value sides.lower (rest Greatest s.id ss) else left_over s.value sides.upper (rest Least s.id ss)) ≡ false
+    by true e = end_not_better Lower Greatest s ss sides.lower n (sym (ap (source_of Lower) e)) g
+    by false e = end_not_better Lower Least s ss sides.upper n (sym (ap (source_of Lower) e)) l
+kept_not_tight sides ss s n g l Upper = by (lt_ℚ zero_ℚ s.value) refl
+  where
+    by : (c : Bool) → lt_ℚ zero_ℚ s.value ≡ c → is_better Upper (old_bound Upper s.lower s.upper) (if c then left_over s.value sides.upper (rest Least s.id ss) else left_over s.value sides.lower (rest Greatest s.id ss)) ≡ false
+    by true e = end_not_better Upper Least s ss sides.upper n (sym (ap (source_of Upper) e)) l
+    by false e = end_not_better Upper Greatest s ss sides.lower n (sym (ap (source_of Upper) e)) g
+
+pub none_more : (x : List (ℕ × Side)) (a b : Bool) (j : ℕ) → a ≡ false → b ≡ false → x ≡ x ++ (bound_if a j Lower ++ bound_if b j Upper)
+none_more x a b j e f = sym (append-nil x) ∙ ap₂ (λ (y z : Bool). x ++ (bound_if y j Lower ++ bound_if z j Upper)) (sym e) (sym f)

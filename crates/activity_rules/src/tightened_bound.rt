@@ -9,6 +9,7 @@ ghost use Rattle.rule_words.specs.Answers.{Changes};
 ghost use Rattle.row_spans.specs.RowSums.{rest as rest_without};
 ghost use Rattle.row_spans.specs.Spans.{span_at, spans_of};
 ghost use Rattle.activity_laws.specs.TightenedBound.{bound_set, bounds_of, enabled, edits, has_two, implied, new_bound as new_by, old_bound as old_by, record_of, Computes};
+ghost use Rattle.undo_records.specs.declared.side.Side.{Side as SideValue};
 ghost use Rattle.activity_rules.specs.Tightened.{bound_if, found_among, found_at, gets_better as bound_gets_better, is_looked_at as row_is_looked_at, is_tight as is_tight_by};
 
 use crate::infinite_ends::may_tighten;
@@ -217,6 +218,14 @@ fn is_slack(sums: &RowSums, sides: &Sides, place: usize, side: Side) -> bool
     }
 }
 
+/// Whether two comparisons of integers tell that the row implies no better bound, neither a lower nor an upper one, for that column.
+fn is_slack_at_both(sums: &RowSums, sides: &Sides, place: usize) -> bool
+    requires { place < length sums.now }
+    ensures { (side : SideValue) → IsTrue result → is_tight_by sides.now sums.now (span_at sums.now place) side ≡ false }
+{
+    sums.keeps_both(place, &sides.lower, &sides.upper)
+}
+
 /// Whether the implied bound is better than the column's own.
 fn is_tight(sums: &RowSums, sides: &Sides, place: usize, side: Side) -> bool
     requires { place < length sums.now }
@@ -255,7 +264,7 @@ fn add_bound(
     Ok(())
 }
 
-/// Adds the lower bound of that column, and then the upper one.
+/// Adds the lower bound of that column, and then the upper one. Most columns that get none are told by two comparisons.
 fn add_both(
     sums: &RowSums,
     sides: &Sides,
@@ -265,6 +274,9 @@ fn add_both(
     requires { place < length sums.now }
     ensures { OnOk result (found.new.items ≡ found.old.items ++ found_at sides.now sums.now (span_at sums.now place)) }
 {
+    if is_slack_at_both(sums, sides, place) {
+        return Ok(());
+    }
     add_bound(sums, sides, place, Side::Lower, found)?;
     add_bound(sums, sides, place, Side::Upper, found)
 }

@@ -1,5 +1,5 @@
 -- Sides that a row keeps with one of its columns at its other end.
-use Rattle.std.specs.Prelude.{◌≡◌, ℕ, ℤ, Option, Some, Result, Ok}
+use Rattle.std.specs.Prelude.{◌≡◌, ℕ, ℤ, ⊤, Option, Some, None, Result, Ok}
 use Prim.Native.Nat.{◌∣◌}
 use Rattle.rational.specs.Number.{Number, ◌+ℚ◌}
 use Rattle.rational.specs.Lowest.{under_of}
@@ -43,3 +43,8 @@ IsTurned extreme s n sum = (t : Number) × (end_at (opposite extreme) s ≡ Some
 -- that sum keeps the side
 abbrev pub KeepsTurned : Extreme → Number → Span → Result (Option Number) Past → Type 0
 KeepsTurned extreme side s sum = (t : Number) × (end_at (opposite extreme) s ≡ Some t) × KeepsWith extreme side t sum
+
+-- the same of a side that may be infinite
+abbrev pub EndKept : Extreme → Option Number → Span → Result (Option Number) Past → Type 0
+EndKept extreme None s sum = ⊤
+EndKept extreme (Some b) s sum = KeepsTurned extreme b s sum

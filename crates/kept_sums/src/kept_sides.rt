@@ -1,16 +1,20 @@
 //! Whether a row keeps a side with one of its columns at its other end, by one comparison over the denominator of its sum.
 
-ghost use Rattle.std.specs.Prelude.{◌≡◌, ◌<◌, ◌^◌, ◌++◌, ◌∷◌, List, Option, IfSome, IsTrue};
+ghost use Rattle.std.specs.Prelude.{◌≡◌, ◌<◌, ◌^◌, ◌++◌, ◌∷◌, ◌||◌, is_none, nat_eq, List, Option, IfSome, IsTrue};
 ghost use Rattle.rational.specs.Number.{Number, ◌*ℚ◌};
 ghost use Rattle.rational.specs.Compare.{le_ℚ};
 ghost use Rattle.rational.specs.Lowest.{ratio};
 ghost use Rattle.row_spans.specs.RowSums.{row_sum};
 ghost use Rattle.row_spans.specs.Spans.{end_at};
+ghost use Rattle.row_spans.specs.declared.span.Span.{Span as SpanValue};
+ghost use Rattle.row_spans.specs.declared.span.Extreme.{Extreme as ExtremeValue};
+ghost use Rattle.row_spans.specs.declared.span.Extreme.TheVariants as extreme_of;
 ghost use Rattle.kept_sums.specs.CommonSums.{IsCommonSum};
-ghost use Rattle.kept_sums.specs.KeptSides.{EndIs, IsNumerator, IsTurned, Keeps, KeepsTurned, opposite as opposite_of};
+ghost use Rattle.kept_sums.specs.KeptSides.{EndIs, EndKept, IsNumerator, IsTurned, Keeps, KeepsTurned, opposite as opposite_of};
 
 use crate::common::CommonSum;
 use fractions::divisor::quotient;
+use fractions::ext::Ext;
 use fractions::frac::Frac;
 use fractions::parts::{Parts, compare_parts};
 use fractions::whole::Whole;
@@ -91,7 +95,26 @@ fn end_over(denominator: u128, extreme: Extreme, span: &Span) -> Option<Whole>
     numerator_at(denominator, &span.value, &bound)
 }
 
-/// The numerator of a sum with one of its entries at its other end, if all its terms are finite and the number has room.
+/// The numerator of a sum with one of its entries, which has these numerators, at its other end, if all its terms are finite and the number
+/// has room.
+fn turned_by(sum: &CommonSum, own: Whole, other: Whole) -> Option<Whole>
+    requires positive { 0 < sum.now.denominator }
+    requires short { sum.now.denominator < 2 ^ 127 }
+    ensures { IfSome result (λ z. (x : ExtremeValue) (s : SpanValue) (a b : List (Option Number)) → EndIs sum.now.denominator (end_at x s) own → EndIs sum.now.denominator (end_at (opposite_of x) s) other → IsCommonSum (a ++ end_at x s ∷ b) sum.now → IsTurned x s (ratio z sum.now.denominator) (row_sum (a ++ b))) }
+{
+    if sum.infinite != 0 {
+        return None;
+    }
+    let Ok(rest) = sum.total.plus(own.negated()) else {
+        return None;
+    };
+    match rest.plus(other) {
+        Ok(numerator) => Some(numerator),
+        Err(_) => None,
+    }
+}
+
+/// The same of an entry, if its ends are finite, can be written over the denominator of the sum and have room.
 fn turned(sum: &CommonSum, extreme: Extreme, span: &Span) -> Option<Whole>
     requires positive { 0 < sum.now.denominator }
     requires short { sum.now.denominator < 2 ^ 127 }
@@ -102,13 +125,7 @@ fn turned(sum: &CommonSum, extreme: Extreme, span: &Span) -> Option<Whole>
     }
     let own = end_over(sum.denominator, extreme, span)?;
     let other = end_over(sum.denominator, opposite(extreme), span)?;
-    let Ok(rest) = sum.total.plus(own.negated()) else {
-        return None;
-    };
-    match rest.plus(other) {
-        Ok(numerator) => Some(numerator),
-        Err(_) => None,
-    }
+    turned_by(sum, own, other)
 }
 
 /// Whether a number is at most another one, by their numerators and denominators.
@@ -148,4 +165,66 @@ pub fn keeps_turned(sum: &CommonSum, extreme: Extreme, span: &Span, side: &Frac)
             },
         ),
     }
+}
+
+/// Whether a side, if it is finite, is kept by a sum with one of its entries, which has these numerators, at its other end: `false` where a
+/// number has no room.
+fn keeps_end(sum: &CommonSum, extreme: Extreme, own: Whole, other: Whole, side: &Ext) -> bool
+    requires positive { 0 < sum.now.denominator }
+    requires short { sum.now.denominator < 2 ^ 127 }
+    ensures { (s : SpanValue) (a b : List (Option Number)) → EndIs sum.now.denominator (end_at extreme s) own → EndIs sum.now.denominator (end_at (opposite_of extreme) s) other → IsCommonSum (a ++ end_at extreme s ∷ b) sum.now → IsTrue result → EndKept extreme side.now s (row_sum (a ++ b)) }
+{
+    let Some(number) = side.number() else {
+        return true;
+    };
+    match turned_by(sum, own, other) {
+        None => false,
+        Some(num) => is_kept(
+            extreme,
+            &number,
+            Parts {
+                num,
+                den: sum.denominator,
+            },
+        ),
+    }
+}
+
+/// Whether a side is infinite, or no term of a sum is.
+fn may_keep(sum: &CommonSum, side: &Ext) -> bool
+    ensures { result ≡ (is_none side.now || nat_eq sum.now.infinite 0) }
+{
+    side.is_none() || sum.infinite == 0
+}
+
+/// Whether both sides of a row, if they are finite, are kept by its sums with one of its entries at its other end: `false` where the sums
+/// are over two denominators, and where a number has no room. What the entry gives at either end is looked for once.
+pub fn keeps_both(
+    least: &CommonSum,
+    greatest: &CommonSum,
+    span: &Span,
+    lower: &Ext,
+    upper: &Ext,
+) -> bool
+    requires least_positive { 0 < least.now.denominator }
+    requires least_short { least.now.denominator < 2 ^ 127 }
+    requires greatest_positive { 0 < greatest.now.denominator }
+    requires greatest_short { greatest.now.denominator < 2 ^ 127 }
+    ensures below { (a b : List (Option Number)) → IsCommonSum (a ++ end_at extreme_of.Greatest span.now ∷ b) greatest.now → IsTrue result → EndKept extreme_of.Greatest lower.now span.now (row_sum (a ++ b)) }
+    ensures above { (a b : List (Option Number)) → IsCommonSum (a ++ end_at extreme_of.Least span.now ∷ b) least.now → IsTrue result → EndKept extreme_of.Least upper.now span.now (row_sum (a ++ b)) }
+{
+    if least.denominator != greatest.denominator {
+        return false;
+    }
+    if !may_keep(greatest, lower) || !may_keep(least, upper) {
+        return false;
+    }
+    let Some(from) = end_over(least.denominator, Extreme::Least, span) else {
+        return false;
+    };
+    let Some(to) = end_over(least.denominator, Extreme::Greatest, span) else {
+        return false;
+    };
+    keeps_end(greatest, Extreme::Greatest, to, from, lower)
+        && keeps_end(least, Extreme::Least, from, to, upper)
 }
