@@ -25,7 +25,7 @@ use row_spans::{Extreme, Span};
 use rule_words::Change;
 use sparse_problem::Problem;
 use std::alloc::{AllocError, Global};
-use undo_records::{KeptEnd, Side, Undo};
+use undo_records::{KeptEnd, SharedTerms, Side, Undo};
 
 /// Whether a row has two entries or more.
 #[tactic(auto, using(crate::proofs::Tightened::has_two_is))]
@@ -157,7 +157,7 @@ fn record_at(
         column,
         side,
         bound: KeptEnd::new(alloc, old)?,
-        entries: problem.row_terms(alloc, row)?,
+        entries: SharedTerms::new(alloc, problem.row_terms(alloc, row)?)?,
     })
 }
 

@@ -38,6 +38,7 @@ fn goes_up(problem: &Problem, column: u32) -> bool
 }
 
 /// Whether a column's bounds are apart, no sides of its rows are crossed, and it goes down or up.
+#[tactic(auto, using(crate::proofs::Orders::last_first))]
 pub fn is_enabled(problem: &Problem, column: u32) -> bool
     ensures { result ≡ enabled problem.now column }
 {
@@ -46,8 +47,8 @@ pub fn is_enabled(problem: &Problem, column: u32) -> bool
     }
     let bounds = problem.bounds(column);
     apart(&bounds.lower, &bounds.upper)
-        && rows_uncrossed(problem, entries(problem, column))
         && (goes_down(problem, column) || goes_up(problem, column))
+        && rows_uncrossed(problem, entries(problem, column))
 }
 
 /// The bound at which a column is fixed: the lower one where it goes down, else the upper one.

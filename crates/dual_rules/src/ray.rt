@@ -30,6 +30,7 @@ fn falls(problem: &Problem, column: u32) -> bool
 }
 
 /// Whether neither the bounds of a column nor the sides of its rows are crossed, and it rises or falls for ever.
+#[tactic(auto, using(crate::proofs::Orders::last_first))]
 pub fn is_enabled(problem: &Problem, column: u32) -> bool
     ensures { result ≡ enabled problem.now column }
 {
@@ -38,6 +39,6 @@ pub fn is_enabled(problem: &Problem, column: u32) -> bool
     }
     let bounds = problem.bounds(column);
     in_order(&bounds.lower, &bounds.upper)
-        && rows_uncrossed(problem, entries(problem, column))
         && (rises(problem, column) || falls(problem, column))
+        && rows_uncrossed(problem, entries(problem, column))
 }

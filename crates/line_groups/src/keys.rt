@@ -117,6 +117,34 @@ fn key_of(others: &[Line], terms: &[Term], cost: &Frac) -> Option<u64>
     }
 }
 
+/// A key with these terms in it.
+fn with_all(key: u64, terms: &[Term], divisor: &Frac) -> u64
+    requires { divisor.now ≢ zero_ℚ }
+    ensures { result ≡ terms_in divisor.now key terms.now }
+{
+    let mut made = key;
+    let mut rest = terms;
+    while let [term, after @ ..] = rest {
+        made = with_quotient(mixed(made, u64::from(term.id)), &term.value, divisor);
+        rest = after;
+    }
+    made
+}
+
+/// The key of a line with these terms, all of which name a line that is live, and this cost, or none where there is no term.
+fn key_of_all(terms: &[Term], cost: &Frac) -> Option<u64>
+    requires { All (λ t. t.value ≢ zero_ℚ) terms.now }
+    ensures { result ≡ key_by cost.now terms.now }
+{
+    match terms {
+        [] => None,
+        [first, ..] => {
+            let key = with_quotient(0, cost, &first.value);
+            Some(with_all(key, terms, &first.value))
+        }
+    }
+}
+
 /// The key of a row, if it is live and has an entry.
 fn key_of_row(problem: &Problem, row: u32) -> Option<u64>
     ensures { result ≡ key_at problem.now (part.Row row) }
@@ -124,6 +152,9 @@ fn key_of_row(problem: &Problem, row: u32) -> Option<u64>
     problem.is_sparse();
     if !problem.is_row_live(row) {
         return None;
+    }
+    if let Some(terms) = problem.whole_row(row) {
+        return key_of_all(terms, &Frac::zero());
     }
     let terms = problem.rows()[row as usize].entries.as_slice();
     key_of(problem.columns(), terms, &Frac::zero())
@@ -136,6 +167,9 @@ fn key_of_column(problem: &Problem, column: u32) -> Option<u64>
     problem.is_sparse();
     if !problem.is_column_live(column) {
         return None;
+    }
+    if let Some(terms) = problem.whole_column(column) {
+        return key_of_all(terms, &problem.cost(column));
     }
     let terms = problem.columns()[column as usize].entries.as_slice();
     key_of(problem.rows(), terms, &problem.cost(column))

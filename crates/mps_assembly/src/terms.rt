@@ -15,14 +15,48 @@ use mps_stores::{Entry, RowEntries};
 use std::alloc::{AllocError, Global};
 use std::mem::replace;
 
-/// Columns without terms.
-fn empty_columns(alloc: Global, count: usize) -> Result<Vec<Terms>, AllocError>
-    ensures count { IfOk result (λ found. length found.items ≡ count) }
+/// Counts one more.
+fn count_one(counts: &mut [u32], column: usize)
+    ensures { length counts.new ≡ length counts.old }
+{
+    if column < counts.len() {
+        counts[column] = counts[column].saturating_add(1);
+    }
+}
+
+/// Counts the entries in each column.
+fn count_entries(counts: &mut [u32], row: &[Entry])
+    ensures { length counts.new ≡ length counts.old }
+{
+    for entry in row {
+        count_one(counts, entry.column);
+    }
+}
+
+/// How many entries of the first `rows` rows are in each of `columns` columns.
+fn column_counts(
+    alloc: Global,
+    entries: &RowEntries,
+    rows: usize,
+    columns: usize,
+) -> Result<Vec<u32>, AllocError>
+    ensures { IfOk result (λ counts. length counts.items ≡ columns) }
+{
+    let mut counts = vec![in alloc; 0u32; columns]?;
+    for i in 0..rows {
+        count_entries(counts.as_mut_slice(), entries.row(i));
+    }
+    Ok(counts)
+}
+
+/// A column without terms for each count, with room for so many.
+fn empty_columns(alloc: Global, counts: &[u32]) -> Result<Vec<Terms>, AllocError>
+    ensures count { IfOk result (λ found. length found.items ≡ length counts.now) }
     ensures empty { IfOk result (λ found. (j : ℕ) → terms_at found.items j ≡ []) }
 {
-    let mut found = Vec::with_capacity(alloc, count)?;
-    for _ in 0..count {
-        found.push(Terms::empty(alloc))?;
+    let mut found = Vec::with_capacity(alloc, counts.len())?;
+    for room in counts {
+        found.push(Terms::new(Vec::with_capacity(alloc, *room as usize)?))?;
     }
     Ok(found)
 }
@@ -109,7 +143,8 @@ pub fn terms_by_column(
     ensures count { IfOk result (λ found. length found.items ≡ columns) }
     ensures terms { IfOk result (λ found. (j : ℕ) → j < columns → terms_at found.items j ≡ terms_below kinds.now (λ i. unwrap_or (number_in entries.now i j) zero_ℚ) rows) }
 {
-    let mut found = empty_columns(alloc, columns)?;
+    let counts = column_counts(alloc, entries, rows, columns)?;
+    let mut found = empty_columns(alloc, &counts)?;
     let mut id: u32 = 0;
     for i in 0..rows {
         id = add_row(&mut found, alloc, kind_at(kinds, i), id, entries.row(i))?;

@@ -16,7 +16,7 @@ use problem_model::{Edit, Refusal};
 use rule_words::Change;
 use sparse_problem::Problem;
 use std::alloc::{AllocError, Global};
-use undo_records::{EndApart, NumberApart, Undo};
+use undo_records::{EndApart, NumberApart, SharedTerms, Undo};
 
 /// Whether two rows are live, and differ.
 fn are_two(problem: &Problem, row: u32, other: u32) -> bool
@@ -88,7 +88,7 @@ fn record_for(
         factor: NumberApart::new(alloc, *factor)?,
         lower: EndApart::new(alloc, kept.lower)?,
         upper: EndApart::new(alloc, kept.upper)?,
-        entries: problem.row_terms(alloc, other)?,
+        entries: SharedTerms::new(alloc, problem.row_terms(alloc, other)?)?,
     })
 }
 

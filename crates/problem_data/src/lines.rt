@@ -50,6 +50,19 @@ pub fn live_entries_of(lines: &[Line], k: u32) -> usize
     }
 }
 
+/// The entries of a line, if as many of them are live as it holds.
+pub fn whole_line(lines: &[Line], k: u32) -> Option<&[Term]>
+    ensures { IfSome result (λ terms. (terms.now ≡ (line_at lines.now k).entries) × ((line_at lines.now k).live_entries ≡ length terms.now)) }
+{
+    let line = lines.get(k as usize)?;
+    let terms = line.entries.as_slice();
+    if line.live_entries == terms.len() {
+        Some(terms)
+    } else {
+        None
+    }
+}
+
 /// The first term that names a live line.
 pub fn first_live(others: &[Line], terms: &[Term]) -> Option<Term>
     ensures first { IfSome result (λ t. first_of (live_only others.now terms.now) ≡ t) }

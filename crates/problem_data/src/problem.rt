@@ -1,6 +1,6 @@
 //! Problems.
 
-ghost use Rattle.std.specs.Prelude.{◌≡◌, ◌<◌, ◌^◌, length, IfOk, OnErr, OnOk, true, [], ◌∷◌};
+ghost use Rattle.std.specs.Prelude.{◌≡◌, ◌<◌, ◌^◌, length, IfOk, IfSome, OnErr, OnOk, true, [], ◌∷◌};
 ghost use Rattle.std.specs.List.{All};
 ghost use Rattle.problem_model.specs.Edits.{bounds_set, column_deleted, cost_set, offset_set, row_deleted, sides_set};
 ghost use Rattle.problem_model.specs.Parts.{changes_of};
@@ -10,7 +10,7 @@ ghost use Rattle.problem_data.specs.Renumbered.{changes_put, IsThere};
 ghost use Rattle.problem_model.specs.Problems.{bounds_at, column_at, column_entries, cost_at, IsSparse, row_at, row_entries, sides_at};
 
 use crate::entries::{Replaced, exchange, exchange_all, give_back, line_with_terms, rows_with};
-use crate::lines::{delete_line, first_live, live_entries_of, live_terms_of};
+use crate::lines::{delete_line, first_live, live_entries_of, live_terms_of, whole_line};
 use crate::living::is_live;
 use crate::moves::{move_bounds, move_sides};
 use crate::numbers::{line_changes, number_line};
@@ -218,14 +218,36 @@ impl ProblemData {
     pub fn row_terms(&self, alloc: Global, i: u32) -> Result<Terms, AllocError>
         ensures { IfOk result (λ terms. terms ≡ row_entries self.now i) }
     {
-        live_terms_of(alloc, self.rows.as_slice(), self.columns.as_slice(), i)
+        match self.whole_row(i) {
+            Some(terms) => Ok(Terms::new(Vec::from_slice(alloc, terms)?)),
+            None => live_terms_of(alloc, self.rows.as_slice(), self.columns.as_slice(), i),
+        }
+    }
+
+    /// The entries of a row, if all that it holds are in live columns.
+    pub fn whole_row(&self, i: u32) -> Option<&[Term]>
+        ensures { IfSome result (λ terms. terms.now ≡ row_entries self.now i) }
+    {
+        self.is_sparse();
+        whole_line(self.rows(), i)
+    }
+
+    /// The entries of a column, if all that it holds are in live rows.
+    pub fn whole_column(&self, j: u32) -> Option<&[Term]>
+        ensures { IfSome result (λ terms. terms.now ≡ column_entries self.now j) }
+    {
+        self.is_sparse();
+        whole_line(self.columns(), j)
     }
 
     /// The entries of a column in live rows, by row id.
     pub fn column_terms(&self, alloc: Global, j: u32) -> Result<Terms, AllocError>
         ensures { IfOk result (λ terms. terms ≡ column_entries self.now j) }
     {
-        live_terms_of(alloc, self.columns.as_slice(), self.rows.as_slice(), j)
+        match self.whole_column(j) {
+            Some(terms) => Ok(Terms::new(Vec::from_slice(alloc, terms)?)),
+            None => live_terms_of(alloc, self.columns.as_slice(), self.rows.as_slice(), j),
+        }
     }
 
     /// Sets what was added to the cost, in the minimizing sense.

@@ -37,14 +37,43 @@ fn scatter(rows: &mut [Terms], alloc: Global, terms: &[Term], j: u32) -> Result<
     Ok(())
 }
 
-/// Rows without entries.
-fn empty_rows(alloc: Global, count: usize) -> Result<Vec<Terms>, AllocError>
-    ensures long { IfOk result (λ rows. length rows.items ≡ count) }
+/// Counts one more.
+fn count_one(counts: &mut [u32], i: u32)
+    ensures { length counts.new ≡ length counts.old }
+{
+    if (i as usize) < counts.len() {
+        counts[i as usize] = counts[i as usize].saturating_add(1);
+    }
+}
+
+/// Counts the terms that name each row.
+fn count_terms(counts: &mut [u32], terms: &[Term])
+    ensures { length counts.new ≡ length counts.old }
+{
+    for term in terms {
+        count_one(counts, term.id);
+    }
+}
+
+/// How many terms of columns name each of `count` rows.
+fn row_counts(alloc: Global, count: usize, columns: &[ColumnDef]) -> Result<Vec<u32>, AllocError>
+    ensures { IfOk result (λ counts. length counts.items ≡ count) }
+{
+    let mut counts = vec![in alloc; 0u32; count]?;
+    for column in columns {
+        count_terms(counts.as_mut_slice(), column.entries.as_slice());
+    }
+    Ok(counts)
+}
+
+/// A row without entries for each count, with room for so many.
+fn empty_rows(alloc: Global, counts: &[u32]) -> Result<Vec<Terms>, AllocError>
+    ensures long { IfOk result (λ rows. length rows.items ≡ length counts.now) }
     ensures empty { IfOk result (λ rows. (i : ℕ) → slice_index_or rows.items i [] ≡ []) }
 {
-    let mut rows = Vec::with_capacity(alloc, count)?;
-    for _ in 0..count {
-        rows.push(Terms::empty(alloc))?;
+    let mut rows = Vec::with_capacity(alloc, counts.len())?;
+    for room in counts {
+        rows.push(Terms::new(Vec::with_capacity(alloc, *room as usize)?))?;
     }
     Ok(rows)
 }
@@ -60,7 +89,8 @@ fn entries_across(
     ensures long { IfOk result (λ rows. length rows.items ≡ count) }
     ensures rows { IfOk result (λ rows. (i : ℕ) → i < count → slice_index_or rows.items i [] ≡ across i 0 columns.now) }
 {
-    let mut rows = empty_rows(alloc, count)?;
+    let counts = row_counts(alloc, count, columns)?;
+    let mut rows = empty_rows(alloc, &counts)?;
     for j in 0..columns.len() {
         scatter(
             rows.as_mut_slice(),

@@ -16,7 +16,9 @@ use crate::ratios::number_in;
 use crate::rules::Rule;
 use crate::words::{Words, next_word};
 use std::alloc::{AllocError, Global};
-use undo_records::{EndApart, KeptEnd, KeptNumber, NumberApart, RowFate, Side, TermsApart, Undo};
+use undo_records::{
+    EndApart, KeptEnd, KeptNumber, NumberApart, RowFate, SharedTerms, Side, TermsApart, Undo,
+};
 
 /// The next word as an id.
 fn next_id(words: &mut Words<'_>) -> u32
@@ -122,7 +124,7 @@ fn tighten_bound(alloc: Global, words: Words<'_>) -> Result<Undo, AllocError>
     let column = next_id(&mut rest);
     let side = bound_of(next_word(&mut rest)).unwrap_or(Side::Lower);
     let bound = next_end(alloc, &mut rest)?;
-    let entries = list_in(alloc, rest)?;
+    let entries = SharedTerms::new(alloc, list_in(alloc, rest)?)?;
     Ok(Undo::TightenBound {
         row,
         column,
@@ -221,7 +223,7 @@ fn parallel_rows(alloc: Global, words: Words<'_>) -> Result<Undo, AllocError>
     let factor = number_apart(alloc, &mut rest)?;
     let lower = end_apart(alloc, &mut rest)?;
     let upper = end_apart(alloc, &mut rest)?;
-    let entries = list_in(alloc, rest)?;
+    let entries = SharedTerms::new(alloc, list_in(alloc, rest)?)?;
     Ok(Undo::ParallelRows {
         row,
         kept,

@@ -276,6 +276,20 @@ impl Problem {
         self.parts.column_terms(alloc, j)
     }
 
+    /// The entries of a row, if all that it holds are in live columns.
+    pub fn whole_row(&self, i: u32) -> Option<&[Term]>
+        ensures { IfSome result (λ terms. terms.now ≡ row_entries self.now i) }
+    {
+        self.parts.whole_row(i)
+    }
+
+    /// The entries of a column, if all that it holds are in live rows.
+    pub fn whole_column(&self, j: u32) -> Option<&[Term]>
+        ensures { IfSome result (λ terms. terms.now ≡ column_entries self.now j) }
+    {
+        self.parts.whole_column(j)
+    }
+
     /// How often a part has changed; a part past the ids never has.
     pub fn changes(&self, part: Part) -> u64
         ensures { result ≡ changes_of self.now part }

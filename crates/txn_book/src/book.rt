@@ -22,6 +22,7 @@ ghost use Rattle.problem_model.specs.Showing.{shown};
 ghost use Rattle.problem_model.specs.Writing.{IsWritable};
 ghost use Rattle.txn_book.specs.Applying.{Applies, outcome_of};
 
+use crate::row_lists::RowLists;
 use crate::version::Version;
 use fractions::Numbers;
 use instances::{Proposal, Tally, after};
@@ -41,6 +42,7 @@ pub struct Book {
     history: Vec<Reduction>,
     verdict: Option<Verdict>,
     records: Vec<Undo>,
+    lists: RowLists,
     tally: Tally,
     numbers: Numbers,
     limit: u64,
@@ -103,12 +105,14 @@ impl Book {
     {
         problem.is_sparse();
         let tally = Tally::new(alloc, problem.column_count() as u32)?;
+        let lists = RowLists::new(alloc, problem.row_count())?;
         Ok(Book {
             start: Snapshot::of(&problem),
             problem,
             history: Vec::new(alloc),
             verdict: None,
             records: Vec::new(alloc),
+            lists,
             tally,
             numbers,
             limit,
@@ -216,7 +220,7 @@ impl Book {
             Ok(undo) => undo,
             Err(refusal) => return Err(refusal),
         };
-        self.records.push_reserved(undo);
+        self.records.push_reserved(self.lists.share(undo));
         self.history.push_reserved(reduction);
         self.tally.follow(reduction);
         Ok(self.history.len())

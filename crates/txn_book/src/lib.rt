@@ -3,6 +3,7 @@
 #![tactic(auto)]
 
 mod book;
+mod row_lists;
 mod version;
 
 pub use book::{Book, Ended};

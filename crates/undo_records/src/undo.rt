@@ -2,6 +2,7 @@
 
 use crate::apart::{EndApart, NumberApart, TermsApart};
 use crate::kept::{KeptEnd, KeptNumber};
+use crate::shared::SharedTerms;
 use crate::side::{RowFate, Side};
 use lp_model::Terms;
 
@@ -73,7 +74,7 @@ pub enum Undo {
         /// That bound before.
         bound: KeptEnd,
         /// The row's entries by column id, the column's own among them.
-        entries: Terms,
+        entries: SharedTerms,
     },
     /// K9: an entry of a whole column and the one finite side of its row were brought nearer to 0 alike.
     TightenCoefficient {
@@ -170,7 +171,7 @@ pub enum Undo {
         /// The kept row's upper side before.
         upper: EndApart,
         /// The kept row's entries, by column id.
-        entries: Terms,
+        entries: SharedTerms,
     },
     /// K16: a column that is a multiple of another was merged into it and deleted.
     ParallelColumns {

@@ -137,15 +137,14 @@ fn are_columns_on(undo: &Undo, columns: &[bool]) -> bool
         Undo::SingletonRow { column, .. }
         | Undo::FixedColumn { column, .. }
         | Undo::TightenCoefficient { column, .. } => are_on(columns, &[*column]),
-        Undo::ForcingRow { entries, .. } | Undo::ParallelRows { entries, .. } => {
-            are_terms_on(columns, entries.as_slice())
-        }
+        Undo::ForcingRow { entries, .. } => are_terms_on(columns, entries.as_slice()),
+        Undo::ParallelRows { entries, .. } => are_terms_on(columns, entries.as_slice()),
         Undo::TightenBound {
             column,
             entries,
             ..
-        }
-        | Undo::FreeSingleton {
+        } => are_all_on(columns, *column, entries.as_slice()),
+        Undo::FreeSingleton {
             column,
             entries,
             ..

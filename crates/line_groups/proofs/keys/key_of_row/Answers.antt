@@ -1,4 +1,6 @@
-use Rattle.std.proofs.Common.{◌≡◌, true, rules}
+use Rattle.std.proofs.Common.{◌≡◌, ◌≢◌, true, rules, subst, sym}
+use Rattle.std.specs.List.{All}
+use Rattle.rational.specs.Number.{zero_ℚ}
 use Rattle.problem_model.specs.Problems.{row_at}
 use Rattle.problem_laws.proofs.Entries.{row_entries-none_zero}
 use Rattle.line_groups.proofs.KeyLaws.{read_none_zero}
@@ -11,3 +13,6 @@ key_of-requires c =
     let entries : c.as_slice-terms.result.now ≡ c.index-rows-row.result.entries = search rules in
     read_none_zero p.matrix.rows p.matrix.columns c.rows.result.now c.columns.result.now c.args.row c.index-rows-row.result c.as_slice-terms.result.now
     (row_entries-none_zero p c.args.row c.is_sparse.ensures) live c.rows.ensures c.columns.ensures c.index-rows-row.is entries
+
+pub key_of_all-requires : goal.key_of_all-requires
+key_of_all-requires c = subst (All (λ t. t.value ≢ zero_ℚ)) (sym c.in-Some.ensures) (row_entries-none_zero c.args.problem.now c.args.row c.is_sparse.ensures)
