@@ -42,7 +42,7 @@ fn priced_sum(entries: &[Term], duals: &[Frac]) -> Result<Frac, Past>
 ///
 /// # Errors
 /// [`Past`] exactly where the sum or the difference has no room.
-fn reduced_cost(program: &Program, column: usize, duals: &Duals) -> Result<Frac, Past>
+pub fn reduced_cost(program: &Program, column: usize, duals: &Duals) -> Result<Frac, Past>
     requires each { length duals.now ≡ length program.now.rows }
     requires ascends { EntriesAscend program.now }
     requires within { column < length program.now.columns }

@@ -77,7 +77,7 @@ fn after_first(numbers: &[Frac]) -> &[Frac]
 }
 
 /// A number for each column: the next of the numbers for a live one, 0 for a deleted one.
-fn placed(alloc: Global, columns: &[Label], numbers: &[Frac]) -> Result<Vec<Frac>, AllocError>
+pub fn placed(alloc: Global, columns: &[Label], numbers: &[Frac]) -> Result<Vec<Frac>, AllocError>
     ensures { IfOk result (λ values. values.items ≡ placed_of columns.now numbers.now) }
 {
     let mut values = Vec::with_capacity(alloc, columns.len())?;

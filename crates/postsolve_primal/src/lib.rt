@@ -9,5 +9,8 @@ mod lifting;
 mod sums;
 mod undo;
 
-pub use buffer::PointBuf;
+pub use buffer::{PointBuf, placed};
+pub use ends::Range;
 pub use lifting::{Stop, lift};
+pub use sums::{less_product, number_of, set_number, sum_of_terms};
+pub use undo::undo_one;

@@ -1,0 +1,70 @@
+//! The laws of the reductions of rows, for pairs, with the undoing of their records.
+
+ghost use Rattle.std.specs.Prelude.{◌≡◌, ℕ, List};
+ghost use Rattle.rational.specs.Number.{Number};
+ghost use Rattle.lp_model.specs.declared.program.Sense.TheVariants.{Min};
+ghost use Rattle.lp_model.specs.declared.terms.Term.{Term};
+ghost use Rattle.lp_model.specs.LinearProgram.{LinearProgram};
+ghost use Rattle.lp_model.specs.Reductions.{ReducesPairs};
+ghost use Rattle.lp_model.specs.Sparse.{Ascends, dense};
+ghost use Rattle.lp_rows.specs.EmptyRow.{IsEmptyRow, empty_row_deleted};
+ghost use Rattle.lp_rows.specs.SingletonRow.{IsSingletonRow, singleton_row_met};
+ghost use Rattle.lp_rows.specs.RedundantRow.{IsRedundantRow, redundant_row_deleted};
+ghost use Rattle.lp_rows.specs.RedundantSide.{IsRedundantLowerSide, IsRedundantUpperSide, lower_side_dropped, upper_side_dropped};
+ghost use Rattle.lp_rows.specs.ForcingRow.{IsForcedAtLowerSide, IsForcedAtUpperSide, forced_at_lower_side, forced_at_upper_side};
+ghost use Rattle.lp_rows.specs.TightenedBound.{IsTighterLowerBound, IsTighterUpperBound, lower_bound_tightened, upper_bound_tightened};
+ghost use Rattle.lp_rows.specs.TightenedCoefficient.{IsTightenedCoefficient, OneSide, Tightening, coefficient_tightened};
+ghost use Rattle.lp_rows.specs.ParallelRows.{AreParallelRows, parallel_rows_joined};
+ghost use Rattle.undo_records.specs.declared.side.Side.TheVariants.{Lower, Upper};
+ghost use Rattle.undo_records.specs.declared.undo.Undo.TheVariants.{EmptyRow, SingletonRow, RedundantRow, RedundantSide, ForcingRow, TightenBound, TightenCoefficient, ParallelRows};
+ghost use Rattle.postsolve_dual.specs.LiftPair.{undone_pair};
+
+/// K1, K2, K5: rows that were deleted.
+pub fn deleted_rows_keep_pairs()
+    ensures empty { (M : LinearProgram) (i : ℕ) → IsEmptyRow M i → ReducesPairs Min M (empty_row_deleted M i) (undone_pair (EmptyRow i)) }
+    ensures singleton { (M : LinearProgram) (i j : ℕ) → IsSingletonRow M i j → ReducesPairs Min M (singleton_row_met M i j) (undone_pair (SingletonRow i j (M.coefficient i j) (M.lower_bound j) (M.upper_bound j))) }
+    ensures redundant { (M : LinearProgram) (i : ℕ) → IsRedundantRow M i → ReducesPairs Min M (redundant_row_deleted M i) (undone_pair (RedundantRow i)) }
+{
+    lp_rows::empty_rows_reduce();
+    lp_rows::singleton_rows_reduce();
+    lp_rows::redundant_rows_reduce();
+}
+
+/// K6: sides that were dropped.
+pub fn dropped_sides_keep_pairs()
+    ensures lower { (M : LinearProgram) (i : ℕ) → IsRedundantLowerSide M i → ReducesPairs Min M (lower_side_dropped M i) (undone_pair (RedundantSide i)) }
+    ensures upper { (M : LinearProgram) (i : ℕ) → IsRedundantUpperSide M i → ReducesPairs Min M (upper_side_dropped M i) (undone_pair (RedundantSide i)) }
+{
+    lp_rows::redundant_lower_sides_reduce();
+    lp_rows::redundant_upper_sides_reduce();
+}
+
+/// K7: forcing rows; the list has the row's entries.
+pub fn forcing_rows_keep_pairs()
+    ensures lower { (M : LinearProgram) (i : ℕ) (ts : List Term) → IsForcedAtLowerSide M i → Ascends 0 M.columns ts → dense ts ≡ M.coefficient i → ReducesPairs Min M (forced_at_lower_side M i) (undone_pair (ForcingRow i Lower ts)) }
+    ensures upper { (M : LinearProgram) (i : ℕ) (ts : List Term) → IsForcedAtUpperSide M i → Ascends 0 M.columns ts → dense ts ≡ M.coefficient i → ReducesPairs Min M (forced_at_upper_side M i) (undone_pair (ForcingRow i Upper ts)) }
+{
+    lp_rows::rows_forced_at_the_lower_side_reduce();
+    lp_rows::rows_forced_at_the_upper_side_reduce();
+}
+
+/// K8: tightened bounds; the list has the row's entries.
+pub fn tightened_bounds_keep_pairs()
+    ensures lower { (M : LinearProgram) (i j : ℕ) (ts : List Term) → IsTighterLowerBound M i j → dense ts ≡ M.coefficient i → ReducesPairs Min M (lower_bound_tightened M i j) (undone_pair (TightenBound i j Lower (M.lower_bound j) ts)) }
+    ensures upper { (M : LinearProgram) (i j : ℕ) (ts : List Term) → IsTighterUpperBound M i j → dense ts ≡ M.coefficient i → ReducesPairs Min M (upper_bound_tightened M i j) (undone_pair (TightenBound i j Upper (M.upper_bound j) ts)) }
+{
+    lp_rows::tightened_lower_bounds_reduce();
+    lp_rows::tightened_upper_bounds_reduce();
+}
+
+/// K9: a tightened coefficient. Its column has to be whole, so that nothing meets the optimality conditions.
+pub fn tightened_coefficients_keep_pairs()
+    ensures { (M : LinearProgram) (i j : ℕ) (f : OneSide) (t : Tightening) → IsTightenedCoefficient M i j f t → ReducesPairs Min M (coefficient_tightened M i j f t) (undone_pair (TightenCoefficient i j)) }
+{}
+
+/// K15: parallel rows; the list has the entries of the row that was kept.
+pub fn parallel_rows_keep_pairs()
+    ensures { (M : LinearProgram) (i k : ℕ) (s : Number) (ts : List Term) → AreParallelRows M i k s → Ascends 0 M.columns ts → dense ts ≡ M.coefficient k → ReducesPairs Min M (parallel_rows_joined M i k s) (undone_pair (ParallelRows i k s (M.lower_side k) (M.upper_side k) ts)) }
+{
+    lp_rows::parallel_rows_reduce();
+}

@@ -1,0 +1,7 @@
+pub mod Ids
+pub mod Lifts
+pub mod Pairs
+pub mod Ratios
+pub mod Starts
+pub mod Takings
+pub mod Turns

@@ -1,0 +1,83 @@
+-- When the numbers that undoing a pair computes have room.
+use Rattle.std.specs.Prelude.{◌≢◌, ℕ, pred, ◌<◌, ◌≤◌, IsTrue, List, [], ◌∷◌, length, drop, Option, ⊤}
+use Rattle.rational.specs.Number.{Number, zero_ℚ, neg_ℚ, ◌*ℚ◌}
+use Rattle.rational.specs.Division.{◌/ℚ◌}
+use Rattle.rational.specs.Lowest.{Fits}
+use Rattle.fractions.specs.FracWords.{SumFits}
+use Rattle.lp_model.specs.declared.terms.Term.{Term}
+use Rattle.lp_model.specs.Vectors.{Vector}
+use Rattle.lp_model.specs.Sparse.{dense, sparse_total}
+use Rattle.lp_model.specs.LinearProgram.{LinearProgram}
+use Rattle.lp_model.specs.Reductions.{Priced}
+use Rattle.lp_theory.specs.MetEnds.{is_from_row}
+use Rattle.lp_check.specs.DecidingPairs.{ReducedCostFits}
+use Rattle.undo_records.specs.declared.side.RowFate.TheVariants.{Kept, Dropped}
+use Rattle.undo_records.specs.declared.undo.Undo.{Undo}
+use Rattle.undo_records.specs.declared.undo.Undo.TheVariants.{SingletonRow, FixedColumn, ForcingRow, TightenBound, Doubleton, SlackSingleton, ParallelRows, ParallelColumns}
+use Rattle.undo_records.specs.Room.{TermsFit, LessProductFits, UndoFits}
+use Rattle.postsolve_dual.specs.LiftPair.{cost_left, furthest, is_off_bound, joint_cost, equation_dual, point_undone, lift_pair}
+
+-- the reduced cost of column j is the first without room
+pub record IsFirstPast (M : LinearProgram) (y : Vector) (j : ℕ) : Type 0 where
+  pub within : j < M.columns
+  pub before : (k : ℕ) → k < j → ReducedCostFits M y k
+  pub here : ReducedCostFits M y j → ⊥
+
+-- c less the sum of the terms
+abbrev pub CostLeftFits : Number → List Term → Vector → Type 0
+CostLeftFits c ts y = TermsFit zero_ℚ ts y × SumFits c (neg_ℚ (sparse_total ts y))
+
+-- each z_k / a_k of the terms
+abbrev pub RatiosFit : List Term → Vector → Type 0
+RatiosFit [] z = ⊤
+RatiosFit (e ∷ es) z = Fits (z e.id /ℚ e.value) × RatiosFit es z
+
+-- each z_k - a_k t of the terms
+abbrev pub TakenFits : List Term → Number → Vector → Type 0
+TakenFits [] t z = ⊤
+TakenFits (e ∷ es) t z = LessProductFits (z e.id) e.value t × TakenFits es t z
+
+-- d = z_j / a_j and y + d, and each z_k - a_k d
+abbrev pub HandedFits : ℕ → List Term → Number → Vector → Type 0
+HandedFits j ts y z = Fits (z j /ℚ dense ts j) × SumFits y (z j /ℚ dense ts j) × TakenFits ts (z j /ℚ dense ts j) z
+
+-- z + (b/a) dj
+abbrev pub JointFits : Number → Number → Number → Number → Type 0
+JointFits a b dj z = Fits (b /ℚ a) × Fits ((b /ℚ a) *ℚ dj) × SumFits z ((b /ℚ a) *ℚ dj)
+
+-- the dual t of the equation, and what it leaves of the costs of its two columns
+abbrev pub EquationFits : Number → Number → Option Number → Option Number → Number → Number → Number → Type 0
+EquationFits a b l u x z dj = JointFits a b dj z × Fits (equation_dual a b l u x z dj)
+    × LessProductFits dj a (equation_dual a b l u x z dj) × LessProductFits (joint_cost a b dj z) b (equation_dual a b l u x z dj)
+
+-- the value of the kept row where its dual y isn't 0, and y / s where the row takes y over
+abbrev pub MultipleFits : Number → Option Number → Option Number → List Term → Vector → Number → Type 0
+MultipleFits s L U ts x y = (y ≢ zero_ℚ → TermsFit zero_ℚ ts x) × (IsTrue (is_from_row L U (sparse_total ts x) y) → Fits (y /ℚ s))
+
+-- what one undone record computes of duals and reduced costs, after the point
+abbrev pub DualsFit : Undo → Priced → Type 0
+DualsFit (SingletonRow i j a l u) p = IsTrue (is_from_row l u (p.x j) (p.z j)) → Fits (p.z j /ℚ a)
+DualsFit (FixedColumn j v c ts) p = CostLeftFits c ts p.y
+DualsFit (ForcingRow i side ts) p = RatiosFit ts p.z × TakenFits ts (furthest side zero_ℚ ts p.z) p.z
+DualsFit (TightenBound i j side b ts) p = IsTrue (is_off_bound side b (p.x j) (p.z j)) → HandedFits j ts (p.y i) p.z
+DualsFit (Doubleton i j k a b r l u c ts) p = CostLeftFits c ts p.y × EquationFits a b l u (p.x k) (p.z k) (cost_left c ts p.y)
+DualsFit (SlackSingleton j i a t L U l u Kept ts) p = Fits (a *ℚ p.y i) × SumFits (p.y i) t
+DualsFit (SlackSingleton j i a t L U l u Dropped ts) p = ⊤
+DualsFit (ParallelRows i k s L U ts) p = MultipleFits s L U ts p.x (p.y k)
+DualsFit (ParallelColumns j k s l u L U) p = Fits (s *ℚ p.z k)
+DualsFit other p = ⊤
+
+-- what one undone record computes, the point first
+abbrev pub PairFits : Undo → Priced → Type 0
+PairFits u p = UndoFits u p.x × DualsFit u (point_undone u p)
+
+-- the lift fits: each record, at what the records after it have made of the pair
+abbrev pub LiftPairFits : List Undo → Priced → Type 0
+LiftPairFits [] p = ⊤
+LiftPairFits (u ∷ us) p = LiftPairFits us p × PairFits u (lift_pair us p)
+
+-- it stops at record number `at`, from 1 on: those after it fit, and with it they don't
+pub record PairStopsAt (us : List Undo) (p : Priced) (at : ℕ) : Type 0 where
+  pub within : at ≤ length us
+  pub after : LiftPairFits (drop at us) p
+  pub here : LiftPairFits (drop (pred at) us) p → ⊥

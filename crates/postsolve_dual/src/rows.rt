@@ -1,0 +1,192 @@
+//! Undoings that give a dual to a row of inequalities.
+
+ghost use Rattle.std.specs.Prelude.{◌≡◌, ◌≢◌, ℕ, ◌<◌, length, true, IsTrue, IfOk, IsOk, OnOk, ◌↔◌, if◌then◌else◌};
+ghost use Rattle.rational.specs.Number.{zero_ℚ};
+ghost use Rattle.rational.specs.Division.{◌/ℚ◌};
+ghost use Rattle.rational.specs.Lowest.{Fits};
+ghost use Rattle.lp_model.specs.Vectors.{vector_of};
+ghost use Rattle.lp_model.specs.Sparse.{Ascends, dense, has, sparse_total};
+ghost use Rattle.lp_theory.specs.MetEnds.{is_from_row as is_from_row_of};
+ghost use Rattle.lp_rows.specs.EmptyRow.{undo_empty_row as empty_row_of};
+ghost use Rattle.lp_rows.specs.SingletonRow.{undo_singleton_row as singleton_row_of};
+ghost use Rattle.lp_rows.specs.ForcingRow.{set_for_row};
+ghost use Rattle.lp_rows.specs.TightenedBound.{handed_to_row};
+ghost use Rattle.undo_records.specs.Room.{TermsFit};
+ghost use Rattle.postsolve_dual.specs.Numbers.{IsSized, priced_of};
+ghost use Rattle.postsolve_dual.specs.LiftPair.{furthest, is_off_bound as is_off_bound_of, undo_multiple};
+ghost use Rattle.postsolve_dual.specs.PairRoom.{HandedFits, MultipleFits, RatiosFit, TakenFits};
+
+use crate::numbers::{is_from_row, is_off_bound};
+use crate::pair::PairBuf;
+use crate::terms::furthest_ratio;
+use fractions::Past;
+use fractions::ext::Ext;
+use fractions::frac::Frac;
+use lp_model::{Term, number_at};
+use postsolve_primal::{Range, sum_of_terms};
+use undo_records::Side;
+
+/// K1, K5: a row that asks nothing has the dual 0.
+pub fn undo_empty_row(pair: &mut PairBuf, row: u32)
+    requires { row < length pair.old.duals }
+    ensures sized { (m n : ℕ) → IsSized m n pair.old → IsSized m n pair.new }
+    ensures lifted { priced_of pair.new ≡ empty_row_of row (priced_of pair.old) }
+{
+    pair.set_dual(row, Frac::zero());
+}
+
+/// K2: the row takes the reduced cost over where the column holds it at an end that the row made.
+///
+/// # Errors
+/// [`Past`] exactly where the row takes it over, and the quotient is.
+pub fn undo_singleton_row(
+    pair: &mut PairBuf,
+    row: u32,
+    column: u32,
+    value: &Frac,
+    bounds: Range,
+) -> Result<(), Past>
+    requires row { row < length pair.old.duals }
+    requires column { column < length pair.old.point }
+    requires costs { length pair.old.reduced_costs ≡ length pair.old.point }
+    requires entry { value.now ≢ zero_ℚ }
+    ensures sized { (m n : ℕ) → IsSized m n pair.old → IsSized m n pair.new }
+    ensures lifted { OnOk result (priced_of pair.new ≡ singleton_row_of row column value.now bounds.lower bounds.upper (priced_of pair.old)) }
+    ensures fits { IsOk result ↔ (IsTrue (is_from_row_of bounds.lower bounds.upper (vector_of pair.old.point column) (vector_of pair.old.reduced_costs column)) → Fits (vector_of pair.old.reduced_costs column /ℚ value.now)) }
+{
+    let multiplier = pair.reduced_cost(column);
+    if is_from_row(bounds, &pair.value(column), &multiplier) {
+        let dual = multiplier.div(value)?;
+        pair.set_dual(row, dual);
+        pair.set_reduced_cost(column, Frac::zero());
+    } else {
+        pair.set_dual(row, Frac::zero());
+    }
+    Ok(())
+}
+
+/// K7: the row takes as much of the reduced costs that no column is left with one of the wrong sign.
+///
+/// # Errors
+/// [`Past`] exactly where a quotient, a product or a difference is.
+pub fn undo_forcing_row(
+    pair: &mut PairBuf,
+    row: u32,
+    side: Side,
+    entries: &[Term],
+) -> Result<(), Past>
+    requires row { row < length pair.old.duals }
+    requires entries { Ascends 0 (length pair.old.reduced_costs) entries.now }
+    ensures sized { (m n : ℕ) → IsSized m n pair.old → IsSized m n pair.new }
+    ensures lifted { OnOk result (priced_of pair.new ≡ set_for_row row (dense entries.now) (furthest side zero_ℚ entries.now (vector_of pair.old.reduced_costs)) (priced_of pair.old)) }
+    ensures fits { IsOk result ↔ (RatiosFit entries.now (vector_of pair.old.reduced_costs) × TakenFits entries.now (furthest side zero_ℚ entries.now (vector_of pair.old.reduced_costs)) (vector_of pair.old.reduced_costs)) }
+{
+    let dual = furthest_ratio(side, entries, pair.reduced_costs())?;
+    pair.take_row(entries, &dual)?;
+    pair.set_dual(row, dual);
+    Ok(())
+}
+
+/// A column's reduced cost goes to the row that made its bound, and the row's other columns pay for it.
+///
+/// # Errors
+/// [`Past`] exactly where a number on the way is.
+#[tactic(auto, using(crate::proofs::Ids::number_there))]
+fn hand_to_row(pair: &mut PairBuf, row: u32, column: u32, entries: &[Term]) -> Result<(), Past>
+    requires row { row < length pair.old.duals }
+    requires column { column < length pair.old.reduced_costs }
+    requires entries { Ascends 0 (length pair.old.reduced_costs) entries.now }
+    requires own { has column entries.now ≡ true }
+    ensures sized { (m n : ℕ) → IsSized m n pair.old → IsSized m n pair.new }
+    ensures lifted { OnOk result (priced_of pair.new ≡ handed_to_row row column (dense entries.now) (priced_of pair.old)) }
+    ensures fits { IsOk result ↔ HandedFits column entries.now (vector_of pair.old.duals row) (vector_of pair.old.reduced_costs) }
+{
+    let entry = number_at(entries, column as usize);
+    let change = pair.reduced_cost(column).div(&entry)?;
+    let dual = pair.dual(row).add(&change)?;
+    pair.take_row(entries, &change)?;
+    pair.set_dual(row, dual);
+    Ok(())
+}
+
+/// K8: the row takes the reduced cost over where the column isn't at its old bound.
+///
+/// # Errors
+/// [`Past`] exactly where the row takes it over, and a number on the way is.
+pub fn undo_tightened_bound(
+    pair: &mut PairBuf,
+    row: u32,
+    column: u32,
+    side: Side,
+    bound: &Ext,
+    entries: &[Term],
+) -> Result<(), Past>
+    requires row { row < length pair.old.duals }
+    requires column { column < length pair.old.point }
+    requires costs { length pair.old.reduced_costs ≡ length pair.old.point }
+    requires entries { Ascends 0 (length pair.old.point) entries.now }
+    requires own { has column entries.now ≡ true }
+    ensures sized { (m n : ℕ) → IsSized m n pair.old → IsSized m n pair.new }
+    ensures lifted { OnOk result (priced_of pair.new ≡ (if is_off_bound_of side bound.now (vector_of pair.old.point column) (vector_of pair.old.reduced_costs column) then handed_to_row row column (dense entries.now) (priced_of pair.old) else priced_of pair.old)) }
+    ensures fits { IsOk result ↔ (IsTrue (is_off_bound_of side bound.now (vector_of pair.old.point column) (vector_of pair.old.reduced_costs column)) → HandedFits column entries.now (vector_of pair.old.duals row) (vector_of pair.old.reduced_costs)) }
+{
+    let multiplier = pair.reduced_cost(column);
+    if is_off_bound(side, bound, &pair.value(column), &multiplier) {
+        hand_to_row(pair, row, column, entries)
+    } else {
+        Ok(())
+    }
+}
+
+/// Whether the side at which the kept row holds its dual came from its multiple. Where the dual is 0 no value is summed.
+///
+/// # Errors
+/// [`Past`] exactly where the dual isn't 0, and a product or a sum on the way is.
+#[tactic(auto, using(crate::proofs::Ids::ids_below))]
+fn is_from_multiple(
+    sides: Range,
+    entries: &[Term],
+    point: &[Frac],
+    dual: &Frac,
+) -> Result<bool, Past>
+    requires { Ascends 0 (length point.now) entries.now }
+    ensures value { IfOk result (λ b. b ≡ is_from_row_of sides.lower sides.upper (sparse_total entries.now (vector_of point.now)) dual.now) }
+    ensures fits { IsOk result ↔ (dual.now ≢ zero_ℚ → TermsFit zero_ℚ entries.now (vector_of point.now)) }
+{
+    if dual.is_zero() {
+        return Ok(false);
+    }
+    let value = sum_of_terms(entries, point)?;
+    Ok(is_from_row(sides, &value, dual))
+}
+
+/// K15: the deleted row takes the dual of the kept one over where that is held at a side of the deleted one.
+///
+/// # Errors
+/// [`Past`] exactly where a number on the way is.
+pub fn undo_parallel_rows(
+    pair: &mut PairBuf,
+    row: u32,
+    kept: u32,
+    factor: &Frac,
+    sides: Range,
+    entries: &[Term],
+) -> Result<(), Past>
+    requires row { row < length pair.old.duals }
+    requires kept { kept < length pair.old.duals }
+    requires factor { factor.now ≢ zero_ℚ }
+    requires entries { Ascends 0 (length pair.old.point) entries.now }
+    ensures sized { (m n : ℕ) → IsSized m n pair.old → IsSized m n pair.new }
+    ensures lifted { OnOk result (priced_of pair.new ≡ undo_multiple row kept factor.now sides.lower sides.upper (sparse_total entries.now (vector_of pair.old.point)) (priced_of pair.old)) }
+    ensures fits { IsOk result ↔ MultipleFits factor.now sides.lower sides.upper entries.now (vector_of pair.old.point) (vector_of pair.old.duals kept) }
+{
+    let dual = pair.dual(kept);
+    if is_from_multiple(sides, entries, pair.point(), &dual)? {
+        let taken = dual.div(factor)?;
+        pair.set_dual(kept, Frac::zero());
+        pair.set_dual(row, taken);
+    } else {
+        pair.set_dual(row, Frac::zero());
+    }
+    Ok(())
+}
