@@ -20,7 +20,7 @@ use Rattle.lp_model.specs.declared.terms.Term.{Term}
 use Rattle.lp_theory.specs.Activities.{greatest_rest, least_rest}
 use Rattle.lp_rows.specs.TightenedBound.{implied_lower, implied_upper, lower_bound_tightened, upper_bound_tightened}
 use Rattle.lp_rows.proofs.TightenedBound.{lower_bound_implied, upper_bound_implied}
-use Rattle.undo_records.specs.Walk.{ids_of, is_on}
+use Rattle.undo_records.specs.Ids.{ids_of, is_on}
 use Rattle.undo_records.specs.declared.side.Side.{Side}
 use Rattle.undo_records.specs.declared.side.Side.TheVariants.{Lower, Upper}
 use Rattle.problem_model.specs.declared.edit.Edit.{Edit}

@@ -58,7 +58,7 @@ edits p i = edits_by (if at_lower p i then Greatest else Least) p i
 
 -- the record keeps the side, and the row's entries
 abbrev pub record_by : Side → Sparse → ℕ → Undo
-record_by side p i = undo.ForcingRow i side (row_entries p i)
+record_by side p i = undo.ForcingRow (record { row = i; side = side; entries = row_entries p i })
 
 abbrev pub record_of : Sparse → ℕ → Undo
 record_of p i = record_by (if at_lower p i then Lower else Upper) p i

@@ -23,7 +23,7 @@ abbrev pub edits : Sparse → ℕ → List Edit
 edits p i = DeleteRow i ∷ []
 
 abbrev pub record_of : Sparse → ℕ → Undo
-record_of p i = undo.RedundantRow i
+record_of p i = undo.RedundantRow (record { row = i })
 
 -- nothing is computed for the change
 abbrev pub Computes : Sparse → ℕ → Type 0

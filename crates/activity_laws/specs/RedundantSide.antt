@@ -40,7 +40,7 @@ abbrev pub edits : Sparse → ℕ → List Edit
 edits p i = side_dropped (lower_is_kept (sides_at p i).lower (spans_of p i)) i (sides_at p i).lower (sides_at p i).upper ∷ []
 
 abbrev pub record_of : Sparse → ℕ → Undo
-record_of p i = undo.RedundantSide i
+record_of p i = undo.RedundantSide (record { row = i })
 
 -- nothing is computed for the change
 abbrev pub Computes : Sparse → ℕ → Type 0

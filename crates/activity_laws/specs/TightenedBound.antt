@@ -103,7 +103,7 @@ edits p i j side = bound_set side j (bounds_at p j) (new_bound p i j side) ∷ [
 
 -- the record keeps the old bound, and the row's entries
 abbrev pub record_of : Sparse → ℕ → ℕ → Side → Undo
-record_of p i j side = undo.TightenBound i j side (old_bound side (bounds_at p j).lower (bounds_at p j).upper) (row_entries p i)
+record_of p i j side = undo.TightenBound (record { row = i; column = j; side = side; bound = old_bound side (bounds_at p j).lower (bounds_at p j).upper; entries = row_entries p i })
 
 -- what is owed beside: b is strictly better than the old bound
 abbrev pub IsBetter : Side → Option Number → Number → Type 0

@@ -22,7 +22,7 @@ use row_spans::{Extreme, Span};
 use rule_words::Change;
 use sparse_problem::Problem;
 use std::alloc::{AllocError, Global};
-use undo_records::{Side, Undo};
+use undo_records::{ForcingRow, Side, Undo};
 
 /// Whether a side is finite, and is an activity.
 fn is_reached(side: &Ext, activity: &Ext) -> bool
@@ -161,7 +161,7 @@ fn record_at(alloc: Global, problem: &Problem, row: u32, side: Side) -> Result<U
     ensures { IfOk result (λ undo. undo ≡ record_by side problem.now row) }
 {
     let entries = problem.row_terms(alloc, row)?;
-    Ok(Undo::ForcingRow { row, side, entries })
+    Ok(Undo::ForcingRow(ForcingRow { row, side, entries }))
 }
 
 /// The change: the columns, in the row's order, and then the row.

@@ -25,7 +25,7 @@ use row_spans::{Extreme, Span};
 use rule_words::Change;
 use sparse_problem::Problem;
 use std::alloc::{AllocError, Global};
-use undo_records::{KeptEnd, SharedTerms, Side, Undo};
+use undo_records::{KeptEnd, SharedTerms, Side, TightenBound, Undo};
 
 /// Whether a row has two entries or more.
 #[tactic(auto, using(crate::proofs::Tightened::has_two_is))]
@@ -152,13 +152,13 @@ fn record_at(
 {
     let bounds = problem.bounds(column);
     let old = old_bound(side, &bounds.lower, &bounds.upper);
-    Ok(Undo::TightenBound {
+    Ok(Undo::TightenBound(TightenBound {
         row,
         column,
         side,
         bound: KeptEnd::new(alloc, old)?,
         entries: SharedTerms::new(alloc, problem.row_terms(alloc, row)?)?,
-    })
+    }))
 }
 
 /// The change: the bound becomes the one that the row implies.

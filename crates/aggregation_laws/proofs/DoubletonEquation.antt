@@ -26,7 +26,7 @@ use Rattle.lp_theory.specs.Elsewhere.{substituted}
 use Rattle.lp_substitutions.specs.DoubletonEquation.{IsDoubletonEquation, doubleton_offset, doubleton_substituted, image_lower, image_upper, substituted_by, undo_doubleton}
 use Rattle.lp_substitutions.proofs.DoubletonEquation.{doubleton_reduces}
 use Rattle.undo_records.specs.Lift.{undone}
-use Rattle.undo_records.specs.Walk.{ids_of, is_on}
+use Rattle.undo_records.specs.Ids.{ids_of, is_on}
 use Rattle.problem_model.specs.declared.edit.Edit.{Edit}
 use Rattle.problem_model.specs.declared.edit.Edit.TheVariants.{SetCost, SetBounds, AddOffset, DeleteRow, DeleteColumn}
 use Rattle.problem_model.specs.declared.line.Line.{Line}

@@ -11,7 +11,7 @@ use Rattle.lp_model.specs.EndTests.{is_fixed, is_in_order}
 use Rattle.lp_model.specs.Sparse.{dense, without}
 use Rattle.lp_model.specs.declared.terms.Term.{Term}
 use Rattle.lp_substitutions.specs.DoubletonEquation.{image_lower, image_upper}
-use Rattle.undo_records.specs.Room.{LessProductFits, QuotientFits}
+use Rattle.undo_records.specs.Fitting.{LessProductFits, QuotientFits}
 use Rattle.undo_records.specs.declared.undo.Undo.{Undo}
 use Rattle.undo_records.specs.declared.undo.Undo.TheVariants as undo
 use Rattle.problem_model.specs.declared.edit.Edit.{Edit}
@@ -108,7 +108,7 @@ edits p i j k =
 
 -- the record keeps the equation, k's old bounds, and the rest of column j
 abbrev pub record_of : Sparse → ℕ → ℕ → ℕ → Undo
-record_of p i j k = undo.Doubleton i j k (entry_at p i j) (entry_at p i k) (equal_of p i) (bounds_at p k).lower (bounds_at p k).upper (cost_at p j) (others p i j)
+record_of p i j k = undo.Doubleton (record { row = i; column = j; kept = k; value = entry_at p i j; kept_value = entry_at p i k; equal = equal_of p i; lower = (bounds_at p k).lower; upper = (bounds_at p k).upper; cost = cost_at p j; entries = others p i j })
 
 -- for a term: the products and differences
 pub record TermComputes (p : Sparse) (k : ℕ) (q s : Number) (t : Term) : Type 0 where

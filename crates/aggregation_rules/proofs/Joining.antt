@@ -11,7 +11,7 @@ use Rattle.rational.specs.Lowest.{Fits}
 use Rattle.lp_model.specs.declared.terms.Term.{Term}
 use Rattle.lp_model.specs.Sparse.{Ascends}
 use Rattle.lp_substitutions.specs.DoubletonEquation.{image_lower, image_upper}
-use Rattle.undo_records.specs.Room.{LessProductFits}
+use Rattle.undo_records.specs.Fitting.{LessProductFits}
 use Rattle.problem_model.specs.declared.edit.Edit.{Edit}
 use Rattle.problem_model.specs.Problems.{IsSparse, row_at, column_entries, bounds_at, cost_at}
 use Rattle.problem_model.specs.Sparse.{Sparse}

@@ -6,7 +6,7 @@ use Rattle.std.proofs.Math.Seq.{take-length}
 use Rattle.rational.specs.Number.{Number, zero_ℚ, ◌-ℚ◌, ◌*ℚ◌}
 use Rattle.lp_model.specs.declared.terms.Term.{Term}
 use Rattle.lp_model.specs.Sparse.{Ascends, dense}
-use Rattle.undo_records.specs.Room.{LessProductFits}
+use Rattle.undo_records.specs.Fitting.{LessProductFits}
 use Rattle.problem_model.specs.declared.edit.Edit.{Edit}
 use Rattle.problem_model.specs.declared.edit.Edit.TheVariants.{SetEntry}
 use Rattle.problem_model.specs.Problems.{row_at, column_at, column_entries}

@@ -5,7 +5,7 @@ use Rattle.rational.specs.Lowest.{Fits}
 use Rattle.fractions.specs.EndWords.{LessFits}
 use Rattle.lp_model.specs.Sparse.{dense}
 use Rattle.lp_model.specs.declared.terms.Term.{Term}
-use Rattle.undo_records.specs.Room.{LessProductFits}
+use Rattle.undo_records.specs.Fitting.{LessProductFits}
 use Rattle.problem_model.specs.Problems.{column_entries, sides_at}
 use Rattle.problem_model.specs.Sparse.{Sparse}
 

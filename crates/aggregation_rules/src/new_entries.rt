@@ -3,7 +3,7 @@
 ghost use Rattle.std.specs.Prelude.{◌≡◌, ◌↔◌, ◌++◌, ◌∷◌, ◌≤◌, [], ⊤, true, ℕ, length, map, All, IfOk, IsOk, OnOk, IsErrOf};
 ghost use Rattle.rational.specs.Number.{◌-ℚ◌, ◌*ℚ◌};
 ghost use Rattle.lp_model.specs.Sparse.{Ascends, dense};
-ghost use Rattle.undo_records.specs.Room.{LessProductFits};
+ghost use Rattle.undo_records.specs.Fitting.{LessProductFits};
 ghost use Rattle.problem_model.specs.Problems.{column_at, column_entries, row_at};
 ghost use Rattle.problem_model.specs.declared.edit.Edit.TheVariants as edit;
 ghost use Rattle.problem_model.specs.declared.refusal.Refusal.TheVariants as Refusal;

@@ -4,7 +4,7 @@ ghost use Rattle.std.specs.Prelude.{◌≡◌, ◌≢◌, ◌↔◌, true, IfOk,
 ghost use Rattle.rational.specs.Number.{zero_ℚ, ◌-ℚ◌, ◌*ℚ◌};
 ghost use Rattle.rational.specs.Division.{◌/ℚ◌};
 ghost use Rattle.rational.specs.Lowest.{Fits};
-ghost use Rattle.undo_records.specs.Room.{LessProductFits};
+ghost use Rattle.undo_records.specs.Fitting.{LessProductFits};
 ghost use Rattle.problem_model.specs.Problems.{column_at, cost_at};
 
 use crate::equation::Equation;

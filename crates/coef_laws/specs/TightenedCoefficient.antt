@@ -133,7 +133,7 @@ abbrev pub edits : Sparse → ℕ → ℕ → List Edit
 edits p i j = edits_by i j (tightening_of p i j)
 
 abbrev pub record_of : Sparse → ℕ → ℕ → Undo
-record_of p i j = undo.TightenCoefficient i j
+record_of p i j = undo.TightenCoefficient (record { row = i; column = j })
 
 -- what is owed beside: the coefficient comes strictly closer to 0, and doesn't become 0
 abbrev pub Shrinks : Sparse → ℕ → ℕ → Type 0

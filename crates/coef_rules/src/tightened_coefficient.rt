@@ -23,7 +23,7 @@ use row_spans::Span;
 use rule_words::Change;
 use sparse_problem::Problem;
 use std::alloc::{AllocError, Global};
-use undo_records::{Side, Undo};
+use undo_records::{Side, TightenCoefficient, Undo};
 
 /// A term with the bounds of its column.
 fn span_of(problem: &Problem, term: &Term) -> Span
@@ -155,6 +155,6 @@ pub fn change(alloc: Global, problem: &Problem, row: u32, column: u32) -> Result
     let sides = side_set(tightening.side, row, new_limit(&tightening)?);
     Ok(Change {
         edits: edits_for(alloc, row, column, coefficient, sides)?,
-        undo: Undo::TightenCoefficient { row, column },
+        undo: Undo::TightenCoefficient(TightenCoefficient { row, column }),
     })
 }

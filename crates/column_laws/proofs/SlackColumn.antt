@@ -24,7 +24,8 @@ use Rattle.lp_theory.specs.Nearest.{InOrder}
 use Rattle.lp_theory.proofs.ActivityLaws.{lt_false}
 use Rattle.lp_substitutions.specs.SlackColumnSingleton.{IsEquation, IsSlackColumnSingleton, equation_offset, moved_lower, moved_upper, slack_column_deleted, slack_column_offset, slack_column_point, slack_row_deleted, slack_value, undo_slack_column}
 use Rattle.lp_substitutions.proofs.SlackColumnSingleton.{slack_dropped_reduces, slack_kept_reduces}
-use Rattle.undo_records.specs.Lift.{near, near_within, undone}
+use Rattle.undo_records.specs.Near.{near, near_within}
+use Rattle.undo_records.specs.Lift.{undone}
 use Rattle.undo_records.specs.declared.side.RowFate.{RowFate}
 use Rattle.undo_records.specs.declared.side.RowFate.TheVariants.{Dropped, Kept}
 use Rattle.problem_model.specs.declared.edit.Edit.TheVariants.{DeleteColumn, DeleteRow, SetSides}

@@ -23,8 +23,9 @@ use Rattle.lp_theory.specs.Elsewhere.{IsColumnSingleton, products}
 use Rattle.lp_theory.specs.Nearest.{InOrder}
 use Rattle.lp_theory.proofs.SparseSums.{sparse-dense}
 use Rattle.undo_records.specs.Lift.{undone}
-use Rattle.undo_records.specs.Sound.{AreOthers, IsEntry, IsSound}
-use Rattle.undo_records.specs.Walk.{NamesLive, after, ids_of, is_on}
+use Rattle.undo_records.specs.Ids.{AreOthers, IsEntry, ids_of, is_on}
+use Rattle.undo_records.specs.Sound.{IsSound}
+use Rattle.undo_records.specs.Walk.{NamesLive, after}
 use Rattle.undo_records.specs.declared.undo.Undo.{Undo}
 use Rattle.problem_model.specs.declared.edit.Edit.{Edit}
 use Rattle.problem_model.specs.declared.edit.Edit.TheVariants.{AddOffset, DeleteColumn, DeleteRow}

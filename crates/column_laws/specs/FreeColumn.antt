@@ -74,7 +74,7 @@ edits p j i = costs_less p j i ++ AddOffset (gain_of p j i) ∷ DeleteColumn j �
 
 -- the record keeps the row
 abbrev pub record_of : Sparse → ℕ → ℕ → Undo
-record_of p j i = undo.FreeSingleton j i (entry_of p j i) (value_of p j i) (price_of p j i) (others_of p j i)
+record_of p j i = undo.FreeSingleton (record { column = j; row = i; value = entry_of p j i; at = value_of p j i; price = price_of p j i; entries = others_of p j i })
 
 -- the costs and the product are computed
 abbrev pub Computes : Sparse → ℕ → ℕ → Type 0

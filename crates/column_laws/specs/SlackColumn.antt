@@ -75,7 +75,7 @@ fate_of None None = Dropped
 fate_of l u = Kept
 
 abbrev pub record_by : Sparse → ℕ → ℕ → RowFate → Undo
-record_by p j i fate = undo.SlackSingleton j i (entry_of p j i) (price_of p j i) (sides_at p i).lower (sides_at p i).upper (bounds_at p j).lower (bounds_at p j).upper fate (others_of p j i)
+record_by p j i fate = undo.SlackSingleton (record { column = j; row = i; value = entry_of p j i; price = price_of p j i; lower_side = (sides_at p i).lower; upper_side = (sides_at p i).upper; lower = (bounds_at p j).lower; upper = (bounds_at p j).upper; fate = fate; entries = others_of p j i })
 
 abbrev pub record_of : Sparse → ℕ → ℕ → Undo
 record_of p j i = record_by p j i (fate_of (new_lower p j i) (new_upper p j i))

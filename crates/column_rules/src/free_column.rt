@@ -26,7 +26,7 @@ use row_spans::exact::quotient;
 use rule_words::Change;
 use sparse_problem::Problem;
 use std::alloc::{AllocError, Global};
-use undo_records::{NumberApart, Side, Undo};
+use undo_records::{FreeSingleton, NumberApart, Side, Undo};
 
 /// Whether both sides are the same.
 fn are_same(sides: &Sides) -> bool
@@ -183,16 +183,16 @@ fn record_for(
     entry: SoleEntry,
     value: Frac,
 ) -> Result<Undo, AllocError>
-    ensures { IfOk result (λ u. u ≡ undone.FreeSingleton column row entry.value value entry.price entry.others) }
+    ensures { IfOk result (λ u. u ≡ undone.FreeSingleton (record { column = column; row = row; value = entry.value; at = value; price = entry.price; entries = entry.others })) }
 {
-    Ok(Undo::FreeSingleton {
+    Ok(Undo::FreeSingleton(FreeSingleton {
         column,
         row,
         value: NumberApart::new(alloc, entry.value)?,
         at: NumberApart::new(alloc, value)?,
         price: NumberApart::new(alloc, entry.price)?,
         entries: entry.others,
-    })
+    }))
 }
 
 /// The change.

@@ -20,7 +20,7 @@ use problem_model::{Bounds, Edit, Refusal, Sides};
 use rule_words::Change;
 use sparse_problem::Problem;
 use std::alloc::{AllocError, Global};
-use undo_records::{EndApart, NumberApart, RowFate, TermsApart, Undo};
+use undo_records::{EndApart, NumberApart, RowFate, SlackSingleton, TermsApart, Undo};
 
 /// Whether nothing is crossed, and a column is continuous, has its one entry in this row, and has no cost if the row is no equation.
 pub fn is_enabled(problem: &Problem, column: u32, row: u32) -> bool
@@ -178,7 +178,7 @@ fn record_for(
 {
     let sides = problem.sides(row);
     let bounds = problem.bounds(column);
-    Ok(Undo::SlackSingleton {
+    Ok(Undo::SlackSingleton(SlackSingleton {
         column,
         row,
         value: NumberApart::new(alloc, entry.value)?,
@@ -189,7 +189,7 @@ fn record_for(
         upper: EndApart::new(alloc, bounds.upper)?,
         fate,
         entries: TermsApart::new(alloc, entry.others)?,
-    })
+    }))
 }
 
 /// The change.

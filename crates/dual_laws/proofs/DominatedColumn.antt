@@ -15,7 +15,7 @@ use Rattle.lp_model.specs.Sparse.{dense, has}
 use Rattle.lp_model.specs.Vectors.{Vector}
 use Rattle.lp_columns.specs.DominatedColumn.{IsDominatedColumn}
 use Rattle.lp_columns.proofs.DominatedColumn.{dominated_column}
-use Rattle.undo_records.specs.Walk.{ids_of, is_on}
+use Rattle.undo_records.specs.Ids.{ids_of, is_on}
 use Rattle.problem_model.specs.declared.edit.Edit.TheVariants.{SetBounds}
 use Rattle.problem_model.specs.declared.part.Contents.{Contents}
 use Rattle.problem_model.specs.declared.part.Contents.TheVariants as holding

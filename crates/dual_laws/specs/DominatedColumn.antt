@@ -9,7 +9,7 @@ use Rattle.lp_model.specs.Sparse.{dense, has}
 use Rattle.lp_model.specs.Vectors.{Vector}
 use Rattle.undo_records.specs.declared.undo.Undo.{Undo}
 use Rattle.undo_records.specs.declared.undo.Undo.TheVariants as undo
-use Rattle.undo_records.specs.Walk.{ids_of}
+use Rattle.undo_records.specs.Ids.{ids_of}
 use Rattle.problem_model.specs.declared.edit.Edit.{Edit}
 use Rattle.problem_model.specs.declared.edit.Edit.TheVariants.{SetBounds}
 use Rattle.problem_model.specs.declared.part.Contents.{Contents}
@@ -71,7 +71,7 @@ abbrev pub edits : Sparse → ℕ → List Edit
 edits p k = SetBounds k (bounds_at p k).lower (bounds_at p k).lower ∷ []
 
 abbrev pub record_of : ℕ → ℕ → ℕ → Undo
-record_of i j k = undo.Dominated i j k
+record_of i j k = undo.Dominated (record { row = i; better = j; column = k })
 
 -- nothing is computed
 abbrev pub Computes : Sparse → ℕ → Type 0

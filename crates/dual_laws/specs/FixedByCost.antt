@@ -52,7 +52,7 @@ abbrev pub edits : Sparse → ℕ → List Edit
 edits p j = SetBounds j (place_of p j) (place_of p j) ∷ []
 
 abbrev pub record_of : Sparse → ℕ → Undo
-record_of p j = undo.DualFix j
+record_of p j = undo.DualFix (record { column = j })
 
 -- nothing is computed
 abbrev pub Computes : Sparse → ℕ → Type 0

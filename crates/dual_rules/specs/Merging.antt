@@ -4,7 +4,7 @@ use Rattle.std.specs.List.{filter}
 use Rattle.rational.specs.Number.{Number, zero_ℚ}
 use Rattle.lp_model.specs.declared.terms.Term.{Term}
 use Rattle.lp_model.specs.Sparse.{dense, has}
-use Rattle.undo_records.specs.Walk.{ids_of}
+use Rattle.undo_records.specs.Ids.{ids_of}
 use Rattle.problem_model.specs.declared.part.Contents.{Contents}
 use Rattle.problem_model.specs.declared.part.Part.{Part}
 use Rattle.problem_model.specs.declared.part.Part.TheVariants as part

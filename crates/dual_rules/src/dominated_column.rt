@@ -22,7 +22,7 @@ use problem_model::{Edit, Part, Refusal, Sides};
 use rule_words::Change;
 use sparse_problem::Problem;
 use std::alloc::{AllocError, Global};
-use undo_records::Undo;
+use undo_records::{Dominated, Undo};
 
 /// The most entries of a row of which pairs are looked at.
 const MOST_ENTRIES: usize = 64;
@@ -138,11 +138,11 @@ pub fn change(
         .map_err(AllocError::from)?;
     Ok(Change {
         edits,
-        undo: Undo::Dominated {
+        undo: Undo::Dominated(Dominated {
             row,
             better: column,
             column: other,
-        },
+        }),
     })
 }
 

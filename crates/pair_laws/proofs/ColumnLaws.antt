@@ -18,32 +18,40 @@ use Rattle.lp_columns.specs.ParallelColumns.{part_of, undo_parallel_columns_pair
 use Rattle.lp_substitutions.specs.DoubletonEquation.{undo_doubleton, undo_doubleton_pair}
 use Rattle.lp_substitutions.specs.FreeColumnSingleton.{undo_free_column_pair}
 use Rattle.lp_substitutions.specs.SlackColumnSingleton.{slack_value, undo_slack_column_kept, undo_slack_column_dropped}
+use Rattle.undo_records.specs.declared.side.RowFate.{RowFate}
 use Rattle.undo_records.specs.declared.side.RowFate.TheVariants.{Kept, Dropped}
-use Rattle.undo_records.specs.declared.undo.Undo.TheVariants.{FixedColumn, Doubleton, FreeSingleton, SlackSingleton, ParallelColumns}
-use Rattle.undo_records.specs.Lift.{near_within}
-use Rattle.postsolve_dual.specs.LiftPair.{undone_pair}
+use Rattle.undo_records.specs.declared.kinds.fixed_column.FixedColumn.{FixedColumn}
+use Rattle.undo_records.specs.declared.kinds.doubleton.Doubleton.{Doubleton}
+use Rattle.undo_records.specs.declared.kinds.free_singleton.FreeSingleton.{FreeSingleton}
+use Rattle.undo_records.specs.declared.kinds.slack_singleton.SlackSingleton.{SlackSingleton}
+use Rattle.undo_records.specs.declared.kinds.parallel_columns.ParallelColumns.{ParallelColumns}
+use Rattle.undo_records.specs.declared.undo.Undo.TheVariants as kind
+use Rattle.undo_records.specs.Near.{near_within}
+use Rattle.postsolve_dual.specs.LiftPair.{undone_pair, undo_slack, point_undone}
 use Rattle.pair_laws.proofs.Lists.{sparse-turned, near_same}
 
-pub fixed : (M : LinearProgram) (j : ℕ) (v : Number) (ts : List Term) (p : Priced) → Ascends 0 M.rows ts → dense ts ≡ (λ i. M.coefficient i j) → undone_pair (FixedColumn j v (M.costs j) ts) p ≡ undo_fixed_column_pair M j v p
-fixed M j v ts p a e = ap (λ s. record p { x = undo_fixed_column j v p.x; z = put p.z j (M.costs j -ℚ s) }) (sparse-turned M.rows ts p.y a ∙ ap (λ f. total M.rows (λ i. p.y i *ℚ f i)) e)
+pub fixed : (M : LinearProgram) (r : FixedColumn) (p : Priced) → r.cost ≡ M.costs r.column → Ascends 0 M.rows r.entries → dense r.entries ≡ (λ i. M.coefficient i r.column) → undone_pair (kind.FixedColumn r) p ≡ undo_fixed_column_pair M r.column r.value p
+fixed M r p c a e =
+    ap (λ d. record p { x = undo_fixed_column r.column r.value p.x; z = put p.z r.column (d -ℚ sparse_total r.entries p.y) }) c
+    ∙ ap (λ s. record p { x = undo_fixed_column r.column r.value p.x; z = put p.z r.column (M.costs r.column -ℚ s) }) (sparse-turned M.rows r.entries p.y a ∙ ap (λ f. total M.rows (λ i. p.y i *ℚ f i)) e)
 
 -- the pair with the sum q of the duals times the entries, where the kept column's value is w
-abbrev equation_with : ℕ → ℕ → ℕ → Number → Number → Number → Option Number → Option Number → Number → Priced → Number → Number → Priced
-equation_with i j k a b r l u c p q w =
-    let dj : Number = c -ℚ q in
-    let dk : Number = p.z k +ℚ (b /ℚ a) *ℚ dj in
-    let t : Number = if is_from_row l u w (p.z k) then dk /ℚ b else dj /ℚ a in
-    record { x = undo_doubleton j k a b r p.x; y = put p.y i t; z = put (put p.z j (dj -ℚ a *ℚ t)) k (dk -ℚ b *ℚ t) }
+abbrev equation_with : Doubleton → Priced → Number → Number → Priced
+equation_with r p q w =
+    let dj : Number = r.cost -ℚ q in
+    let dk : Number = p.z r.kept +ℚ (r.kept_value /ℚ r.value) *ℚ dj in
+    let t : Number = if is_from_row r.lower r.upper w (p.z r.kept) then dk /ℚ r.kept_value else dj /ℚ r.value in
+    record { x = undo_doubleton r.column r.kept r.value r.kept_value r.equal p.x; y = put p.y r.row t; z = put (put p.z r.column (dj -ℚ r.value *ℚ t)) r.kept (dk -ℚ r.kept_value *ℚ t) }
 
-pub equation : (n i j k : ℕ) (a b r : Number) (l u : Option Number) (c : Number) (ts : List Term) (p : Priced) → Ascends 0 n ts → j ≢ k → undone_pair (Doubleton i j k a b r l u c ts) p ≡ undo_doubleton_pair i j k a b r l u c n (dense ts) p
-equation n i j k a b r l u c ts p ascends apart =
-    let other : k ≢ j = λ e. apart (sym e) in
-    let value = put-other p.x j ((r -ℚ b *ℚ p.x k) /ℚ a) k other in
-    ap (equation_with i j k a b r l u c p (sparse_total ts p.y)) value
-    ∙ ap (λ q. equation_with i j k a b r l u c p q (p.x k)) (sparse-turned n ts p.y ascends)
+pub equation : (n : ℕ) (r : Doubleton) (p : Priced) → Ascends 0 n r.entries → r.column ≢ r.kept → undone_pair (kind.Doubleton r) p ≡ undo_doubleton_pair r.row r.column r.kept r.value r.kept_value r.equal r.lower r.upper r.cost n (dense r.entries) p
+equation n r p ascends apart =
+    let other : r.kept ≢ r.column = λ e. apart (sym e) in
+    let value = put-other p.x r.column ((r.equal -ℚ r.kept_value *ℚ p.x r.kept) /ℚ r.value) r.kept other in
+    ap (equation_with r p (sparse_total r.entries p.y)) value
+    ∙ ap (λ q. equation_with r p q (p.x r.kept)) (sparse-turned n r.entries p.y ascends)
 
-pub free : (n j i : ℕ) (a s t : Number) (ts : List Term) (p : Priced) → Ascends 0 n ts → undone_pair (FreeSingleton j i a s t ts) p ≡ undo_free_column_pair j i a s t n (dense ts) p
-free n j i a s t ts p ascends = ap (λ q. record { x = put p.x j ((s -ℚ q) /ℚ a); y = put p.y i t; z = put p.z j zero_ℚ }) (sparse-dense ts 0 n p.x ascends)
+pub free : (n : ℕ) (r : FreeSingleton) (p : Priced) → Ascends 0 n r.entries → undone_pair (kind.FreeSingleton r) p ≡ undo_free_column_pair r.column r.row r.value r.at r.price n (dense r.entries) p
+free n r p ascends = ap (λ q. record { x = put p.x r.column ((r.at -ℚ q) /ℚ r.value); y = put p.y r.row r.price; z = put p.z r.column zero_ℚ }) (sparse-dense r.entries 0 n p.x ascends)
 
 slack_same : (n j : ℕ) (a : Number) (L U l u : Option Number) (ts : List Term) (p : Priced) → Ascends 0 n ts
     → near_within a (less L (sparse_total ts p.x)) (less U (sparse_total ts p.x)) l u ≡ slack_value a L U l u (products n (dense ts) p.x)
@@ -51,16 +59,20 @@ slack_same n j a L U l u ts p ascends =
     ap (λ q. near_within a (less L q) (less U q) l u) (sparse-dense ts 0 n p.x ascends)
     ∙ near_same (meet_low l (lower_over a (less L (products n (dense ts) p.x)) (less U (products n (dense ts) p.x)))) (meet_high u (upper_over a (less L (products n (dense ts) p.x)) (less U (products n (dense ts) p.x))))
 
-pub kept : (n j i : ℕ) (a t : Number) (L U l u : Option Number) (ts : List Term) (p : Priced) → Ascends 0 n ts → undone_pair (SlackSingleton j i a t L U l u Kept ts) p ≡ undo_slack_column_kept j i a t L U l u n (dense ts) p
-kept n j i a t L U l u ts p ascends = ap (λ q. record { x = put p.x j q; y = put p.y i (p.y i +ℚ t); z = put p.z j (neg_ℚ (a *ℚ p.y i)) }) (slack_same n j a L U l u ts p ascends)
+pub kept : (n : ℕ) (r : SlackSingleton) (p : Priced) → r.fate ≡ Kept → Ascends 0 n r.entries → undone_pair (kind.SlackSingleton r) p ≡ undo_slack_column_kept r.column r.row r.value r.price r.lower_side r.upper_side r.lower r.upper n (dense r.entries) p
+kept n r p e ascends =
+    ap (λ (f : RowFate). undo_slack f r.row r.column r.value r.price (point_undone (kind.SlackSingleton r) p)) e
+    ∙ ap (λ q. record { x = put p.x r.column q; y = put p.y r.row (p.y r.row +ℚ r.price); z = put p.z r.column (neg_ℚ (r.value *ℚ p.y r.row)) }) (slack_same n r.column r.value r.lower_side r.upper_side r.lower r.upper r.entries p ascends)
 
-pub dropped : (n j i : ℕ) (a t : Number) (L U l u : Option Number) (ts : List Term) (p : Priced) → Ascends 0 n ts → undone_pair (SlackSingleton j i a t L U l u Dropped ts) p ≡ undo_slack_column_dropped j i a t L U l u n (dense ts) p
-dropped n j i a t L U l u ts p ascends = ap (λ q. record { x = put p.x j q; y = put p.y i t; z = put p.z j zero_ℚ }) (slack_same n j a L U l u ts p ascends)
+pub dropped : (n : ℕ) (r : SlackSingleton) (p : Priced) → r.fate ≡ Dropped → Ascends 0 n r.entries → undone_pair (kind.SlackSingleton r) p ≡ undo_slack_column_dropped r.column r.row r.value r.price r.lower_side r.upper_side r.lower r.upper n (dense r.entries) p
+dropped n r p e ascends =
+    ap (λ (f : RowFate). undo_slack f r.row r.column r.value r.price (point_undone (kind.SlackSingleton r) p)) e
+    ∙ ap (λ q. record { x = put p.x r.column q; y = put p.y r.row r.price; z = put p.z r.column zero_ℚ }) (slack_same n r.column r.value r.lower_side r.upper_side r.lower r.upper r.entries p ascends)
 
 part_same : (s : Number) (l u m n : Option Number) (q : Number) → near_within s (minus_ends (Some q) n) (minus_ends (Some q) m) l u ≡ part_of s l u m n q
 part_same s l u m n q = near_same (meet_low l (lower_over s (minus_ends (Some q) n) (minus_ends (Some q) m))) (meet_high u (upper_over s (minus_ends (Some q) n) (minus_ends (Some q) m)))
 
-pub merged : (j k : ℕ) (s : Number) (l u m n : Option Number) (p : Priced) → undone_pair (ParallelColumns j k s l u m n) p ≡ undo_parallel_columns_pair j k s l u m n p
-merged j k s l u m n p = ap (λ q. record p { x = put (put p.x j q) k (p.x k -ℚ s *ℚ q); z = put p.z j (s *ℚ p.z k) }) (part_same s l u m n (p.x k))
+pub merged : (r : ParallelColumns) (p : Priced) → undone_pair (kind.ParallelColumns r) p ≡ undo_parallel_columns_pair r.column r.kept r.factor r.lower r.upper r.kept_lower r.kept_upper p
+merged r p = ap (λ q. record p { x = put (put p.x r.column q) r.kept (p.x r.kept -ℚ r.factor *ℚ q); z = put p.z r.column (r.factor *ℚ p.z r.kept) }) (part_same r.factor r.lower r.upper r.kept_lower r.kept_upper (p.x r.kept))
 
 pub ruleset column_laws = (fixed, equation, free, kept, dropped, merged)

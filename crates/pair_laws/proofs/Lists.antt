@@ -9,7 +9,7 @@ use Rattle.lp_model.specs.Vectors.{Vector}
 use Rattle.lp_model.specs.Sparse.{Ascends, dense, sparse_total}
 use Rattle.lp_theory.proofs.SparseSums.{sparse-dense}
 use Rattle.lp_theory.specs.Nearest as nearest
-use Rattle.undo_records.specs.Lift.{near}
+use Rattle.undo_records.specs.Near.{near}
 
 -- the products the other way round
 pub sparse-turned : (n : ℕ) (ts : List Term) (y : Vector) → Ascends 0 n ts → sparse_total ts y ≡ total n (λ i. y i *ℚ dense ts i)

@@ -1,8 +1,5 @@
 -- Rows.
-use Rattle.std.proofs.Common.{◌≡◌, ℕ, List, refl, ap}
-use Rattle.std.specs.Prelude.{Option}
-use Rattle.rational.specs.Number.{Number}
-use Rattle.lp_model.specs.declared.terms.Term.{Term}
+use Rattle.std.proofs.Common.{◌≡◌, ℕ, refl, ap}
 use Rattle.lp_model.specs.Sparse.{Ascends, dense}
 use Rattle.lp_model.specs.Reductions.{Priced}
 use Rattle.lp_theory.proofs.SparseSums.{sparse-dense}
@@ -11,26 +8,32 @@ use Rattle.lp_rows.specs.RedundantRow.{undo_redundant_row}
 use Rattle.lp_rows.specs.SingletonRow.{undo_singleton_row}
 use Rattle.lp_rows.specs.TightenedBound.{undo_lower_bound_tightened, undo_upper_bound_tightened}
 use Rattle.lp_rows.specs.ParallelRows.{undo_parallel_rows}
+use Rattle.undo_records.specs.declared.side.Side.{Side}
 use Rattle.undo_records.specs.declared.side.Side.TheVariants.{Lower, Upper}
-use Rattle.undo_records.specs.declared.undo.Undo.TheVariants.{EmptyRow, SingletonRow, RedundantRow, TightenBound, ParallelRows}
-use Rattle.postsolve_dual.specs.LiftPair.{undone_pair, undo_multiple}
+use Rattle.undo_records.specs.declared.kinds.empty_row.EmptyRow.{EmptyRow}
+use Rattle.undo_records.specs.declared.kinds.singleton_row.SingletonRow.{SingletonRow}
+use Rattle.undo_records.specs.declared.kinds.redundant_row.RedundantRow.{RedundantRow}
+use Rattle.undo_records.specs.declared.kinds.tighten_bound.TightenBound.{TightenBound}
+use Rattle.undo_records.specs.declared.kinds.parallel_rows.ParallelRows.{ParallelRows}
+use Rattle.undo_records.specs.declared.undo.Undo.TheVariants as kind
+use Rattle.postsolve_dual.specs.LiftPair.{undone_pair, undo_bound, undo_multiple}
 
-pub empty : (i : ℕ) (p : Priced) → undone_pair (EmptyRow i) p ≡ undo_empty_row i p
-empty i p = refl
+pub empty : (r : EmptyRow) (p : Priced) → undone_pair (kind.EmptyRow r) p ≡ undo_empty_row r.row p
+empty r p = refl
 
-pub singleton : (i j : ℕ) (a : Number) (l u : Option Number) (p : Priced) → undone_pair (SingletonRow i j a l u) p ≡ undo_singleton_row i j a l u p
-singleton i j a l u p = refl
+pub singleton : (r : SingletonRow) (p : Priced) → undone_pair (kind.SingletonRow r) p ≡ undo_singleton_row r.row r.column r.value r.lower r.upper p
+singleton r p = refl
 
-pub redundant : (i : ℕ) (p : Priced) → undone_pair (RedundantRow i) p ≡ undo_redundant_row i p
-redundant i p = refl
+pub redundant : (r : RedundantRow) (p : Priced) → undone_pair (kind.RedundantRow r) p ≡ undo_redundant_row r.row p
+redundant r p = refl
 
-pub tightened_lower : (i j : ℕ) (b : Option Number) (ts : List Term) (p : Priced) → undone_pair (TightenBound i j Lower b ts) p ≡ undo_lower_bound_tightened i j b (dense ts) p
-tightened_lower i j b ts p = refl
+pub tightened_lower : (r : TightenBound) (p : Priced) → r.side ≡ Lower → undone_pair (kind.TightenBound r) p ≡ undo_lower_bound_tightened r.row r.column r.bound (dense r.entries) p
+tightened_lower r p e = ap (λ (s : Side). undo_bound s r.row r.column r.bound r.entries p) e
 
-pub tightened_upper : (i j : ℕ) (b : Option Number) (ts : List Term) (p : Priced) → undone_pair (TightenBound i j Upper b ts) p ≡ undo_upper_bound_tightened i j b (dense ts) p
-tightened_upper i j b ts p = refl
+pub tightened_upper : (r : TightenBound) (p : Priced) → r.side ≡ Upper → undone_pair (kind.TightenBound r) p ≡ undo_upper_bound_tightened r.row r.column r.bound (dense r.entries) p
+tightened_upper r p e = ap (λ (s : Side). undo_bound s r.row r.column r.bound r.entries p) e
 
-pub parallel : (n i k : ℕ) (s : Number) (l u : Option Number) (ts : List Term) (p : Priced) → Ascends 0 n ts → undone_pair (ParallelRows i k s l u ts) p ≡ undo_parallel_rows n i k s l u (dense ts) p
-parallel n i k s l u ts p a = ap (λ v. undo_multiple i k s l u v p) (sparse-dense ts 0 n p.x a)
+pub parallel : (n : ℕ) (r : ParallelRows) (p : Priced) → Ascends 0 n r.entries → undone_pair (kind.ParallelRows r) p ≡ undo_parallel_rows n r.row r.kept r.factor r.lower r.upper (dense r.entries) p
+parallel n r p a = ap (λ v. undo_multiple r.row r.kept r.factor r.lower r.upper v p) (sparse-dense r.entries 0 n p.x a)
 
 pub ruleset row_laws = (empty, singleton, redundant, tightened_lower, tightened_upper, parallel)

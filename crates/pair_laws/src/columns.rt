@@ -8,7 +8,6 @@ ghost use Rattle.lp_model.specs.LinearProgram.{LinearProgram};
 ghost use Rattle.lp_model.specs.Reductions.{ReducesPairs};
 ghost use Rattle.lp_model.specs.Sparse.{Ascends, dense};
 ghost use Rattle.lp_model.specs.Optimality.{Continuous};
-ghost use Rattle.rational.specs.Division.{◌/ℚ◌};
 ghost use Rattle.rational.specs.Total.{put};
 ghost use Rattle.lp_columns.specs.FixedColumn.{IsFixedColumn, fixed_column_deleted};
 ghost use Rattle.lp_columns.specs.RoundBounds.{IsWholeColumn, bounds_rounded};
@@ -20,26 +19,26 @@ ghost use Rattle.lp_substitutions.specs.DoubletonEquation.{IsDoubletonEquation, 
 ghost use Rattle.lp_substitutions.specs.FreeColumnSingleton.{IsFreeColumnSingleton, free_column_deleted};
 ghost use Rattle.lp_substitutions.specs.SlackColumnSingleton.{IsSlackColumnSingleton, IsRowLeftFree, slack_column_deleted, slack_row_deleted};
 ghost use Rattle.undo_records.specs.declared.side.RowFate.TheVariants.{Kept, Dropped};
-ghost use Rattle.undo_records.specs.declared.undo.Undo.TheVariants.{FixedColumn, RoundBounds, DualFix, Dominated, Doubleton, FreeSingleton, SlackSingleton, ParallelColumns, EmptyColumn};
 ghost use Rattle.postsolve_dual.specs.LiftPair.{undone_pair};
+ghost use Rattle.pair_laws.specs.Records.{fixed_column, round_bounds, dual_fix, dominated_column, doubleton, free_singleton, slack_singleton, parallel_columns, empty_column};
 
 /// K3: a fixed column of a program without whole columns; the list has the column's entries.
 pub fn fixed_columns_keep_pairs()
-    ensures { (M : LinearProgram) (j : ℕ) (v : Number) (ts : List Term) → Continuous M → IsFixedColumn M j v → Ascends 0 M.rows ts → dense ts ≡ (λ i. M.coefficient i j) → ReducesPairs Min M (fixed_column_deleted M j v) (undone_pair (FixedColumn j v (M.costs j) ts)) }
+    ensures { (M : LinearProgram) (j : ℕ) (v : Number) (ts : List Term) → Continuous M → IsFixedColumn M j v → Ascends 0 M.rows ts → dense ts ≡ (λ i. M.coefficient i j) → ReducesPairs Min M (fixed_column_deleted M j v) (undone_pair (fixed_column M j v ts)) }
 {
     lp_columns::laws::fixed_columns_reduce();
 }
 
 /// K4: rounded bounds. Their column has to be whole, so that nothing meets the optimality conditions.
 pub fn rounded_bounds_keep_pairs()
-    ensures { (M : LinearProgram) (j : ℕ) → IsWholeColumn M j → ReducesPairs Min M (bounds_rounded M j) (undone_pair (RoundBounds j)) }
+    ensures { (M : LinearProgram) (j : ℕ) → IsWholeColumn M j → ReducesPairs Min M (bounds_rounded M j) (undone_pair (round_bounds j)) }
 {}
 
 /// K10, K11, K17: columns that were put at a bound.
 pub fn placed_columns_keep_pairs()
-    ensures cost { (M : LinearProgram) (j : ℕ) (v : Number) → IsFixedByCost M j v → ReducesPairs Min M (column_fixed_by_cost M j v) (undone_pair (DualFix j)) }
-    ensures dominated { (M : LinearProgram) (i j k : ℕ) (v : Number) → IsDominatedColumn M j k v → ReducesPairs Min M (dominated_column_fixed M k v) (undone_pair (Dominated i j k)) }
-    ensures empty { (M : LinearProgram) (j : ℕ) (v : Number) → IsEmptyColumn M j v → ReducesPairs Min M (empty_column_fixed M j v) (undone_pair (EmptyColumn j)) }
+    ensures cost { (M : LinearProgram) (j : ℕ) (v : Number) → IsFixedByCost M j v → ReducesPairs Min M (column_fixed_by_cost M j v) (undone_pair (dual_fix j)) }
+    ensures dominated { (M : LinearProgram) (i j k : ℕ) (v : Number) → IsDominatedColumn M j k v → ReducesPairs Min M (dominated_column_fixed M k v) (undone_pair (dominated_column i j k)) }
+    ensures empty { (M : LinearProgram) (j : ℕ) (v : Number) → IsEmptyColumn M j v → ReducesPairs Min M (empty_column_fixed M j v) (undone_pair (empty_column j)) }
 {
     lp_columns::laws::columns_fixed_by_cost_reduce();
     lp_columns::laws::dominated_columns_reduce();
@@ -49,7 +48,7 @@ pub fn placed_columns_keep_pairs()
 /// K12: an equation of two columns; the list has the other entries of the one that was deleted.
 pub fn equations_keep_pairs()
     ensures { (M : LinearProgram) (i j k : ℕ) (r : Number) (ts : List Term) → IsDoubletonEquation M i j k r → Ascends 0 M.rows ts → dense ts ≡ put (λ m. M.coefficient m j) i zero_ℚ
-        → ReducesPairs Min M (doubleton_substituted M i j k r) (undone_pair (Doubleton i j k (M.coefficient i j) (M.coefficient i k) r (M.lower_bound k) (M.upper_bound k) (M.costs j) ts)) }
+        → ReducesPairs Min M (doubleton_substituted M i j k r) (undone_pair (doubleton M i j k r ts)) }
 {
     lp_substitutions::doubleton_equations_reduce();
 }
@@ -57,7 +56,7 @@ pub fn equations_keep_pairs()
 /// K13: a column with one entry that was deleted with its row; the list has the row's other entries.
 pub fn free_singletons_keep_pairs()
     ensures { (M : LinearProgram) (j i : ℕ) (s : Number) (ts : List Term) → IsFreeColumnSingleton M j i s → Ascends 0 M.columns ts → dense ts ≡ put (M.coefficient i) j zero_ℚ
-        → ReducesPairs Min M (free_column_deleted M j i) (undone_pair (FreeSingleton j i (M.coefficient i j) s (M.costs j /ℚ M.coefficient i j) ts)) }
+        → ReducesPairs Min M (free_column_deleted M j i) (undone_pair (free_singleton M j i s ts)) }
 {
     lp_substitutions::free_column_singletons_reduce();
 }
@@ -65,16 +64,16 @@ pub fn free_singletons_keep_pairs()
 /// K14: a column with one entry, a slack of its row; the list has the row's other entries.
 pub fn slack_singletons_keep_pairs()
     ensures kept { (M : LinearProgram) (j i : ℕ) (ts : List Term) → IsSlackColumnSingleton M j i → Ascends 0 M.columns ts → dense ts ≡ put (M.coefficient i) j zero_ℚ
-        → ReducesPairs Min M (slack_column_deleted M j i) (undone_pair (SlackSingleton j i (M.coefficient i j) (M.costs j /ℚ M.coefficient i j) (M.lower_side i) (M.upper_side i) (M.lower_bound j) (M.upper_bound j) Kept ts)) }
+        → ReducesPairs Min M (slack_column_deleted M j i) (undone_pair (slack_singleton M j i Kept ts)) }
     ensures dropped { (M : LinearProgram) (j i : ℕ) (ts : List Term) → IsRowLeftFree M j i → Ascends 0 M.columns ts → dense ts ≡ put (M.coefficient i) j zero_ℚ
-        → ReducesPairs Min M (slack_row_deleted M j i) (undone_pair (SlackSingleton j i (M.coefficient i j) (M.costs j /ℚ M.coefficient i j) (M.lower_side i) (M.upper_side i) (M.lower_bound j) (M.upper_bound j) Dropped ts)) }
+        → ReducesPairs Min M (slack_row_deleted M j i) (undone_pair (slack_singleton M j i Dropped ts)) }
 {
     lp_substitutions::slack_column_singletons_reduce();
 }
 
 /// K16: a column that was merged into one that it is a multiple of.
 pub fn parallel_columns_keep_pairs()
-    ensures { (M : LinearProgram) (j k : ℕ) (s : Number) → AreParallelColumns M j k s → ReducesPairs Min M (parallel_columns_joined M j k s) (undone_pair (ParallelColumns j k s (M.lower_bound j) (M.upper_bound j) (M.lower_bound k) (M.upper_bound k))) }
+    ensures { (M : LinearProgram) (j k : ℕ) (s : Number) → AreParallelColumns M j k s → ReducesPairs Min M (parallel_columns_joined M j k s) (undone_pair (parallel_columns M j k s)) }
 {
     lp_columns::laws::parallel_columns_reduce();
 }

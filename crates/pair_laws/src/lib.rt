@@ -2,15 +2,15 @@
 //! law of the reduction is one of the undoing.
 //!
 //! The functions do nothing when they run: each states a law, and its check proves it. A list of terms by ascending id stands for the
-//! row or the column whose numbers it has. [`rows`] and [`columns`] state the laws of the reductions for their records.
+//! row or the column whose numbers it has. [`rows`] and [`columns`] state the laws of the reductions for their records, which `specs/`
+//! defines.
 #![tactic(auto)]
 
 pub mod columns;
 pub mod rows;
 
-ghost use Rattle.std.specs.Prelude.{◌≡◌, ◌≢◌, ℕ, List, [], ◌∷◌, ◌++◌, length, Option};
+ghost use Rattle.std.specs.Prelude.{◌≡◌, ◌≢◌, ℕ, List, [], ◌∷◌, ◌++◌, length};
 ghost use Rattle.rational.specs.Number.{Number};
-ghost use Rattle.lp_model.specs.declared.terms.Term.{Term};
 ghost use Rattle.lp_model.specs.LinearProgram.{LinearProgram};
 ghost use Rattle.lp_model.specs.Sparse.{Ascends, dense};
 ghost use Rattle.lp_model.specs.declared.program.Sense.{Sense};
@@ -30,7 +30,24 @@ ghost use Rattle.lp_substitutions.specs.FreeColumnSingleton.{undo_free_column_pa
 ghost use Rattle.lp_substitutions.specs.SlackColumnSingleton.{undo_slack_column_kept, undo_slack_column_dropped};
 ghost use Rattle.undo_records.specs.declared.side.Side.TheVariants.{Lower, Upper};
 ghost use Rattle.undo_records.specs.declared.side.RowFate.TheVariants.{Kept, Dropped};
-ghost use Rattle.undo_records.specs.declared.undo.Undo.TheVariants.{EmptyRow, SingletonRow, FixedColumn, RoundBounds, RedundantRow, RedundantSide, ForcingRow, TightenBound, TightenCoefficient, DualFix, Dominated, Doubleton, FreeSingleton, SlackSingleton, ParallelRows, ParallelColumns, EmptyColumn};
+ghost use Rattle.undo_records.specs.declared.kinds.empty_row.EmptyRow.{EmptyRow};
+ghost use Rattle.undo_records.specs.declared.kinds.singleton_row.SingletonRow.{SingletonRow};
+ghost use Rattle.undo_records.specs.declared.kinds.fixed_column.FixedColumn.{FixedColumn};
+ghost use Rattle.undo_records.specs.declared.kinds.round_bounds.RoundBounds.{RoundBounds};
+ghost use Rattle.undo_records.specs.declared.kinds.redundant_row.RedundantRow.{RedundantRow};
+ghost use Rattle.undo_records.specs.declared.kinds.redundant_side.RedundantSide.{RedundantSide};
+ghost use Rattle.undo_records.specs.declared.kinds.forcing_row.ForcingRow.{ForcingRow};
+ghost use Rattle.undo_records.specs.declared.kinds.tighten_bound.TightenBound.{TightenBound};
+ghost use Rattle.undo_records.specs.declared.kinds.tighten_coefficient.TightenCoefficient.{TightenCoefficient};
+ghost use Rattle.undo_records.specs.declared.kinds.dual_fix.DualFix.{DualFix};
+ghost use Rattle.undo_records.specs.declared.kinds.dominated.Dominated.{Dominated};
+ghost use Rattle.undo_records.specs.declared.kinds.doubleton.Doubleton.{Doubleton};
+ghost use Rattle.undo_records.specs.declared.kinds.free_singleton.FreeSingleton.{FreeSingleton};
+ghost use Rattle.undo_records.specs.declared.kinds.slack_singleton.SlackSingleton.{SlackSingleton};
+ghost use Rattle.undo_records.specs.declared.kinds.parallel_rows.ParallelRows.{ParallelRows};
+ghost use Rattle.undo_records.specs.declared.kinds.parallel_columns.ParallelColumns.{ParallelColumns};
+ghost use Rattle.undo_records.specs.declared.kinds.empty_column.EmptyColumn.{EmptyColumn};
+ghost use Rattle.undo_records.specs.declared.undo.Undo.TheVariants as kind;
 ghost use Rattle.lp_model.specs.ProgramData.{ProgramData};
 ghost use Rattle.lp_model.specs.Turning.{in_sense};
 ghost use Rattle.undo_records.specs.Postsolve.{Postsolve};
@@ -40,65 +57,65 @@ ghost use Rattle.postsolve_dual.specs.LiftPair.{lift_pair, undone_pair};
 /// K1, K2, K5: rows that were deleted.
 #[tactic(auto, using(crate::proofs::RowLaws::row_laws))]
 pub fn deleted_rows_are_undone()
-    ensures empty { (i : ℕ) (p : Priced) → undone_pair (EmptyRow i) p ≡ undo_empty_row i p }
-    ensures singleton { (i j : ℕ) (a : Number) (l u : Option Number) (p : Priced) → undone_pair (SingletonRow i j a l u) p ≡ undo_singleton_row i j a l u p }
-    ensures redundant { (i : ℕ) (p : Priced) → undone_pair (RedundantRow i) p ≡ undo_redundant_row i p }
+    ensures empty { (r : EmptyRow) (p : Priced) → undone_pair (kind.EmptyRow r) p ≡ undo_empty_row r.row p }
+    ensures singleton { (r : SingletonRow) (p : Priced) → undone_pair (kind.SingletonRow r) p ≡ undo_singleton_row r.row r.column r.value r.lower r.upper p }
+    ensures redundant { (r : RedundantRow) (p : Priced) → undone_pair (kind.RedundantRow r) p ≡ undo_redundant_row r.row p }
 {}
 
-/// K7: a forcing row of n columns, whose entries the list has.
+/// K7: a forcing row of n columns, whose entries the record has.
 #[tactic(auto, using(crate::proofs::ForcedLaws::forced_laws))]
 pub fn forcing_rows_are_undone()
-    ensures lower { (n i : ℕ) (ts : List Term) (p : Priced) → Ascends 0 n ts → undone_pair (ForcingRow i Lower ts) p ≡ undo_forced_at_lower_side n i (dense ts) p }
-    ensures upper { (n i : ℕ) (ts : List Term) (p : Priced) → Ascends 0 n ts → undone_pair (ForcingRow i Upper ts) p ≡ undo_forced_at_upper_side n i (dense ts) p }
+    ensures lower { (n : ℕ) (r : ForcingRow) (p : Priced) → r.side ≡ Lower → Ascends 0 n r.entries → undone_pair (kind.ForcingRow r) p ≡ undo_forced_at_lower_side n r.row (dense r.entries) p }
+    ensures upper { (n : ℕ) (r : ForcingRow) (p : Priced) → r.side ≡ Upper → Ascends 0 n r.entries → undone_pair (kind.ForcingRow r) p ≡ undo_forced_at_upper_side n r.row (dense r.entries) p }
 {}
 
-/// K8: a bound that a row tightened, whose entries the list has.
+/// K8: a bound that a row tightened, whose entries the record has.
 #[tactic(auto, using(crate::proofs::RowLaws::row_laws))]
 pub fn tightened_bounds_are_undone()
-    ensures lower { (i j : ℕ) (b : Option Number) (ts : List Term) (p : Priced) → undone_pair (TightenBound i j Lower b ts) p ≡ undo_lower_bound_tightened i j b (dense ts) p }
-    ensures upper { (i j : ℕ) (b : Option Number) (ts : List Term) (p : Priced) → undone_pair (TightenBound i j Upper b ts) p ≡ undo_upper_bound_tightened i j b (dense ts) p }
+    ensures lower { (r : TightenBound) (p : Priced) → r.side ≡ Lower → undone_pair (kind.TightenBound r) p ≡ undo_lower_bound_tightened r.row r.column r.bound (dense r.entries) p }
+    ensures upper { (r : TightenBound) (p : Priced) → r.side ≡ Upper → undone_pair (kind.TightenBound r) p ≡ undo_upper_bound_tightened r.row r.column r.bound (dense r.entries) p }
 {}
 
-/// K15: of two parallel rows of n columns the list has the entries of the one that was kept.
+/// K15: of two parallel rows of n columns the record has the entries of the one that was kept.
 #[tactic(auto, using(crate::proofs::RowLaws::row_laws))]
 pub fn parallel_rows_are_undone()
-    ensures { (n i k : ℕ) (s : Number) (l u : Option Number) (ts : List Term) (p : Priced) → Ascends 0 n ts → undone_pair (ParallelRows i k s l u ts) p ≡ undo_parallel_rows n i k s l u (dense ts) p }
+    ensures { (n : ℕ) (r : ParallelRows) (p : Priced) → Ascends 0 n r.entries → undone_pair (kind.ParallelRows r) p ≡ undo_parallel_rows n r.row r.kept r.factor r.lower r.upper (dense r.entries) p }
 {}
 
-/// K3: a fixed column, whose entries the list has.
+/// K3: a fixed column, whose cost and entries the record has.
 #[tactic(auto, using(crate::proofs::ColumnLaws::column_laws))]
 pub fn fixed_columns_are_undone()
-    ensures { (M : LinearProgram) (j : ℕ) (v : Number) (ts : List Term) (p : Priced) → Ascends 0 M.rows ts → dense ts ≡ (λ i. M.coefficient i j) → undone_pair (FixedColumn j v (M.costs j) ts) p ≡ undo_fixed_column_pair M j v p }
+    ensures { (M : LinearProgram) (r : FixedColumn) (p : Priced) → r.cost ≡ M.costs r.column → Ascends 0 M.rows r.entries → dense r.entries ≡ (λ i. M.coefficient i r.column) → undone_pair (kind.FixedColumn r) p ≡ undo_fixed_column_pair M r.column r.value p }
 {}
 
-/// K12: an equation of two columns; the list has the other entries of the one that was deleted, in n rows.
+/// K12: an equation of two columns; the record has the other entries of the one that was deleted, in n rows.
 #[tactic(auto, using(crate::proofs::ColumnLaws::column_laws))]
 pub fn equations_are_undone()
-    ensures { (n i j k : ℕ) (a b r : Number) (l u : Option Number) (c : Number) (ts : List Term) (p : Priced) → Ascends 0 n ts → j ≢ k → undone_pair (Doubleton i j k a b r l u c ts) p ≡ undo_doubleton_pair i j k a b r l u c n (dense ts) p }
+    ensures { (n : ℕ) (r : Doubleton) (p : Priced) → Ascends 0 n r.entries → r.column ≢ r.kept → undone_pair (kind.Doubleton r) p ≡ undo_doubleton_pair r.row r.column r.kept r.value r.kept_value r.equal r.lower r.upper r.cost n (dense r.entries) p }
 {}
 
-/// K13, K14: a column with one entry; the list has the other entries of its row, of n columns.
+/// K13, K14: a column with one entry; the record has the other entries of its row, of n columns.
 #[tactic(auto, using(crate::proofs::ColumnLaws::column_laws))]
 pub fn column_singletons_are_undone()
-    ensures free { (n j i : ℕ) (a s t : Number) (ts : List Term) (p : Priced) → Ascends 0 n ts → undone_pair (FreeSingleton j i a s t ts) p ≡ undo_free_column_pair j i a s t n (dense ts) p }
-    ensures kept { (n j i : ℕ) (a t : Number) (L U l u : Option Number) (ts : List Term) (p : Priced) → Ascends 0 n ts → undone_pair (SlackSingleton j i a t L U l u Kept ts) p ≡ undo_slack_column_kept j i a t L U l u n (dense ts) p }
-    ensures dropped { (n j i : ℕ) (a t : Number) (L U l u : Option Number) (ts : List Term) (p : Priced) → Ascends 0 n ts → undone_pair (SlackSingleton j i a t L U l u Dropped ts) p ≡ undo_slack_column_dropped j i a t L U l u n (dense ts) p }
+    ensures free { (n : ℕ) (r : FreeSingleton) (p : Priced) → Ascends 0 n r.entries → undone_pair (kind.FreeSingleton r) p ≡ undo_free_column_pair r.column r.row r.value r.at r.price n (dense r.entries) p }
+    ensures kept { (n : ℕ) (r : SlackSingleton) (p : Priced) → r.fate ≡ Kept → Ascends 0 n r.entries → undone_pair (kind.SlackSingleton r) p ≡ undo_slack_column_kept r.column r.row r.value r.price r.lower_side r.upper_side r.lower r.upper n (dense r.entries) p }
+    ensures dropped { (n : ℕ) (r : SlackSingleton) (p : Priced) → r.fate ≡ Dropped → Ascends 0 n r.entries → undone_pair (kind.SlackSingleton r) p ≡ undo_slack_column_dropped r.column r.row r.value r.price r.lower_side r.upper_side r.lower r.upper n (dense r.entries) p }
 {}
 
 /// K16: two parallel columns.
 #[tactic(auto, using(crate::proofs::ColumnLaws::column_laws))]
 pub fn parallel_columns_are_undone()
-    ensures { (j k : ℕ) (s : Number) (l u m n : Option Number) (p : Priced) → undone_pair (ParallelColumns j k s l u m n) p ≡ undo_parallel_columns_pair j k s l u m n p }
+    ensures { (r : ParallelColumns) (p : Priced) → undone_pair (kind.ParallelColumns r) p ≡ undo_parallel_columns_pair r.column r.kept r.factor r.lower r.upper r.kept_lower r.kept_upper p }
 {}
 
 /// K4, K6, K9, K10, K11, K17: nothing is to be undone.
 pub fn other_records_leave_pairs()
-    ensures bounds { (j : ℕ) (p : Priced) → undone_pair (RoundBounds j) p ≡ p }
-    ensures side { (i : ℕ) (p : Priced) → undone_pair (RedundantSide i) p ≡ p }
-    ensures coefficient { (i j : ℕ) (p : Priced) → undone_pair (TightenCoefficient i j) p ≡ p }
-    ensures dual { (j : ℕ) (p : Priced) → undone_pair (DualFix j) p ≡ p }
-    ensures dominated { (i j k : ℕ) (p : Priced) → undone_pair (Dominated i j k) p ≡ p }
-    ensures empty { (j : ℕ) (p : Priced) → undone_pair (EmptyColumn j) p ≡ p }
+    ensures bounds { (r : RoundBounds) (p : Priced) → undone_pair (kind.RoundBounds r) p ≡ p }
+    ensures side { (r : RedundantSide) (p : Priced) → undone_pair (kind.RedundantSide r) p ≡ p }
+    ensures coefficient { (r : TightenCoefficient) (p : Priced) → undone_pair (kind.TightenCoefficient r) p ≡ p }
+    ensures dual { (r : DualFix) (p : Priced) → undone_pair (kind.DualFix r) p ≡ p }
+    ensures dominated { (r : Dominated) (p : Priced) → undone_pair (kind.Dominated r) p ≡ p }
+    ensures empty { (r : EmptyColumn) (p : Priced) → undone_pair (kind.EmptyColumn r) p ≡ p }
 {}
 
 /// A pair that is started, lifted and turned back is the placed one, lifted in the sense of the file.

@@ -26,8 +26,10 @@ use Rattle.lp_theory.specs.Nearest as nearest
 use Rattle.lp_theory.specs.Nearest.{InOrder}
 use Rattle.lp_columns.specs.ParallelColumns.{AreContinuous, AreParallelColumns, AreWhole, HasWholeBounds, parallel_columns_joined, part_of, undo_parallel_columns}
 use Rattle.lp_columns.proofs.ParallelColumns.{parallel_columns}
-use Rattle.undo_records.specs.Lift.{near, near_within, part, undone}
-use Rattle.undo_records.specs.Walk.{is_on}
+use Rattle.undo_records.specs.Near.{near, near_within}
+use Rattle.undo_records.specs.ParallelColumns.{part}
+use Rattle.undo_records.specs.Lift.{undone}
+use Rattle.undo_records.specs.Ids.{is_on}
 use Rattle.problem_model.specs.declared.edit.Edit.TheVariants.{DeleteColumn, SetBounds}
 use Rattle.problem_model.specs.declared.part.Contents.{Contents}
 use Rattle.problem_model.specs.declared.part.Contents.TheVariants as holding

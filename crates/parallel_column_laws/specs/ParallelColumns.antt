@@ -96,7 +96,7 @@ edits p j k = SetBounds k (joined_lower p j k) (joined_upper p j k) ∷ DeleteCo
 
 -- the record keeps the bounds of both columns
 abbrev pub record_of : Sparse → ℕ → ℕ → Undo
-record_of p j k = undo.ParallelColumns j k (factor p j k) (bounds_at p j).lower (bounds_at p j).upper (bounds_at p k).lower (bounds_at p k).upper
+record_of p j k = undo.ParallelColumns (record { column = j; kept = k; factor = factor p j k; lower = (bounds_at p j).lower; upper = (bounds_at p j).upper; kept_lower = (bounds_at p k).lower; kept_upper = (bounds_at p k).upper })
 
 -- a product and its sum with a bound are computed where both are finite
 abbrev pub EndComputes : Option Number → Option Number → Type 0

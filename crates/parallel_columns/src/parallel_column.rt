@@ -17,7 +17,7 @@ use problem_model::{Edit, Refusal};
 use rule_words::Change;
 use sparse_problem::Problem;
 use std::alloc::{AllocError, Global};
-use undo_records::{EndApart, NumberApart, Undo};
+use undo_records::{EndApart, NumberApart, ParallelColumns, Undo};
 
 /// Whether two columns are live, and differ.
 fn are_two(problem: &Problem, column: u32, other: u32) -> bool
@@ -98,11 +98,11 @@ fn record_for(
 ) -> Result<Undo, AllocError>
     requires first { (column_at problem.now column).live ≡ true }
     requires second { (column_at problem.now other).live ≡ true }
-    ensures { IfOk result (λ u. u ≡ undone.ParallelColumns column other factor.now (bounds_at problem.now column).lower (bounds_at problem.now column).upper (bounds_at problem.now other).lower (bounds_at problem.now other).upper) }
+    ensures { IfOk result (λ u. u ≡ undone.ParallelColumns (record { column = column; kept = other; factor = factor.now; lower = (bounds_at problem.now column).lower; upper = (bounds_at problem.now column).upper; kept_lower = (bounds_at problem.now other).lower; kept_upper = (bounds_at problem.now other).upper })) }
 {
     let leaving = problem.bounds(column);
     let kept = problem.bounds(other);
-    Ok(Undo::ParallelColumns {
+    Ok(Undo::ParallelColumns(ParallelColumns {
         column,
         kept: other,
         factor: NumberApart::new(alloc, *factor)?,
@@ -110,7 +110,7 @@ fn record_for(
         upper: EndApart::new(alloc, leaving.upper)?,
         kept_lower: EndApart::new(alloc, kept.lower)?,
         kept_upper: EndApart::new(alloc, kept.upper)?,
-    })
+    }))
 }
 
 /// The change: the kept column gets the bounds of itself and the factor times the other one, which goes.

@@ -18,7 +18,7 @@ use Rattle.lp_rows.specs.ParallelRows.{AreParallelRows, parallel_rows_joined, sh
 use Rattle.lp_rows.proofs.ParallelRows.{parallel_rows}
 use Rattle.fractions.specs.declared.Numbers.{Numbers}
 use Rattle.undo_records.specs.Lift.{undone}
-use Rattle.undo_records.specs.Walk.{is_on}
+use Rattle.undo_records.specs.Ids.{is_on}
 use Rattle.problem_model.specs.declared.edit.Edit.TheVariants.{DeleteRow, SetSides}
 use Rattle.problem_model.specs.declared.part.Contents.TheVariants as holding
 use Rattle.problem_model.specs.Allowed.{AreAllowed}

@@ -58,7 +58,7 @@ edits p i k = SetSides k (joined_lower p i k) (joined_upper p i k) ∷ DeleteRow
 
 -- the record keeps row k and its old sides
 abbrev pub record_of : Sparse → ℕ → ℕ → Undo
-record_of p i k = undo.ParallelRows i k (factor p i k) (sides_at p k).lower (sides_at p k).upper (row_entries p k)
+record_of p i k = undo.ParallelRows (record { row = i; kept = k; factor = factor p i k; lower = (sides_at p k).lower; upper = (sides_at p k).upper; entries = row_entries p k })
 
 -- a finite side of row i over s is computed
 abbrev pub SideComputes : Number → Option Number → Type 0

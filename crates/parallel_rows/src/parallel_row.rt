@@ -16,7 +16,7 @@ use problem_model::{Edit, Refusal};
 use rule_words::Change;
 use sparse_problem::Problem;
 use std::alloc::{AllocError, Global};
-use undo_records::{EndApart, NumberApart, SharedTerms, Undo};
+use undo_records::{EndApart, NumberApart, ParallelRows, SharedTerms, Undo};
 
 /// Whether two rows are live, and differ.
 fn are_two(problem: &Problem, row: u32, other: u32) -> bool
@@ -79,17 +79,17 @@ fn record_for(
     factor: &Frac,
 ) -> Result<Undo, AllocError>
     requires { (row_at problem.now other).live ≡ true }
-    ensures { IfOk result (λ u. u ≡ undone.ParallelRows row other factor.now (sides_at problem.now other).lower (sides_at problem.now other).upper (row_entries problem.now other)) }
+    ensures { IfOk result (λ u. u ≡ undone.ParallelRows (record { row = row; kept = other; factor = factor.now; lower = (sides_at problem.now other).lower; upper = (sides_at problem.now other).upper; entries = row_entries problem.now other })) }
 {
     let kept = problem.sides(other);
-    Ok(Undo::ParallelRows {
+    Ok(Undo::ParallelRows(ParallelRows {
         row,
         kept: other,
         factor: NumberApart::new(alloc, *factor)?,
         lower: EndApart::new(alloc, kept.lower)?,
         upper: EndApart::new(alloc, kept.upper)?,
         entries: SharedTerms::new(alloc, problem.row_terms(alloc, other)?)?,
-    })
+    }))
 }
 
 /// The change: the kept row gets its sides met with those of the other one over the factor, and that one goes.

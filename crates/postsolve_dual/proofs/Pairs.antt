@@ -1,9 +1,7 @@
 -- Pairs from what was set in them.
-use Rattle.std.proofs.Common.{◌≡◌, ◌↔◌, ℕ, List, sym, ap, ◌∙◌, subst}
-use Rattle.std.specs.Prelude.{IsTrue, Option}
+use Rattle.std.proofs.Common.{◌≡◌, ℕ, List, sym, ap, ◌∙◌, subst}
 use Rattle.rational.specs.Number.{Number, neg_ℚ, ◌+ℚ◌, ◌-ℚ◌, ◌*ℚ◌}
 use Rattle.rational.specs.Division.{◌/ℚ◌}
-use Rattle.rational.specs.Lowest.{Fits}
 use Rattle.rational.specs.Total.{put}
 use Rattle.lp_model.specs.declared.terms.Term.{Term}
 use Rattle.lp_model.specs.Vectors.{Vector, vector_of}
@@ -11,12 +9,9 @@ use Rattle.lp_model.specs.Sparse.{dense}
 use Rattle.lp_model.specs.Turning.{turned}
 use Rattle.lp_model.specs.declared.program.Sense.{Sense}
 use Rattle.lp_model.specs.declared.program.Sense.TheVariants.{Max}
-use Rattle.postsolve_primal.specs.declared.ends.Range.{Range}
-use Rattle.lp_theory.specs.MetEnds.{is_from_row}
 use Rattle.lp_rows.specs.ForcingRow.{set_for_row}
 use Rattle.lp_rows.specs.TightenedBound.{handed_to_row}
 use Rattle.postsolve_dual.specs.Numbers.{PairNumbers, priced_of, turned_for}
-use Rattle.postsolve_dual.specs.PairRoom.{MultipleFits}
 
 -- t times the row is taken, and then row i has the dual t
 pub forced_is : (old mid new : PairNumbers) (i : ℕ) (ts : List Term) (t u : Number) → t ≡ u → mid.point ≡ old.point → mid.duals ≡ old.duals
@@ -55,19 +50,3 @@ turned_is s old xs ds cs ys zs os ps es eo ed ec ey ez =
       y = (ey ∙ ap {B = Vector} (λ (vs : List Number) k. neg_ℚ (vector_of vs k)) ed) w;
       z = (ez ∙ ap {B = Vector} (λ (vs : List Number) k. neg_ℚ (vector_of vs k)) ec) w;
     }))
-
--- room with the numbers as the record holds them
-pub multiple_fits : (R : Type 0) (q s : Number) (l L u U : Option Number) (sides : Range) (us ts : List Term) (x : Vector) (y : Number) → q ≡ s → l ≡ L → u ≡ U → sides ≡ record { lower = l; upper = u } → us ≡ ts
-    → R ↔ MultipleFits q sides.lower sides.upper us x y → R ↔ MultipleFits s L U ts x y
-multiple_fits R q s l L u U sides us ts x y eq el eu es et h =
-    subst (λ c. R ↔ MultipleFits c L U ts x y) eq
-    (subst (λ e. R ↔ MultipleFits q e U ts x y) (ap (λ (r : Range). r.lower) es ∙ el)
-    (subst (λ e. R ↔ MultipleFits q sides.lower e ts x y) (ap (λ (r : Range). r.upper) es ∙ eu)
-    (subst (λ vs. R ↔ MultipleFits q sides.lower sides.upper vs x y) et h)))
-
-pub singleton_fits : (R : Type 0) (q a : Number) (l L u U : Option Number) (bounds : Range) (x z : Number) → q ≡ a → l ≡ L → u ≡ U → bounds ≡ record { lower = l; upper = u }
-    → R ↔ (IsTrue (is_from_row bounds.lower bounds.upper x z) → Fits (z /ℚ q)) → R ↔ (IsTrue (is_from_row L U x z) → Fits (z /ℚ a))
-singleton_fits R q a l L u U bounds x z eq el eu es h =
-    subst (λ c. R ↔ (IsTrue (is_from_row L U x z) → Fits (z /ℚ c))) eq
-    (subst (λ e. R ↔ (IsTrue (is_from_row e U x z) → Fits (z /ℚ q))) (ap (λ (r : Range). r.lower) es ∙ el)
-    (subst (λ e. R ↔ (IsTrue (is_from_row bounds.lower e x z) → Fits (z /ℚ q))) (ap (λ (r : Range). r.upper) es ∙ eu) h))

@@ -1,5 +1,5 @@
 -- Reduced costs, one column after another.
-use Rattle.std.proofs.Common.{◌≡◌, ◌⊎◌, inl, inr, ℕ, suc, ◌+◌, ◌<◌, ◌≤◌, List, [], ◌∷◌, ◌++◌, sym, ap, ap₂, ◌∙◌, subst, arith, add-one}
+use Rattle.std.proofs.Common.{◌≡◌, ◌⊎◌, inl, inr, ℕ, ◌+◌, ◌<◌, ◌≤◌, List, [], ◌∷◌, ◌++◌, sym, ap, ap₂, ◌∙◌, subst, arith, add-one}
 use Rattle.std.proofs.lemmas.Bool.{cases_lt}
 use Rattle.rational.specs.Number.{Number}
 use Rattle.lp_model.specs.Vectors.{Vector}

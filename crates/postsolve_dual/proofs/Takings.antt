@@ -9,7 +9,7 @@ use Rattle.lp_model.specs.declared.terms.Term.{Term}
 use Rattle.lp_model.specs.Vectors.{Vector}
 use Rattle.lp_model.specs.Sparse.{Ascends, dense}
 use Rattle.lp_theory.proofs.SparseSums.{dense-below}
-use Rattle.undo_records.specs.Room.{LessProductFits}
+use Rattle.undo_records.specs.Fitting.{LessProductFits}
 use Rattle.postsolve_dual.specs.PairRoom.{TakenFits}
 
 -- the terms before the rest, times t, are taken from the numbers old: now is left

@@ -18,6 +18,7 @@ use Rattle.lp_rows.specs.ForcingRow.{set_for_row}
 use Rattle.lp_rows.specs.TightenedBound.{handed_to_row}
 use Rattle.undo_records.specs.declared.side.Side.{Side}
 use Rattle.undo_records.specs.declared.side.Side.TheVariants.{Lower, Upper}
+use Rattle.undo_records.specs.declared.side.RowFate.{RowFate}
 use Rattle.undo_records.specs.declared.side.RowFate.TheVariants.{Kept, Dropped}
 use Rattle.undo_records.specs.declared.undo.Undo.{Undo}
 use Rattle.undo_records.specs.declared.undo.Undo.TheVariants.{EmptyRow, RedundantRow, SingletonRow, FixedColumn, ForcingRow, TightenBound, Doubleton, FreeSingleton, SlackSingleton, ParallelRows, ParallelColumns}
@@ -64,20 +65,32 @@ undo_multiple i k s L U v p =
     then record p { y = put (put p.y k zero_ℚ) i (p.y k /ℚ s) }
     else record p { y = put p.y i zero_ℚ }
 
+-- the dual of row i is t, the price of column j, and nothing is left of the cost of the column
+abbrev pub with_price : ℕ → ℕ → Number → Priced → Priced
+with_price i j t p = record p { y = put p.y i t; z = put p.z j zero_ℚ }
+
+-- column j, with the entry a and the price t, was a slack of row i: where that was kept its dual grows by the price
+abbrev pub undo_slack : RowFate → ℕ → ℕ → Number → Number → Priced → Priced
+undo_slack Kept i j a t p = record p { y = put p.y i (p.y i +ℚ t); z = put p.z j (neg_ℚ (a *ℚ p.y i)) }
+undo_slack Dropped i j a t p = with_price i j t p
+
+-- where column j isn't at its old bound b, row i takes its reduced cost over
+abbrev pub undo_bound : Side → ℕ → ℕ → Option Number → List Term → Priced → Priced
+undo_bound side i j b ts p = if is_off_bound side b (p.x j) (p.z j) then handed_to_row i j (dense ts) p else p
+
 -- what one undone record makes of duals and reduced costs, after the point
 abbrev pub duals_undone : Undo → Priced → Priced
-duals_undone (EmptyRow i) p = undo_empty_row i p
-duals_undone (RedundantRow i) p = undo_redundant_row i p
-duals_undone (SingletonRow i j a l u) p = undo_singleton_row i j a l u p
-duals_undone (FixedColumn j v c ts) p = record p { z = put p.z j (cost_left c ts p.y) }
-duals_undone (ForcingRow i side ts) p = set_for_row i (dense ts) (furthest side zero_ℚ ts p.z) p
-duals_undone (TightenBound i j side b ts) p = if is_off_bound side b (p.x j) (p.z j) then handed_to_row i j (dense ts) p else p
-duals_undone (Doubleton i j k a b r l u c ts) p = undo_equation i j k a b l u (cost_left c ts p.y) p
-duals_undone (FreeSingleton j i a s t ts) p = record p { y = put p.y i t; z = put p.z j zero_ℚ }
-duals_undone (SlackSingleton j i a t L U l u Kept ts) p = record p { y = put p.y i (p.y i +ℚ t); z = put p.z j (neg_ℚ (a *ℚ p.y i)) }
-duals_undone (SlackSingleton j i a t L U l u Dropped ts) p = record p { y = put p.y i t; z = put p.z j zero_ℚ }
-duals_undone (ParallelRows i k s L U ts) p = undo_multiple i k s L U (sparse_total ts p.x) p
-duals_undone (ParallelColumns j k s l u L U) p = record p { z = put p.z j (s *ℚ p.z k) }
+duals_undone (EmptyRow r) p = undo_empty_row r.row p
+duals_undone (RedundantRow r) p = undo_redundant_row r.row p
+duals_undone (SingletonRow r) p = undo_singleton_row r.row r.column r.value r.lower r.upper p
+duals_undone (FixedColumn r) p = record p { z = put p.z r.column (cost_left r.cost r.entries p.y) }
+duals_undone (ForcingRow r) p = set_for_row r.row (dense r.entries) (furthest r.side zero_ℚ r.entries p.z) p
+duals_undone (TightenBound r) p = undo_bound r.side r.row r.column r.bound r.entries p
+duals_undone (Doubleton r) p = undo_equation r.row r.column r.kept r.value r.kept_value r.lower r.upper (cost_left r.cost r.entries p.y) p
+duals_undone (FreeSingleton r) p = with_price r.row r.column r.price p
+duals_undone (SlackSingleton r) p = undo_slack r.fate r.row r.column r.value r.price p
+duals_undone (ParallelRows r) p = undo_multiple r.row r.kept r.factor r.lower r.upper (sparse_total r.entries p.x) p
+duals_undone (ParallelColumns r) p = record p { z = put p.z r.column (r.factor *ℚ p.z r.kept) }
 duals_undone other p = p
 
 -- the point of the pair is undone

@@ -11,10 +11,12 @@ use Rattle.lp_model.specs.LinearProgram.{LinearProgram}
 use Rattle.lp_model.specs.Reductions.{Priced}
 use Rattle.lp_theory.specs.MetEnds.{is_from_row}
 use Rattle.lp_check.specs.DecidingPairs.{ReducedCostFits}
+use Rattle.undo_records.specs.declared.side.RowFate.{RowFate}
 use Rattle.undo_records.specs.declared.side.RowFate.TheVariants.{Kept, Dropped}
 use Rattle.undo_records.specs.declared.undo.Undo.{Undo}
 use Rattle.undo_records.specs.declared.undo.Undo.TheVariants.{SingletonRow, FixedColumn, ForcingRow, TightenBound, Doubleton, SlackSingleton, ParallelRows, ParallelColumns}
-use Rattle.undo_records.specs.Room.{TermsFit, LessProductFits, UndoFits}
+use Rattle.undo_records.specs.Fitting.{TermsFit, LessProductFits}
+use Rattle.undo_records.specs.Room.{UndoFits}
 use Rattle.postsolve_dual.specs.LiftPair.{cost_left, furthest, is_off_bound, joint_cost, equation_dual, point_undone, lift_pair}
 
 -- the reduced cost of column j is the first without room
@@ -54,17 +56,21 @@ EquationFits a b l u x z dj = JointFits a b dj z × Fits (equation_dual a b l u 
 abbrev pub MultipleFits : Number → Option Number → Option Number → List Term → Vector → Number → Type 0
 MultipleFits s L U ts x y = (y ≢ zero_ℚ → TermsFit zero_ℚ ts x) × (IsTrue (is_from_row L U (sparse_total ts x) y) → Fits (y /ℚ s))
 
+-- a y and y + t, where the row was kept
+abbrev pub SlackPriceFits : RowFate → Number → Number → Number → Type 0
+SlackPriceFits Kept a t y = Fits (a *ℚ y) × SumFits y t
+SlackPriceFits Dropped a t y = ⊤
+
 -- what one undone record computes of duals and reduced costs, after the point
 abbrev pub DualsFit : Undo → Priced → Type 0
-DualsFit (SingletonRow i j a l u) p = IsTrue (is_from_row l u (p.x j) (p.z j)) → Fits (p.z j /ℚ a)
-DualsFit (FixedColumn j v c ts) p = CostLeftFits c ts p.y
-DualsFit (ForcingRow i side ts) p = RatiosFit ts p.z × TakenFits ts (furthest side zero_ℚ ts p.z) p.z
-DualsFit (TightenBound i j side b ts) p = IsTrue (is_off_bound side b (p.x j) (p.z j)) → HandedFits j ts (p.y i) p.z
-DualsFit (Doubleton i j k a b r l u c ts) p = CostLeftFits c ts p.y × EquationFits a b l u (p.x k) (p.z k) (cost_left c ts p.y)
-DualsFit (SlackSingleton j i a t L U l u Kept ts) p = Fits (a *ℚ p.y i) × SumFits (p.y i) t
-DualsFit (SlackSingleton j i a t L U l u Dropped ts) p = ⊤
-DualsFit (ParallelRows i k s L U ts) p = MultipleFits s L U ts p.x (p.y k)
-DualsFit (ParallelColumns j k s l u L U) p = Fits (s *ℚ p.z k)
+DualsFit (SingletonRow r) p = IsTrue (is_from_row r.lower r.upper (p.x r.column) (p.z r.column)) → Fits (p.z r.column /ℚ r.value)
+DualsFit (FixedColumn r) p = CostLeftFits r.cost r.entries p.y
+DualsFit (ForcingRow r) p = RatiosFit r.entries p.z × TakenFits r.entries (furthest r.side zero_ℚ r.entries p.z) p.z
+DualsFit (TightenBound r) p = IsTrue (is_off_bound r.side r.bound (p.x r.column) (p.z r.column)) → HandedFits r.column r.entries (p.y r.row) p.z
+DualsFit (Doubleton r) p = CostLeftFits r.cost r.entries p.y × EquationFits r.value r.kept_value r.lower r.upper (p.x r.kept) (p.z r.kept) (cost_left r.cost r.entries p.y)
+DualsFit (SlackSingleton r) p = SlackPriceFits r.fate r.value r.price (p.y r.row)
+DualsFit (ParallelRows r) p = MultipleFits r.factor r.lower r.upper r.entries p.x (p.y r.kept)
+DualsFit (ParallelColumns r) p = Fits (r.factor *ℚ p.z r.kept)
 DualsFit other p = ⊤
 
 -- what one undone record computes, the point first

@@ -1,40 +1,31 @@
 //! Undoings that give a reduced cost to a deleted column.
 
 ghost use Rattle.std.specs.Prelude.{◌≡◌, ℕ, ◌<◌, length, IsOk, OnOk, ◌↔◌};
-ghost use Rattle.rational.specs.Number.{zero_ℚ, neg_ℚ, ◌+ℚ◌, ◌*ℚ◌};
-ghost use Rattle.rational.specs.Lowest.{Fits};
-ghost use Rattle.rational.specs.Total.{put};
-ghost use Rattle.fractions.specs.FracWords.{SumFits};
-ghost use Rattle.lp_model.specs.Vectors.{vector_of};
-ghost use Rattle.lp_model.specs.Sparse.{Ascends};
+ghost use Rattle.undo_records.specs.Sound.{IsSound};
+ghost use Rattle.undo_records.specs.declared.undo.Undo.TheVariants as kind;
 ghost use Rattle.postsolve_dual.specs.Numbers.{IsSized, priced_of};
-ghost use Rattle.postsolve_dual.specs.LiftPair.{cost_left as cost_left_of};
-ghost use Rattle.postsolve_dual.specs.PairRoom.{CostLeftFits};
+ghost use Rattle.postsolve_dual.specs.LiftPair.{duals_undone, with_price};
+ghost use Rattle.postsolve_dual.specs.PairRoom.{DualsFit};
 
 use crate::pair::PairBuf;
 use crate::terms::cost_left;
 use fractions::Past;
 use fractions::frac::Frac;
-use lp_model::Term;
+use undo_records::{FixedColumn, ParallelColumns, RowFate, SlackSingleton};
 
 /// K3: the column has what the duals leave of its cost.
 ///
 /// # Errors
 /// [`Past`] exactly where a number on the way is.
-pub fn undo_fixed_column(
-    pair: &mut PairBuf,
-    column: u32,
-    cost: &Frac,
-    entries: &[Term],
-) -> Result<(), Past>
-    requires column { column < length pair.old.reduced_costs }
-    requires entries { Ascends 0 (length pair.old.duals) entries.now }
+pub fn undo_fixed_column(undo: &FixedColumn, pair: &mut PairBuf) -> Result<(), Past>
+    requires sound { IsSound (length pair.old.duals) (length pair.old.point) (kind.FixedColumn undo.now) }
+    requires costs { length pair.old.reduced_costs ≡ length pair.old.point }
     ensures sized { (m n : ℕ) → IsSized m n pair.old → IsSized m n pair.new }
-    ensures lifted { OnOk result (priced_of pair.new ≡ record (priced_of pair.old) { z = put (vector_of pair.old.reduced_costs) column (cost_left_of cost.now entries.now (vector_of pair.old.duals)) }) }
-    ensures fits { IsOk result ↔ CostLeftFits cost.now entries.now (vector_of pair.old.duals) }
+    ensures lifted { OnOk result (priced_of pair.new ≡ duals_undone (kind.FixedColumn undo.now) (priced_of pair.old)) }
+    ensures fits { IsOk result ↔ DualsFit (kind.FixedColumn undo.now) (priced_of pair.old) }
 {
-    let left = cost_left(cost, entries, pair.duals())?;
-    pair.set_reduced_cost(column, left);
+    let left = cost_left(&undo.cost.get(), undo.entries.as_slice(), pair.duals())?;
+    pair.set_reduced_cost(undo.column, left);
     Ok(())
 }
 
@@ -43,34 +34,34 @@ pub fn undo_priced_column(pair: &mut PairBuf, column: u32, row: u32, price: Frac
     requires column { column < length pair.old.reduced_costs }
     requires row { row < length pair.old.duals }
     ensures sized { (m n : ℕ) → IsSized m n pair.old → IsSized m n pair.new }
-    ensures lifted { priced_of pair.new ≡ record (priced_of pair.old) { y = put (vector_of pair.old.duals) row price; z = put (vector_of pair.old.reduced_costs) column zero_ℚ } }
+    ensures lifted { priced_of pair.new ≡ with_price row column price (priced_of pair.old) }
 {
     pair.set_dual(row, price);
     pair.set_reduced_cost(column, Frac::zero());
 }
 
-/// K14 where the row was kept: the column has what the row's dual leaves of the cost 0, and then the dual grows by the price.
+/// K14 where the row was kept: the column has what the row's dual leaves of the cost 0, and then the dual grows by the price. Where it
+/// was deleted the dual is the price.
 ///
 /// # Errors
-/// [`Past`] exactly where the product or the sum is.
-pub fn undo_slack_column(
-    pair: &mut PairBuf,
-    column: u32,
-    row: u32,
-    value: &Frac,
-    price: &Frac,
-) -> Result<(), Past>
-    requires column { column < length pair.old.reduced_costs }
-    requires row { row < length pair.old.duals }
+/// [`Past`] exactly where the row was kept, and the product or the sum is.
+pub fn undo_slack_singleton(undo: &SlackSingleton, pair: &mut PairBuf) -> Result<(), Past>
+    requires sound { IsSound (length pair.old.duals) (length pair.old.point) (kind.SlackSingleton undo.now) }
+    requires costs { length pair.old.reduced_costs ≡ length pair.old.point }
     ensures sized { (m n : ℕ) → IsSized m n pair.old → IsSized m n pair.new }
-    ensures lifted { OnOk result (priced_of pair.new ≡ record (priced_of pair.old) { y = put (vector_of pair.old.duals) row (vector_of pair.old.duals row +ℚ price.now); z = put (vector_of pair.old.reduced_costs) column (neg_ℚ (value.now *ℚ vector_of pair.old.duals row)) }) }
-    ensures fits { IsOk result ↔ (Fits (value.now *ℚ vector_of pair.old.duals row) × SumFits (vector_of pair.old.duals row) price.now) }
+    ensures lifted { OnOk result (priced_of pair.new ≡ duals_undone (kind.SlackSingleton undo.now) (priced_of pair.old)) }
+    ensures fits { IsOk result ↔ DualsFit (kind.SlackSingleton undo.now) (priced_of pair.old) }
 {
-    let before = pair.dual(row);
-    let product = value.mul(&before)?;
-    let dual = before.add(price)?;
-    pair.set_reduced_cost(column, product.neg());
-    pair.set_dual(row, dual);
+    match undo.fate {
+        RowFate::Kept => {
+            let before = pair.dual(undo.row);
+            let product = undo.value.get().mul(&before)?;
+            let dual = before.add(&undo.price.get())?;
+            pair.set_reduced_cost(undo.column, product.neg());
+            pair.set_dual(undo.row, dual);
+        }
+        RowFate::Dropped => undo_priced_column(pair, undo.column, undo.row, undo.price.get()),
+    }
     Ok(())
 }
 
@@ -78,19 +69,14 @@ pub fn undo_slack_column(
 ///
 /// # Errors
 /// [`Past`] exactly where the product is.
-pub fn undo_parallel_columns(
-    pair: &mut PairBuf,
-    column: u32,
-    kept: u32,
-    factor: &Frac,
-) -> Result<(), Past>
-    requires column { column < length pair.old.reduced_costs }
-    requires kept { kept < length pair.old.reduced_costs }
+pub fn undo_parallel_columns(undo: &ParallelColumns, pair: &mut PairBuf) -> Result<(), Past>
+    requires sound { IsSound (length pair.old.duals) (length pair.old.point) (kind.ParallelColumns undo.now) }
+    requires costs { length pair.old.reduced_costs ≡ length pair.old.point }
     ensures sized { (m n : ℕ) → IsSized m n pair.old → IsSized m n pair.new }
-    ensures lifted { OnOk result (priced_of pair.new ≡ record (priced_of pair.old) { z = put (vector_of pair.old.reduced_costs) column (factor.now *ℚ vector_of pair.old.reduced_costs kept) }) }
-    ensures fits { IsOk result ↔ Fits (factor.now *ℚ vector_of pair.old.reduced_costs kept) }
+    ensures lifted { OnOk result (priced_of pair.new ≡ duals_undone (kind.ParallelColumns undo.now) (priced_of pair.old)) }
+    ensures fits { IsOk result ↔ DualsFit (kind.ParallelColumns undo.now) (priced_of pair.old) }
 {
-    let product = factor.mul(&pair.reduced_cost(kept))?;
-    pair.set_reduced_cost(column, product);
+    let product = undo.factor.get().mul(&pair.reduced_cost(undo.kept))?;
+    pair.set_reduced_cost(undo.column, product);
     Ok(())
 }

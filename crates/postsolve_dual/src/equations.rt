@@ -4,44 +4,31 @@ ghost use Rattle.std.specs.Prelude.{◌≡◌, ◌≢◌, ℕ, ◌<◌, length, 
 ghost use Rattle.rational.specs.Number.{zero_ℚ};
 ghost use Rattle.rational.specs.Lowest.{Fits};
 ghost use Rattle.lp_model.specs.Vectors.{vector_of};
-ghost use Rattle.undo_records.specs.Room.{LessProductFits};
+ghost use Rattle.undo_records.specs.Fitting.{LessProductFits};
+ghost use Rattle.undo_records.specs.Sound.{IsSound};
+ghost use Rattle.undo_records.specs.declared.undo.Undo.TheVariants as kind;
 ghost use Rattle.postsolve_dual.specs.Numbers.{IsSized, priced_of};
-ghost use Rattle.postsolve_dual.specs.LiftPair.{equation_dual as equation_dual_of, joint_cost as joint_cost_of, undo_equation as equation_of, with_equation};
-ghost use Rattle.postsolve_dual.specs.PairRoom.{EquationFits, JointFits};
+ghost use Rattle.postsolve_dual.specs.LiftPair.{duals_undone, equation_dual as equation_dual_of, joint_cost as joint_cost_of, undo_equation as equation_of, with_equation};
+ghost use Rattle.postsolve_dual.specs.PairRoom.{DualsFit, EquationFits, JointFits};
 
 use crate::numbers::is_from_row;
 use crate::pair::PairBuf;
+use crate::terms::cost_left;
 use fractions::Past;
 use fractions::frac::Frac;
 use postsolve_primal::{Range, less_product};
-
-/// A row of two columns that was solved for one of them: its entries, neither of them 0, and what was known of the kept column.
-#[derive(Clone, Copy)]
-pub struct Equation {
-    /// The row.
-    pub row: u32,
-    /// The column that was deleted.
-    pub column: u32,
-    /// The column that was kept.
-    pub kept: u32,
-    /// The entry at the deleted column.
-    pub value: Frac,
-    /// The entry at the kept column.
-    pub kept_value: Frac,
-    /// The kept column's bounds before.
-    pub bounds: Range,
-}
+use undo_records::Doubleton;
 
 /// What is left of the kept column's reduced cost where the row has the dual 0.
 ///
 /// # Errors
 /// [`Past`] exactly where the quotient, the product or the sum is.
-fn joint_cost(equation: &Equation, left: &Frac, reduced_cost: &Frac) -> Result<Frac, Past>
+fn joint_cost(equation: &Doubleton, left: &Frac, reduced_cost: &Frac) -> Result<Frac, Past>
     requires { equation.now.value ≢ zero_ℚ }
     ensures value { IfOk result (λ r. r ≡ joint_cost_of equation.now.value equation.now.kept_value left.now reduced_cost.now) }
     ensures fits { IsOk result ↔ JointFits equation.now.value equation.now.kept_value left.now reduced_cost.now }
 {
-    let factor = equation.kept_value.div(&equation.value)?;
+    let factor = equation.kept_value.get().div(&equation.value.get())?;
     let product = factor.mul(left)?;
     reduced_cost.add(&product)
 }
@@ -52,7 +39,7 @@ fn joint_cost(equation: &Equation, left: &Frac, reduced_cost: &Frac) -> Result<F
 /// # Errors
 /// [`Past`] exactly where the quotient is.
 fn equation_dual(
-    equation: &Equation,
+    equation: &Doubleton,
     value: &Frac,
     reduced_cost: &Frac,
     left: &Frac,
@@ -61,13 +48,14 @@ fn equation_dual(
     requires value { equation.now.value ≢ zero_ℚ }
     requires kept { equation.now.kept_value ≢ zero_ℚ }
     requires joint { joint.now ≡ joint_cost_of equation.now.value equation.now.kept_value left.now reduced_cost.now }
-    ensures value { IfOk result (λ r. r ≡ equation_dual_of equation.now.value equation.now.kept_value equation.now.bounds.lower equation.now.bounds.upper value.now reduced_cost.now left.now) }
-    ensures fits { IsOk result ↔ Fits (equation_dual_of equation.now.value equation.now.kept_value equation.now.bounds.lower equation.now.bounds.upper value.now reduced_cost.now left.now) }
+    ensures value { IfOk result (λ r. r ≡ equation_dual_of equation.now.value equation.now.kept_value equation.now.lower equation.now.upper value.now reduced_cost.now left.now) }
+    ensures fits { IsOk result ↔ Fits (equation_dual_of equation.now.value equation.now.kept_value equation.now.lower equation.now.upper value.now reduced_cost.now left.now) }
 {
-    if is_from_row(equation.bounds, value, reduced_cost) {
-        joint.div(&equation.kept_value)
+    let bounds = Range::between(&equation.lower.get(), &equation.upper.get());
+    if is_from_row(bounds, value, reduced_cost) {
+        joint.div(&equation.kept_value.get())
     } else {
-        left.div(&equation.value)
+        left.div(&equation.value.get())
     }
 }
 
@@ -77,7 +65,7 @@ fn equation_dual(
 /// [`Past`] exactly where a product or a difference is.
 fn set_equation(
     pair: &mut PairBuf,
-    equation: &Equation,
+    equation: &Doubleton,
     left: &Frac,
     joint: &Frac,
     dual: Frac,
@@ -90,19 +78,19 @@ fn set_equation(
     ensures lifted { OnOk result (priced_of pair.new ≡ with_equation equation.now.row equation.now.column equation.now.kept equation.now.value equation.now.kept_value left.now dual (priced_of pair.old)) }
     ensures fits { IsOk result ↔ (LessProductFits left.now equation.now.value dual × LessProductFits joint.now equation.now.kept_value dual) }
 {
-    let own = less_product(left, &equation.value, &dual)?;
-    let others = less_product(joint, &equation.kept_value, &dual)?;
+    let own = less_product(left, &equation.value.get(), &dual)?;
+    let others = less_product(joint, &equation.kept_value.get(), &dual)?;
     pair.set_dual(equation.row, dual);
     pair.set_reduced_cost(equation.column, own);
     pair.set_reduced_cost(equation.kept, others);
     Ok(())
 }
 
-/// K12, where `left` is what the other duals leave of the deleted column's cost.
+/// Undoes the equation, where `left` is what the other duals leave of the deleted column's cost.
 ///
 /// # Errors
 /// [`Past`] exactly where a number on the way is.
-pub fn undo_equation(pair: &mut PairBuf, equation: &Equation, left: &Frac) -> Result<(), Past>
+fn undo_equation(pair: &mut PairBuf, equation: &Doubleton, left: &Frac) -> Result<(), Past>
     requires row { equation.now.row < length pair.old.duals }
     requires column { equation.now.column < length pair.old.point }
     requires kept { equation.now.kept < length pair.old.point }
@@ -110,8 +98,8 @@ pub fn undo_equation(pair: &mut PairBuf, equation: &Equation, left: &Frac) -> Re
     requires value { equation.now.value ≢ zero_ℚ }
     requires kept_value { equation.now.kept_value ≢ zero_ℚ }
     ensures sized { (m n : ℕ) → IsSized m n pair.old → IsSized m n pair.new }
-    ensures lifted { OnOk result (priced_of pair.new ≡ equation_of equation.now.row equation.now.column equation.now.kept equation.now.value equation.now.kept_value equation.now.bounds.lower equation.now.bounds.upper left.now (priced_of pair.old)) }
-    ensures fits { IsOk result ↔ EquationFits equation.now.value equation.now.kept_value equation.now.bounds.lower equation.now.bounds.upper (vector_of pair.old.point equation.now.kept) (vector_of pair.old.reduced_costs equation.now.kept) left.now }
+    ensures lifted { OnOk result (priced_of pair.new ≡ equation_of equation.now.row equation.now.column equation.now.kept equation.now.value equation.now.kept_value equation.now.lower equation.now.upper left.now (priced_of pair.old)) }
+    ensures fits { IsOk result ↔ EquationFits equation.now.value equation.now.kept_value equation.now.lower equation.now.upper (vector_of pair.old.point equation.now.kept) (vector_of pair.old.reduced_costs equation.now.kept) left.now }
 {
     let reduced_cost = pair.reduced_cost(equation.kept);
     let joint = joint_cost(equation, left, &reduced_cost)?;
@@ -123,4 +111,19 @@ pub fn undo_equation(pair: &mut PairBuf, equation: &Equation, left: &Frac) -> Re
         &joint,
     )?;
     set_equation(pair, equation, left, &joint, dual)
+}
+
+/// K12: the row has the dual of the column that it holds, and both columns what that leaves of their costs.
+///
+/// # Errors
+/// [`Past`] exactly where a number on the way is.
+pub fn undo_doubleton(undo: &Doubleton, pair: &mut PairBuf) -> Result<(), Past>
+    requires sound { IsSound (length pair.old.duals) (length pair.old.point) (kind.Doubleton undo.now) }
+    requires costs { length pair.old.reduced_costs ≡ length pair.old.point }
+    ensures sized { (m n : ℕ) → IsSized m n pair.old → IsSized m n pair.new }
+    ensures lifted { OnOk result (priced_of pair.new ≡ duals_undone (kind.Doubleton undo.now) (priced_of pair.old)) }
+    ensures fits { IsOk result ↔ DualsFit (kind.Doubleton undo.now) (priced_of pair.old) }
+{
+    let left = cost_left(&undo.cost.get(), undo.entries.as_slice(), pair.duals())?;
+    undo_equation(pair, undo, &left)
 }

@@ -1,30 +1,28 @@
 //! Undoings that give a dual to a row of inequalities.
 
-ghost use Rattle.std.specs.Prelude.{◌≡◌, ◌≢◌, ℕ, ◌<◌, length, true, IsTrue, IfOk, IsOk, OnOk, ◌↔◌, if◌then◌else◌};
+ghost use Rattle.std.specs.Prelude.{◌≡◌, ◌≢◌, ℕ, ◌<◌, length, true, IfOk, IsOk, OnOk, ◌↔◌};
 ghost use Rattle.rational.specs.Number.{zero_ℚ};
-ghost use Rattle.rational.specs.Division.{◌/ℚ◌};
-ghost use Rattle.rational.specs.Lowest.{Fits};
 ghost use Rattle.lp_model.specs.Vectors.{vector_of};
 ghost use Rattle.lp_model.specs.Sparse.{Ascends, dense, has, sparse_total};
 ghost use Rattle.lp_theory.specs.MetEnds.{is_from_row as is_from_row_of};
 ghost use Rattle.lp_rows.specs.EmptyRow.{undo_empty_row as empty_row_of};
-ghost use Rattle.lp_rows.specs.SingletonRow.{undo_singleton_row as singleton_row_of};
 ghost use Rattle.lp_rows.specs.ForcingRow.{set_for_row};
 ghost use Rattle.lp_rows.specs.TightenedBound.{handed_to_row};
-ghost use Rattle.undo_records.specs.Room.{TermsFit};
+ghost use Rattle.undo_records.specs.Fitting.{TermsFit};
+ghost use Rattle.undo_records.specs.Sound.{IsSound};
+ghost use Rattle.undo_records.specs.declared.undo.Undo.TheVariants as kind;
 ghost use Rattle.postsolve_dual.specs.Numbers.{IsSized, priced_of};
-ghost use Rattle.postsolve_dual.specs.LiftPair.{furthest, is_off_bound as is_off_bound_of, undo_multiple};
-ghost use Rattle.postsolve_dual.specs.PairRoom.{HandedFits, MultipleFits, RatiosFit, TakenFits};
+ghost use Rattle.postsolve_dual.specs.LiftPair.{duals_undone, furthest};
+ghost use Rattle.postsolve_dual.specs.PairRoom.{DualsFit, HandedFits, RatiosFit, TakenFits};
 
 use crate::numbers::{is_from_row, is_off_bound};
 use crate::pair::PairBuf;
 use crate::terms::furthest_ratio;
 use fractions::Past;
-use fractions::ext::Ext;
 use fractions::frac::Frac;
 use lp_model::{Term, number_at};
 use postsolve_primal::{Range, sum_of_terms};
-use undo_records::Side;
+use undo_records::{ParallelRows, Side, SingletonRow, TightenBound};
 
 /// K1, K5: a row that asks nothing has the dual 0.
 pub fn undo_empty_row(pair: &mut PairBuf, row: u32)
@@ -39,28 +37,21 @@ pub fn undo_empty_row(pair: &mut PairBuf, row: u32)
 ///
 /// # Errors
 /// [`Past`] exactly where the row takes it over, and the quotient is.
-pub fn undo_singleton_row(
-    pair: &mut PairBuf,
-    row: u32,
-    column: u32,
-    value: &Frac,
-    bounds: Range,
-) -> Result<(), Past>
-    requires row { row < length pair.old.duals }
-    requires column { column < length pair.old.point }
+pub fn undo_singleton_row(undo: &SingletonRow, pair: &mut PairBuf) -> Result<(), Past>
+    requires sound { IsSound (length pair.old.duals) (length pair.old.point) (kind.SingletonRow undo.now) }
     requires costs { length pair.old.reduced_costs ≡ length pair.old.point }
-    requires entry { value.now ≢ zero_ℚ }
     ensures sized { (m n : ℕ) → IsSized m n pair.old → IsSized m n pair.new }
-    ensures lifted { OnOk result (priced_of pair.new ≡ singleton_row_of row column value.now bounds.lower bounds.upper (priced_of pair.old)) }
-    ensures fits { IsOk result ↔ (IsTrue (is_from_row_of bounds.lower bounds.upper (vector_of pair.old.point column) (vector_of pair.old.reduced_costs column)) → Fits (vector_of pair.old.reduced_costs column /ℚ value.now)) }
+    ensures lifted { OnOk result (priced_of pair.new ≡ duals_undone (kind.SingletonRow undo.now) (priced_of pair.old)) }
+    ensures fits { IsOk result ↔ DualsFit (kind.SingletonRow undo.now) (priced_of pair.old) }
 {
-    let multiplier = pair.reduced_cost(column);
-    if is_from_row(bounds, &pair.value(column), &multiplier) {
-        let dual = multiplier.div(value)?;
-        pair.set_dual(row, dual);
-        pair.set_reduced_cost(column, Frac::zero());
+    let bounds = Range::between(&undo.lower.get(), &undo.upper.get());
+    let multiplier = pair.reduced_cost(undo.column);
+    if is_from_row(bounds, &pair.value(undo.column), &multiplier) {
+        let dual = multiplier.div(&undo.value.get())?;
+        pair.set_dual(undo.row, dual);
+        pair.set_reduced_cost(undo.column, Frac::zero());
     } else {
-        pair.set_dual(row, Frac::zero());
+        pair.set_dual(undo.row, Frac::zero());
     }
     Ok(())
 }
@@ -113,26 +104,17 @@ fn hand_to_row(pair: &mut PairBuf, row: u32, column: u32, entries: &[Term]) -> R
 ///
 /// # Errors
 /// [`Past`] exactly where the row takes it over, and a number on the way is.
-pub fn undo_tightened_bound(
-    pair: &mut PairBuf,
-    row: u32,
-    column: u32,
-    side: Side,
-    bound: &Ext,
-    entries: &[Term],
-) -> Result<(), Past>
-    requires row { row < length pair.old.duals }
-    requires column { column < length pair.old.point }
+pub fn undo_tightened_bound(undo: &TightenBound, pair: &mut PairBuf) -> Result<(), Past>
+    requires sound { IsSound (length pair.old.duals) (length pair.old.point) (kind.TightenBound undo.now) }
     requires costs { length pair.old.reduced_costs ≡ length pair.old.point }
-    requires entries { Ascends 0 (length pair.old.point) entries.now }
-    requires own { has column entries.now ≡ true }
     ensures sized { (m n : ℕ) → IsSized m n pair.old → IsSized m n pair.new }
-    ensures lifted { OnOk result (priced_of pair.new ≡ (if is_off_bound_of side bound.now (vector_of pair.old.point column) (vector_of pair.old.reduced_costs column) then handed_to_row row column (dense entries.now) (priced_of pair.old) else priced_of pair.old)) }
-    ensures fits { IsOk result ↔ (IsTrue (is_off_bound_of side bound.now (vector_of pair.old.point column) (vector_of pair.old.reduced_costs column)) → HandedFits column entries.now (vector_of pair.old.duals row) (vector_of pair.old.reduced_costs)) }
+    ensures lifted { OnOk result (priced_of pair.new ≡ duals_undone (kind.TightenBound undo.now) (priced_of pair.old)) }
+    ensures fits { IsOk result ↔ DualsFit (kind.TightenBound undo.now) (priced_of pair.old) }
 {
-    let multiplier = pair.reduced_cost(column);
-    if is_off_bound(side, bound, &pair.value(column), &multiplier) {
-        hand_to_row(pair, row, column, entries)
+    let multiplier = pair.reduced_cost(undo.column);
+    let value = pair.value(undo.column);
+    if is_off_bound(undo.side, &undo.bound.get(), &value, &multiplier) {
+        hand_to_row(pair, undo.row, undo.column, undo.entries.as_slice())
     } else {
         Ok(())
     }
@@ -164,29 +146,21 @@ fn is_from_multiple(
 ///
 /// # Errors
 /// [`Past`] exactly where a number on the way is.
-pub fn undo_parallel_rows(
-    pair: &mut PairBuf,
-    row: u32,
-    kept: u32,
-    factor: &Frac,
-    sides: Range,
-    entries: &[Term],
-) -> Result<(), Past>
-    requires row { row < length pair.old.duals }
-    requires kept { kept < length pair.old.duals }
-    requires factor { factor.now ≢ zero_ℚ }
-    requires entries { Ascends 0 (length pair.old.point) entries.now }
+pub fn undo_parallel_rows(undo: &ParallelRows, pair: &mut PairBuf) -> Result<(), Past>
+    requires sound { IsSound (length pair.old.duals) (length pair.old.point) (kind.ParallelRows undo.now) }
+    requires costs { length pair.old.reduced_costs ≡ length pair.old.point }
     ensures sized { (m n : ℕ) → IsSized m n pair.old → IsSized m n pair.new }
-    ensures lifted { OnOk result (priced_of pair.new ≡ undo_multiple row kept factor.now sides.lower sides.upper (sparse_total entries.now (vector_of pair.old.point)) (priced_of pair.old)) }
-    ensures fits { IsOk result ↔ MultipleFits factor.now sides.lower sides.upper entries.now (vector_of pair.old.point) (vector_of pair.old.duals kept) }
+    ensures lifted { OnOk result (priced_of pair.new ≡ duals_undone (kind.ParallelRows undo.now) (priced_of pair.old)) }
+    ensures fits { IsOk result ↔ DualsFit (kind.ParallelRows undo.now) (priced_of pair.old) }
 {
-    let dual = pair.dual(kept);
-    if is_from_multiple(sides, entries, pair.point(), &dual)? {
-        let taken = dual.div(factor)?;
-        pair.set_dual(kept, Frac::zero());
-        pair.set_dual(row, taken);
+    let sides = Range::between(&undo.lower.get(), &undo.upper.get());
+    let dual = pair.dual(undo.kept);
+    if is_from_multiple(sides, undo.entries.as_slice(), pair.point(), &dual)? {
+        let taken = dual.div(&undo.factor.get())?;
+        pair.set_dual(undo.kept, Frac::zero());
+        pair.set_dual(undo.row, taken);
     } else {
-        pair.set_dual(row, Frac::zero());
+        pair.set_dual(undo.row, Frac::zero());
     }
     Ok(())
 }

@@ -8,7 +8,7 @@ use Rattle.fractions.specs.FracWords.{SumFits}
 use Rattle.lp_model.specs.declared.terms.Term.{Term}
 use Rattle.lp_model.specs.Vectors.{Vector}
 use Rattle.lp_model.specs.Sparse.{sparse_total}
-use Rattle.undo_records.specs.Room.{TermsFit}
+use Rattle.undo_records.specs.Fitting.{TermsFit}
 
 -- s is the sum of the terms before the rest
 pub record Summed (ts : List Term) (x : Vector) (s : Number) (rest : List Term) : Type 0 where

@@ -3,8 +3,8 @@
 ghost use Rattle.std.specs.Prelude.{◌≡◌, ◌≢◌, IfOk, IsOk, ◌↔◌, Some};
 ghost use Rattle.rational.specs.Number.{zero_ℚ};
 ghost use Rattle.rational.specs.Ends.{less, minus_ends, over, meet_low, meet_high};
-ghost use Rattle.undo_records.specs.Lift.{near as near_of, zero_or_below as zero_or_below_of, low_over, high_over, near_within as near_within_of};
-ghost use Rattle.undo_records.specs.Room.{EndLessFits, LessEndFits, EndOverFits, SlackFits, ShareFits};
+ghost use Rattle.undo_records.specs.Near.{near as near_of, zero_or_below as zero_or_below_of, low_over, high_over, near_within as near_within_of};
+ghost use Rattle.undo_records.specs.Fitting.{EndLessFits, LessEndFits, EndOverFits, SlackFits, ShareFits};
 
 use fractions::Past;
 use fractions::ext::Ext;

@@ -8,7 +8,7 @@ ghost use Rattle.rational.specs.Total.{put};
 ghost use Rattle.fractions.specs.FracWords.{SumFits};
 ghost use Rattle.lp_model.specs.Vectors.{vector_of};
 ghost use Rattle.lp_model.specs.Sparse.{sparse_total};
-ghost use Rattle.undo_records.specs.Room.{TermsFit, LessProductFits, QuotientFits};
+ghost use Rattle.undo_records.specs.Fitting.{TermsFit, LessProductFits, QuotientFits};
 
 use fractions::Past;
 use fractions::frac::Frac;

@@ -1,219 +1,129 @@
 //! The undoing of one record.
 
-ghost use Rattle.std.specs.Prelude.{◌≡◌, ◌≢◌, ℕ, ◌<◌, length, All, IfOk, IsOk, OnOk, ◌↔◌, Some};
-ghost use Rattle.rational.specs.Number.{zero_ℚ, ◌-ℚ◌, ◌*ℚ◌};
-ghost use Rattle.rational.specs.Division.{◌/ℚ◌};
+ghost use Rattle.std.specs.Prelude.{◌≡◌, ◌<◌, length, IfOk, IsOk, OnOk, ◌↔◌};
+ghost use Rattle.rational.specs.Number.{zero_ℚ};
 ghost use Rattle.rational.specs.Lowest.{Fits};
-ghost use Rattle.rational.specs.Ends.{less, minus_ends};
-ghost use Rattle.rational.specs.Total.{put};
 ghost use Rattle.lp_model.specs.Vectors.{vector_of};
 ghost use Rattle.lp_model.specs.Sparse.{sparse_total};
-ghost use Rattle.undo_records.specs.Lift.{HasBounds, near_within, part, undone};
-ghost use Rattle.undo_records.specs.Room.{TermsFit, LessProductFits, QuotientFits, SlackFits, ShareFits, UndoFits};
+ghost use Rattle.undo_records.specs.Doubleton as doubleton;
+ghost use Rattle.undo_records.specs.FreeSingleton as free_singleton;
+ghost use Rattle.undo_records.specs.SlackSingleton as slack_singleton;
+ghost use Rattle.undo_records.specs.ParallelColumns as parallel_columns;
+ghost use Rattle.undo_records.specs.Fitting.{TermsFit, LessProductFits, QuotientFits, SlackFits, ShareFits};
+ghost use Rattle.undo_records.specs.Lift.{undone};
+ghost use Rattle.undo_records.specs.Room.{UndoFits};
 ghost use Rattle.undo_records.specs.Sound.{CanUndo};
 
 use crate::ends::{Range, share, slack};
 use crate::sums::{difference_over, less_product, number_of, set_number, sum_of_terms};
 use fractions::Past;
 use fractions::frac::Frac;
-use lp_model::Term;
-use undo_records::Undo;
+use undo_records::{Doubleton, FreeSingleton, ParallelColumns, SlackSingleton, Undo};
 
 /// The number that solves a row of two columns for the one that was deleted.
-fn solved(
-    point: &[Frac],
-    kept: u32,
-    value: &Frac,
-    kept_value: &Frac,
-    equal: &Frac,
-) -> Result<Frac, Past>
-    requires kept { kept < length point.now }
-    requires entry { value.now ≢ zero_ℚ }
-    ensures value { IfOk result (λ r. r ≡ (equal.now -ℚ kept_value.now *ℚ vector_of point.now kept) /ℚ value.now) }
-    ensures fits { IsOk result ↔ (LessProductFits equal.now kept_value.now (vector_of point.now kept) × Fits ((equal.now -ℚ kept_value.now *ℚ vector_of point.now kept) /ℚ value.now)) }
+fn solved(undo: &Doubleton, point: &[Frac]) -> Result<Frac, Past>
+    requires { doubleton.CanUndo (length point.now) undo.now }
+    ensures value { IfOk result (λ r. r ≡ doubleton.solved undo.now (vector_of point.now)) }
+    ensures fits { IsOk result ↔ doubleton.UndoFits undo.now (vector_of point.now) }
 {
-    let number = number_of(point, kept);
-    let rest = less_product(equal, kept_value, &number)?;
-    rest.div(value)
+    let number = number_of(point, undo.kept);
+    let rest = less_product(&undo.equal.get(), &undo.kept_value.get(), &number)?;
+    rest.div(&undo.value.get())
 }
 
 /// K12: solves the row for the deleted column.
-fn undo_doubleton(
-    point: &mut [Frac],
-    column: u32,
-    kept: u32,
-    value: &Frac,
-    kept_value: &Frac,
-    equal: &Frac,
-) -> Result<(), Past>
-    requires column { column < length point.old }
-    requires kept { kept < length point.old }
-    requires entry { value.now ≢ zero_ℚ }
+fn undo_doubleton(undo: &Doubleton, point: &mut [Frac]) -> Result<(), Past>
+    requires { doubleton.CanUndo (length point.old) undo.now }
     ensures size { length point.new ≡ length point.old }
-    ensures lifted { OnOk result (vector_of point.new ≡ put (vector_of point.old) column ((equal.now -ℚ kept_value.now *ℚ vector_of point.old kept) /ℚ value.now)) }
-    ensures fits { IsOk result ↔ (LessProductFits equal.now kept_value.now (vector_of point.old kept) × Fits ((equal.now -ℚ kept_value.now *ℚ vector_of point.old kept) /ℚ value.now)) }
+    ensures lifted { OnOk result (vector_of point.new ≡ doubleton.undone undo.now (vector_of point.old)) }
+    ensures fits { IsOk result ↔ doubleton.UndoFits undo.now (vector_of point.old) }
 {
-    let number = solved(point, kept, value, kept_value, equal)?;
-    set_number(point, column, number);
+    let number = solved(undo, point)?;
+    set_number(point, undo.column, number);
     Ok(())
 }
 
 /// The number with which a row stands at a side.
-fn at_side(point: &[Frac], value: &Frac, at: &Frac, entries: &[Term]) -> Result<Frac, Past>
-    requires entry { value.now ≢ zero_ℚ }
-    requires ids { All (λ t. t.id < length point.now) entries.now }
-    ensures value { IfOk result (λ r. r ≡ (at.now -ℚ sparse_total entries.now (vector_of point.now)) /ℚ value.now) }
-    ensures fits { IsOk result ↔ (TermsFit zero_ℚ entries.now (vector_of point.now) × QuotientFits at.now (sparse_total entries.now (vector_of point.now)) value.now) }
+fn at_side(undo: &FreeSingleton, point: &[Frac]) -> Result<Frac, Past>
+    requires { free_singleton.CanUndo (length point.now) undo.now }
+    ensures value { IfOk result (λ r. r ≡ free_singleton.at_side undo.now (vector_of point.now)) }
+    ensures fits { IsOk result ↔ free_singleton.UndoFits undo.now (vector_of point.now) }
 {
-    let rest = sum_of_terms(entries, point)?;
-    difference_over(at, &rest, value)
+    let rest = sum_of_terms(undo.entries.as_slice(), point)?;
+    difference_over(&undo.at.get(), &rest, &undo.value.get())
 }
 
 /// K13: puts the row at its side.
-fn undo_free_singleton(
-    point: &mut [Frac],
-    column: u32,
-    value: &Frac,
-    at: &Frac,
-    entries: &[Term],
-) -> Result<(), Past>
-    requires column { column < length point.old }
-    requires entry { value.now ≢ zero_ℚ }
-    requires ids { All (λ t. t.id < length point.old) entries.now }
+fn undo_free_singleton(undo: &FreeSingleton, point: &mut [Frac]) -> Result<(), Past>
+    requires { free_singleton.CanUndo (length point.old) undo.now }
     ensures size { length point.new ≡ length point.old }
-    ensures lifted { OnOk result (vector_of point.new ≡ put (vector_of point.old) column ((at.now -ℚ sparse_total entries.now (vector_of point.old)) /ℚ value.now)) }
-    ensures fits { IsOk result ↔ (TermsFit zero_ℚ entries.now (vector_of point.old) × QuotientFits at.now (sparse_total entries.now (vector_of point.old)) value.now) }
+    ensures lifted { OnOk result (vector_of point.new ≡ free_singleton.undone undo.now (vector_of point.old)) }
+    ensures fits { IsOk result ↔ free_singleton.UndoFits undo.now (vector_of point.old) }
 {
-    let number = at_side(point, value, at, entries)?;
-    set_number(point, column, number);
+    let number = at_side(undo, point)?;
+    set_number(point, undo.column, number);
     Ok(())
 }
 
 /// The number of a slack column with which its row is within its sides.
-fn within_sides(
-    point: &[Frac],
-    value: &Frac,
-    sides: Range,
-    bounds: Range,
-    entries: &[Term],
-) -> Result<Frac, Past>
-    requires entry { value.now ≢ zero_ℚ }
-    requires ids { All (λ t. t.id < length point.now) entries.now }
-    ensures value { IfOk result (λ r. r ≡ near_within value.now (less sides.lower (sparse_total entries.now (vector_of point.now))) (less sides.upper (sparse_total entries.now (vector_of point.now))) bounds.lower bounds.upper) }
-    ensures fits { IsOk result ↔ (TermsFit zero_ℚ entries.now (vector_of point.now) × SlackFits value.now sides.lower sides.upper (sparse_total entries.now (vector_of point.now))) }
+fn within_sides(undo: &SlackSingleton, point: &[Frac]) -> Result<Frac, Past>
+    requires { slack_singleton.CanUndo (length point.now) undo.now }
+    ensures value { IfOk result (λ r. r ≡ slack_singleton.within_sides undo.now (vector_of point.now)) }
+    ensures fits { IsOk result ↔ slack_singleton.UndoFits undo.now (vector_of point.now) }
 {
-    let rest = sum_of_terms(entries, point)?;
-    slack(value, sides, &rest, bounds)
+    let sides = Range::between(&undo.lower_side.get(), &undo.upper_side.get());
+    let bounds = Range::between(&undo.lower.get(), &undo.upper.get());
+    let rest = sum_of_terms(undo.entries.as_slice(), point)?;
+    slack(&undo.value.get(), sides, &rest, bounds)
 }
 
 /// K14: brings the row within its sides.
-fn undo_slack_singleton(
-    point: &mut [Frac],
-    column: u32,
-    value: &Frac,
-    sides: Range,
-    bounds: Range,
-    entries: &[Term],
-) -> Result<(), Past>
-    requires column { column < length point.old }
-    requires entry { value.now ≢ zero_ℚ }
-    requires ids { All (λ t. t.id < length point.old) entries.now }
+fn undo_slack_singleton(undo: &SlackSingleton, point: &mut [Frac]) -> Result<(), Past>
+    requires { slack_singleton.CanUndo (length point.old) undo.now }
     ensures size { length point.new ≡ length point.old }
-    ensures lifted { OnOk result (vector_of point.new ≡ put (vector_of point.old) column (near_within value.now (less sides.lower (sparse_total entries.now (vector_of point.old))) (less sides.upper (sparse_total entries.now (vector_of point.old))) bounds.lower bounds.upper)) }
-    ensures fits { IsOk result ↔ (TermsFit zero_ℚ entries.now (vector_of point.old) × SlackFits value.now sides.lower sides.upper (sparse_total entries.now (vector_of point.old))) }
+    ensures lifted { OnOk result (vector_of point.new ≡ slack_singleton.undone undo.now (vector_of point.old)) }
+    ensures fits { IsOk result ↔ slack_singleton.UndoFits undo.now (vector_of point.old) }
 {
-    let number = within_sides(point, value, sides, bounds, entries)?;
-    set_number(point, column, number);
+    let number = within_sides(undo, point)?;
+    set_number(point, undo.column, number);
     Ok(())
 }
 
-/// Takes a column's number, times the factor, out of the column that it was merged into.
-fn take_out(
-    point: &mut [Frac],
-    column: u32,
-    kept: u32,
-    factor: &Frac,
-    number: &Frac,
-) -> Result<(), Past>
-    requires column { column < length point.old }
-    requires kept { kept < length point.old }
-    ensures size { length point.new ≡ length point.old }
-    ensures lifted { OnOk result (vector_of point.new ≡ part (vector_of point.old) column kept factor.now number.now) }
-    ensures fits { IsOk result ↔ LessProductFits (vector_of point.old kept) factor.now number.now }
+/// The number of a column that was merged into another, with which both are within their bounds.
+fn share_of(undo: &ParallelColumns, point: &[Frac]) -> Result<Frac, Past>
+    requires { parallel_columns.CanUndo (length point.now) undo.now }
+    ensures value { IfOk result (λ r. r ≡ parallel_columns.share undo.now (vector_of point.now)) }
+    ensures fits { IsOk result ↔ ShareFits undo.now.factor undo.now.kept_lower undo.now.kept_upper (vector_of point.now undo.now.kept) }
 {
-    let merged = number_of(point, kept);
-    let left = less_product(&merged, factor, number)?;
-    set_number(point, column, *number);
-    set_number(point, kept, left);
+    let bounds = Range::between(&undo.lower.get(), &undo.upper.get());
+    let kept_bounds = Range::between(&undo.kept_lower.get(), &undo.kept_upper.get());
+    let merged = number_of(point, undo.kept);
+    share(&undo.factor.get(), &merged, kept_bounds, bounds)
+}
+
+/// Takes a column's number, times the factor, out of the column that it was merged into.
+fn take_out(undo: &ParallelColumns, point: &mut [Frac], number: &Frac) -> Result<(), Past>
+    requires { parallel_columns.CanUndo (length point.old) undo.now }
+    ensures size { length point.new ≡ length point.old }
+    ensures lifted { OnOk result (vector_of point.new ≡ parallel_columns.part (vector_of point.old) undo.now.column undo.now.kept undo.now.factor number.now) }
+    ensures fits { IsOk result ↔ LessProductFits (vector_of point.old undo.now.kept) undo.now.factor number.now }
+{
+    let merged = number_of(point, undo.kept);
+    let left = less_product(&merged, &undo.factor.get(), number)?;
+    set_number(point, undo.column, *number);
+    set_number(point, undo.kept, left);
     Ok(())
 }
 
 /// K16: shares the merged number between the two columns.
-fn undo_parallel_columns(
-    point: &mut [Frac],
-    column: u32,
-    kept: u32,
-    factor: &Frac,
-    bounds: Range,
-    kept_bounds: Range,
-) -> Result<(), Past>
-    requires column { column < length point.old }
-    requires kept { kept < length point.old }
-    requires factor { factor.now ≢ zero_ℚ }
+fn undo_parallel_columns(undo: &ParallelColumns, point: &mut [Frac]) -> Result<(), Past>
+    requires { parallel_columns.CanUndo (length point.old) undo.now }
     ensures size { length point.new ≡ length point.old }
-    ensures lifted { OnOk result (vector_of point.new ≡ part (vector_of point.old) column kept factor.now (near_within factor.now (minus_ends (Some (vector_of point.old kept)) kept_bounds.upper) (minus_ends (Some (vector_of point.old kept)) kept_bounds.lower) bounds.lower bounds.upper)) }
-    ensures fits { IsOk result ↔ (ShareFits factor.now kept_bounds.lower kept_bounds.upper (vector_of point.old kept) × LessProductFits (vector_of point.old kept) factor.now (near_within factor.now (minus_ends (Some (vector_of point.old kept)) kept_bounds.upper) (minus_ends (Some (vector_of point.old kept)) kept_bounds.lower) bounds.lower bounds.upper)) }
+    ensures lifted { OnOk result (vector_of point.new ≡ parallel_columns.undone undo.now (vector_of point.old)) }
+    ensures fits { IsOk result ↔ parallel_columns.UndoFits undo.now (vector_of point.old) }
 {
-    let merged = number_of(point, kept);
-    let number = share(factor, &merged, kept_bounds, bounds)?;
-    take_out(point, column, kept, factor, &number)
-}
-
-/// Undoes a record whose number is chosen within bounds.
-fn undo_within(undo: &Undo, point: &mut [Frac]) -> Result<(), Past>
-    requires bounds { HasBounds undo.now }
-    requires sound { CanUndo (length point.old) undo.now }
-    ensures size { length point.new ≡ length point.old }
-    ensures lifted { OnOk result (vector_of point.new ≡ undone undo.now (vector_of point.old)) }
-    ensures fits { IsOk result ↔ UndoFits undo.now (vector_of point.old) }
-{
-    match undo {
-        Undo::SlackSingleton {
-            column,
-            value,
-            lower_side,
-            upper_side,
-            lower,
-            upper,
-            entries,
-            ..
-        } => {
-            let sides = Range::between(&lower_side.get(), &upper_side.get());
-            let bounds = Range::between(&lower.get(), &upper.get());
-            undo_slack_singleton(
-                point,
-                *column,
-                &value.get(),
-                sides,
-                bounds,
-                entries.as_slice(),
-            )
-        }
-        Undo::ParallelColumns {
-            column,
-            kept,
-            factor,
-            lower,
-            upper,
-            kept_lower,
-            kept_upper,
-        } => {
-            let bounds = Range::between(&lower.get(), &upper.get());
-            let kept_bounds = Range::between(&kept_lower.get(), &kept_upper.get());
-            undo_parallel_columns(point, *column, *kept, &factor.get(), bounds, kept_bounds)
-        }
-        _ => Ok(()),
-    }
+    let number = share_of(undo, point)?;
+    take_out(undo, point, &number)
 }
 
 /// Undoes one record. After [`Past`] the point is spent.
@@ -227,33 +137,14 @@ pub fn undo_one(undo: &Undo, point: &mut [Frac]) -> Result<(), Past>
     ensures fits { IsOk result ↔ UndoFits undo.now (vector_of point.old) }
 {
     match undo {
-        Undo::FixedColumn { column, value, .. } => {
-            set_number(point, *column, value.get());
+        Undo::FixedColumn(fixed) => {
+            set_number(point, fixed.column, fixed.value.get());
             Ok(())
         }
-        Undo::Doubleton {
-            column,
-            kept,
-            value,
-            kept_value,
-            equal,
-            ..
-        } => undo_doubleton(
-            point,
-            *column,
-            *kept,
-            &value.get(),
-            &kept_value.get(),
-            &equal.get(),
-        ),
-        Undo::FreeSingleton {
-            column,
-            value,
-            at,
-            entries,
-            ..
-        } => undo_free_singleton(point, *column, &value.get(), &at.get(), entries.as_slice()),
-        Undo::SlackSingleton { .. } | Undo::ParallelColumns { .. } => undo_within(undo, point),
+        Undo::Doubleton(doubleton) => undo_doubleton(doubleton, point),
+        Undo::FreeSingleton(singleton) => undo_free_singleton(singleton, point),
+        Undo::SlackSingleton(singleton) => undo_slack_singleton(singleton, point),
+        Undo::ParallelColumns(columns) => undo_parallel_columns(columns, point),
         _ => Ok(()),
     }
 }

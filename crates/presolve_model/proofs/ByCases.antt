@@ -353,7 +353,7 @@ records_tallied p (RedundantRow i) c us e a h = tally_same c us (record_of (Redu
 records_tallied p (RedundantSide i) c us e a h = tally_same c us (record_of (RedundantSide i) p) (λ k s. refl) h
 records_tallied p (ForcingRow i) c us e a h = tally_same c us (record_of (ForcingRow i) p) (λ k s. refl) h
 records_tallied p (TightenedBound i j side) c us e a h =
-    tally_more c us (length p.matrix.columns) i j side (old_bound side (bounds_at p j).lower (bounds_at p j).upper) (row_entries p i) a (column_inside p j (tightened_bound.column_live p i j side e)) h
+    tally_more c us (length p.matrix.columns) (record { row = i; column = j; side = side; bound = old_bound side (bounds_at p j).lower (bounds_at p j).upper; entries = row_entries p i }) a (column_inside p j (tightened_bound.column_live p i j side e)) h
 records_tallied p (TightenedCoefficient i j) c us e a h = tally_same c us (record_of (TightenedCoefficient i j) p) (λ k s. refl) h
 records_tallied p (FixedByCost j) c us e a h = tally_same c us (record_of (FixedByCost j) p) (λ k s. refl) h
 records_tallied p (DominatedColumn i j k) c us e a h = tally_same c us (record_of (DominatedColumn i j k) p) (λ k s. refl) h

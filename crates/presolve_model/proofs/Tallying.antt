@@ -1,13 +1,12 @@
 -- Counts that stop at ten, and the records.
-use Rattle.std.proofs.Common.{◌≡◌, ◌≢◌, ◌⊎◌, inl, inr, ℕ, zero, suc, ◌+◌, ◌<◌, min, nat_eq, nat_lt, Bool, true, false, ◌&&◌, cond, if◌then◌else◌, List, [], ◌∷◌, ◌++◌, Option, length, get_or, replicate, slice_set, refl, sym, ap, ◌∙◌, subst, arith}
+use Rattle.std.proofs.Common.{◌≡◌, ◌≢◌, ◌⊎◌, inl, inr, ℕ, zero, suc, ◌+◌, ◌<◌, min, nat_eq, nat_lt, Bool, true, false, ◌&&◌, cond, if◌then◌else◌, List, [], ◌∷◌, ◌++◌, length, get_or, replicate, slice_set, refl, sym, ap, ◌∙◌, subst, arith}
 use Rattle.std.specs.List.{filter}
 use Rattle.std.proofs.lemmas.Bool.{cases_eq, eq-eqb, le-ltb, lt-ltb, ltb-false, ltb-true, ne_eqb}
 use Rattle.std.proofs.lemmas.List.{get_or-set_other, get_or-set_same, length-append, length-replicate, length-set}
 use Rattle.std.proofs.lemmas.List.Elements.{filter-append}
-use Rattle.lp_model.specs.declared.terms.Term.{Term}
-use Rattle.rational.specs.Number.{Number}
 use Rattle.undo_records.specs.declared.side.Side.{Side}
 use Rattle.undo_records.specs.declared.side.Side.TheVariants.{Lower, Upper}
+use Rattle.undo_records.specs.declared.kinds.tighten_bound.TightenBound.{TightenBound}
 use Rattle.undo_records.specs.declared.undo.Undo.{Undo}
 use Rattle.undo_records.specs.declared.undo.Undo.TheVariants as undo
 use Rattle.presolve_model.specs.Tallies.{AreCountsOf, count_on, counted, Counts, is_tightening, IsTally, no_counts, one_more, open_by, open_on, same_side, tightenings}
@@ -78,11 +77,11 @@ taken false n m u e = let z : m + 0 ≡ m = omega arith in e ∙ ap (λ (k : ℕ
 with_one : (us : List Undo) (u : Undo) (k : ℕ) (s : Side) → tightenings (us ++ u ∷ []) k s ≡ tightenings us k s + tightenings (u ∷ []) k s
 with_one us u k s = ap length (filter-append (is_tightening k s) us (u ∷ [])) ∙ length-append (filter (is_tightening k s) us) (filter (is_tightening k s) (u ∷ []))
 
-pub tally_more : (c : Counts) (us : List Undo) (n i j : ℕ) (side : Side) (old : Option Number) (ts : List Term) → AreCountsOf n c → j < n → IsTally c us → IsTally (counted c j side) (us ++ undo.TightenBound i j side old ts ∷ [])
-tally_more c us n i j side old ts a l h k s =
-    let u : Undo = undo.TightenBound i j side old ts in
-    count_after c n j side a l k s
-    ∙ taken (nat_eq j k && same_side side s) (count_on c k s) (tightenings us k s) u (h k s)
+pub tally_more : (c : Counts) (us : List Undo) (n : ℕ) (r : TightenBound) → AreCountsOf n c → r.column < n → IsTally c us → IsTally (counted c r.column r.side) (us ++ undo.TightenBound r ∷ [])
+tally_more c us n r a l h k s =
+    let u : Undo = undo.TightenBound r in
+    count_after c n r.column r.side a l k s
+    ∙ taken (nat_eq r.column k && same_side r.side s) (count_on c k s) (tightenings us k s) u (h k s)
     ∙ ap (λ (m : ℕ). min m 10) (sym (with_one us u k s))
 
 -- ---- another record

@@ -1,5 +1,5 @@
 -- The words of each record: its rule, and the fields behind it.
-use Rattle.std.specs.Prelude.{ℕ, List, [], ◌∷◌, codes, ⊤}
+use Rattle.std.specs.Prelude.{ℕ, List, [], ◌∷◌, codes}
 use Rattle.std.specs.Fmt.{decimal}
 use Rattle.undo_records.specs.declared.undo.Undo.{Undo}
 use Rattle.undo_records.specs.declared.undo.Undo.TheVariants.{EmptyRow, SingletonRow, FixedColumn, RoundBounds, RedundantRow, RedundantSide, ForcingRow, TightenBound, TightenCoefficient, DualFix, Dominated, Doubleton, FreeSingleton, SlackSingleton, ParallelRows, ParallelColumns, EmptyColumn}
@@ -7,65 +7,40 @@ use Rattle.record_file.specs.Words.{ratio_word, lower_word, upper_word, letter_w
 
 -- the rule of a reduction
 abbrev pub rule_word : Undo → List ℕ
-rule_word (EmptyRow i) = codes "K1"
-rule_word (SingletonRow i j a l u) = codes "K2"
-rule_word (FixedColumn j v c ts) = codes "K3"
-rule_word (RoundBounds j) = codes "K4"
-rule_word (RedundantRow i) = codes "K5"
-rule_word (RedundantSide i) = codes "K6"
-rule_word (ForcingRow i side ts) = codes "K7"
-rule_word (TightenBound i j side b ts) = codes "K8"
-rule_word (TightenCoefficient i j) = codes "K9"
-rule_word (DualFix j) = codes "K10"
-rule_word (Dominated i j k) = codes "K11"
-rule_word (Doubleton i j k a b r l u c ts) = codes "K12"
-rule_word (FreeSingleton j i a s t ts) = codes "K13"
-rule_word (SlackSingleton j i a t L U l u fate ts) = codes "K14"
-rule_word (ParallelRows i k s L U ts) = codes "K15"
-rule_word (ParallelColumns j k s l u L U) = codes "K16"
-rule_word (EmptyColumn j) = codes "K17"
+rule_word (EmptyRow r) = codes "K1"
+rule_word (SingletonRow r) = codes "K2"
+rule_word (FixedColumn r) = codes "K3"
+rule_word (RoundBounds r) = codes "K4"
+rule_word (RedundantRow r) = codes "K5"
+rule_word (RedundantSide r) = codes "K6"
+rule_word (ForcingRow r) = codes "K7"
+rule_word (TightenBound r) = codes "K8"
+rule_word (TightenCoefficient r) = codes "K9"
+rule_word (DualFix r) = codes "K10"
+rule_word (Dominated r) = codes "K11"
+rule_word (Doubleton r) = codes "K12"
+rule_word (FreeSingleton r) = codes "K13"
+rule_word (SlackSingleton r) = codes "K14"
+rule_word (ParallelRows r) = codes "K15"
+rule_word (ParallelColumns r) = codes "K16"
+rule_word (EmptyColumn r) = codes "K17"
 
--- what its record holds: rows i and columns j first (k: a second one of the same kind), a list of entries last
+-- what its record holds: ids of rows and columns first, a list of entries last
 abbrev pub field_words : Undo → List (List ℕ)
-field_words (EmptyRow i) = decimal i ∷ []
-field_words (SingletonRow i j a l u) = decimal i ∷ decimal j ∷ ratio_word a ∷ lower_word l ∷ upper_word u ∷ []
-field_words (FixedColumn j v c ts) = decimal j ∷ ratio_word v ∷ ratio_word c ∷ list_words ts
-field_words (RoundBounds j) = decimal j ∷ []
-field_words (RedundantRow i) = decimal i ∷ []
-field_words (RedundantSide i) = decimal i ∷ []
-field_words (ForcingRow i side ts) = decimal i ∷ letter_word side ∷ list_words ts
-field_words (TightenBound i j side b ts) = decimal i ∷ decimal j ∷ side_word side ∷ bound_word side b ∷ list_words ts
-field_words (TightenCoefficient i j) = decimal i ∷ decimal j ∷ []
-field_words (DualFix j) = decimal j ∷ []
-field_words (Dominated i j k) = decimal i ∷ decimal j ∷ decimal k ∷ []
-field_words (Doubleton i j k a b r l u c ts) = decimal i ∷ decimal j ∷ decimal k ∷ ratio_word a ∷ ratio_word b ∷ ratio_word r ∷ lower_word l ∷ upper_word u ∷ ratio_word c ∷ list_words ts
-field_words (FreeSingleton j i a s t ts) = decimal j ∷ decimal i ∷ ratio_word a ∷ ratio_word s ∷ ratio_word t ∷ list_words ts
-field_words (SlackSingleton j i a t L U l u fate ts) = decimal j ∷ decimal i ∷ ratio_word a ∷ ratio_word t ∷ lower_word L ∷ upper_word U ∷ lower_word l ∷ upper_word u ∷ fate_word fate ∷ list_words ts
-field_words (ParallelRows i k s L U ts) = decimal i ∷ decimal k ∷ ratio_word s ∷ lower_word L ∷ upper_word U ∷ list_words ts
-field_words (ParallelColumns j k s l u L U) = decimal j ∷ decimal k ∷ ratio_word s ∷ lower_word l ∷ upper_word u ∷ lower_word L ∷ upper_word U ∷ []
-field_words (EmptyColumn j) = decimal j ∷ []
-
--- the record of a deleted row
-abbrev pub IsOfRow : Undo → Type 0
-IsOfRow (SingletonRow i j a l u) = ⊤
-IsOfRow (ForcingRow i side ts) = ⊤
-IsOfRow (ParallelRows i k s L U ts) = ⊤
-IsOfRow other = ⊥
-
--- the record of one column's value or bound
-abbrev pub IsOfBound : Undo → Type 0
-IsOfBound (FixedColumn j v c ts) = ⊤
-IsOfBound (TightenBound i j side b ts) = ⊤
-IsOfBound other = ⊥
-
--- the record of a column with one entry
-abbrev pub IsOfSingleton : Undo → Type 0
-IsOfSingleton (FreeSingleton j i a s t ts) = ⊤
-IsOfSingleton (SlackSingleton j i a t L U l u fate ts) = ⊤
-IsOfSingleton other = ⊥
-
--- the record of a column that went into another one
-abbrev pub IsOfPair : Undo → Type 0
-IsOfPair (Doubleton i j k a b r l u c ts) = ⊤
-IsOfPair (ParallelColumns j k s l u L U) = ⊤
-IsOfPair other = ⊥
+field_words (EmptyRow r) = decimal r.row ∷ []
+field_words (SingletonRow r) = decimal r.row ∷ decimal r.column ∷ ratio_word r.value ∷ lower_word r.lower ∷ upper_word r.upper ∷ []
+field_words (FixedColumn r) = decimal r.column ∷ ratio_word r.value ∷ ratio_word r.cost ∷ list_words r.entries
+field_words (RoundBounds r) = decimal r.column ∷ []
+field_words (RedundantRow r) = decimal r.row ∷ []
+field_words (RedundantSide r) = decimal r.row ∷ []
+field_words (ForcingRow r) = decimal r.row ∷ letter_word r.side ∷ list_words r.entries
+field_words (TightenBound r) = decimal r.row ∷ decimal r.column ∷ side_word r.side ∷ bound_word r.side r.bound ∷ list_words r.entries
+field_words (TightenCoefficient r) = decimal r.row ∷ decimal r.column ∷ []
+field_words (DualFix r) = decimal r.column ∷ []
+field_words (Dominated r) = decimal r.row ∷ decimal r.better ∷ decimal r.column ∷ []
+field_words (Doubleton r) = decimal r.row ∷ decimal r.column ∷ decimal r.kept ∷ ratio_word r.value ∷ ratio_word r.kept_value ∷ ratio_word r.equal ∷ lower_word r.lower ∷ upper_word r.upper ∷ ratio_word r.cost ∷ list_words r.entries
+field_words (FreeSingleton r) = decimal r.column ∷ decimal r.row ∷ ratio_word r.value ∷ ratio_word r.at ∷ ratio_word r.price ∷ list_words r.entries
+field_words (SlackSingleton r) = decimal r.column ∷ decimal r.row ∷ ratio_word r.value ∷ ratio_word r.price ∷ lower_word r.lower_side ∷ upper_word r.upper_side ∷ lower_word r.lower ∷ upper_word r.upper ∷ fate_word r.fate ∷ list_words r.entries
+field_words (ParallelRows r) = decimal r.row ∷ decimal r.kept ∷ ratio_word r.factor ∷ lower_word r.lower ∷ upper_word r.upper ∷ list_words r.entries
+field_words (ParallelColumns r) = decimal r.column ∷ decimal r.kept ∷ ratio_word r.factor ∷ lower_word r.lower ∷ upper_word r.upper ∷ lower_word r.kept_lower ∷ upper_word r.kept_upper ∷ []
+field_words (EmptyColumn r) = decimal r.column ∷ []

@@ -1,7 +1,8 @@
 //! The words of each record.
 
 ghost use Rattle.std.specs.Prelude.{◌≡◌, OnOk};
-ghost use Rattle.record_file.specs.Fields.{rule_word, field_words, IsOfRow, IsOfBound, IsOfSingleton, IsOfPair};
+ghost use Rattle.undo_records.specs.declared.undo.Undo.TheVariants as kind;
+ghost use Rattle.record_file.specs.Fields.{rule_word, field_words};
 ghost use Rattle.record_file.specs.Onto.{words_onto};
 
 use crate::words::{
@@ -9,30 +10,33 @@ use crate::words::{
     push_terms,
 };
 use std::alloc::AllocError;
-use undo_records::Undo;
+use undo_records::{
+    Doubleton, FixedColumn, ForcingRow, FreeSingleton, ParallelColumns, ParallelRows, SingletonRow,
+    SlackSingleton, TightenBound, Undo,
+};
 
 /// The rule of the reduction that a record undoes.
 pub fn rule_name(undo: &Undo) -> &'static [u8]
     ensures { result.now ≡ rule_word undo.now }
 {
     match undo {
-        Undo::EmptyRow { .. } => b"K1",
-        Undo::SingletonRow { .. } => b"K2",
-        Undo::FixedColumn { .. } => b"K3",
-        Undo::RoundBounds { .. } => b"K4",
-        Undo::RedundantRow { .. } => b"K5",
-        Undo::RedundantSide { .. } => b"K6",
-        Undo::ForcingRow { .. } => b"K7",
-        Undo::TightenBound { .. } => b"K8",
-        Undo::TightenCoefficient { .. } => b"K9",
-        Undo::DualFix { .. } => b"K10",
-        Undo::Dominated { .. } => b"K11",
-        Undo::Doubleton { .. } => b"K12",
-        Undo::FreeSingleton { .. } => b"K13",
-        Undo::SlackSingleton { .. } => b"K14",
-        Undo::ParallelRows { .. } => b"K15",
-        Undo::ParallelColumns { .. } => b"K16",
-        Undo::EmptyColumn { .. } => b"K17",
+        Undo::EmptyRow(_) => b"K1",
+        Undo::SingletonRow(_) => b"K2",
+        Undo::FixedColumn(_) => b"K3",
+        Undo::RoundBounds(_) => b"K4",
+        Undo::RedundantRow(_) => b"K5",
+        Undo::RedundantSide(_) => b"K6",
+        Undo::ForcingRow(_) => b"K7",
+        Undo::TightenBound(_) => b"K8",
+        Undo::TightenCoefficient(_) => b"K9",
+        Undo::DualFix(_) => b"K10",
+        Undo::Dominated(_) => b"K11",
+        Undo::Doubleton(_) => b"K12",
+        Undo::FreeSingleton(_) => b"K13",
+        Undo::SlackSingleton(_) => b"K14",
+        Undo::ParallelRows(_) => b"K15",
+        Undo::ParallelColumns(_) => b"K16",
+        Undo::EmptyColumn(_) => b"K17",
     }
 }
 
@@ -41,175 +45,113 @@ pub fn push_fields(out: &mut Vec<u8>, undo: &Undo) -> Result<(), AllocError>
     ensures { OnOk result (out.new.items ≡ words_onto out.old.items (field_words undo.now)) }
 {
     match undo {
-        Undo::EmptyRow { row } | Undo::RedundantRow { row } | Undo::RedundantSide { row } =>
-            push_id(out, *row),
-        Undo::RoundBounds { column } | Undo::DualFix { column } | Undo::EmptyColumn { column } =>
-            push_id(out, *column),
-        Undo::TightenCoefficient { row, column } => push_ids(out, &[*row, *column]),
-        Undo::Dominated {
-            row,
-            better,
-            column,
-        } => push_ids(out, &[*row, *better, *column]),
-        Undo::FixedColumn { .. } | Undo::TightenBound { .. } => push_bound_fields(out, undo),
-        Undo::SingletonRow { .. } | Undo::ForcingRow { .. } | Undo::ParallelRows { .. } =>
-            push_row_fields(out, undo),
-        Undo::FreeSingleton { .. } | Undo::SlackSingleton { .. } => push_singleton_fields(
-            out, undo,
-        ),
-        Undo::Doubleton { .. } | Undo::ParallelColumns { .. } => push_pair_fields(out, undo),
+        Undo::EmptyRow(undo) => push_id(out, undo.row),
+        Undo::SingletonRow(undo) => push_singleton_row(out, undo),
+        Undo::FixedColumn(undo) => push_fixed_column(out, undo),
+        Undo::RoundBounds(undo) => push_id(out, undo.column),
+        Undo::RedundantRow(undo) => push_id(out, undo.row),
+        Undo::RedundantSide(undo) => push_id(out, undo.row),
+        Undo::ForcingRow(undo) => push_forcing_row(out, undo),
+        Undo::TightenBound(undo) => push_tighten_bound(out, undo),
+        Undo::TightenCoefficient(undo) => push_ids(out, &[undo.row, undo.column]),
+        Undo::DualFix(undo) => push_id(out, undo.column),
+        Undo::Dominated(undo) => push_ids(out, &[undo.row, undo.better, undo.column]),
+        Undo::Doubleton(undo) => push_doubleton(out, undo),
+        Undo::FreeSingleton(undo) => push_free_singleton(out, undo),
+        Undo::SlackSingleton(undo) => push_slack_singleton(out, undo),
+        Undo::ParallelRows(undo) => push_parallel_rows(out, undo),
+        Undo::ParallelColumns(undo) => push_parallel_columns(out, undo),
+        Undo::EmptyColumn(undo) => push_id(out, undo.column),
     }
 }
 
-/// Appends the fields of a deleted row.
-fn push_row_fields(out: &mut Vec<u8>, undo: &Undo) -> Result<(), AllocError>
-    requires { IsOfRow undo.now }
-    ensures { OnOk result (out.new.items ≡ words_onto out.old.items (field_words undo.now)) }
+/// Appends the fields of a row with one entry.
+fn push_singleton_row(out: &mut Vec<u8>, undo: &SingletonRow) -> Result<(), AllocError>
+    ensures { OnOk result (out.new.items ≡ words_onto out.old.items (field_words (kind.SingletonRow undo.now))) }
 {
-    match undo {
-        Undo::SingletonRow {
-            row,
-            column,
-            value,
-            lower,
-            upper,
-        } => {
-            push_ids(out, &[*row, *column])?;
-            push_ratio(out, &value.get())?;
-            push_bounds(out, lower.get(), upper.get())
-        }
-        Undo::ForcingRow { row, side, entries } => {
-            push_id(out, *row)?;
-            push_side(out, *side)?;
-            push_terms(out, entries.as_slice())
-        }
-        Undo::ParallelRows {
-            row,
-            kept,
-            factor,
-            lower,
-            upper,
-            entries,
-        } => {
-            push_ids(out, &[*row, *kept])?;
-            push_ratio(out, &factor.get())?;
-            push_bounds(out, lower.get(), upper.get())?;
-            push_terms(out, entries.as_slice())
-        }
-        _ => Ok(()),
-    }
+    push_ids(out, &[undo.row, undo.column])?;
+    push_ratio(out, &undo.value.get())?;
+    push_bounds(out, undo.lower.get(), undo.upper.get())
 }
 
-/// Appends the fields of a column's value or bound.
-fn push_bound_fields(out: &mut Vec<u8>, undo: &Undo) -> Result<(), AllocError>
-    requires { IsOfBound undo.now }
-    ensures { OnOk result (out.new.items ≡ words_onto out.old.items (field_words undo.now)) }
+/// Appends the fields of a column with equal bounds.
+fn push_fixed_column(out: &mut Vec<u8>, undo: &FixedColumn) -> Result<(), AllocError>
+    ensures { OnOk result (out.new.items ≡ words_onto out.old.items (field_words (kind.FixedColumn undo.now))) }
 {
-    match undo {
-        Undo::FixedColumn {
-            column,
-            value,
-            cost,
-            entries,
-        } => {
-            push_id(out, *column)?;
-            push_ratios(out, &[value.get(), cost.get()])?;
-            push_terms(out, entries.as_slice())
-        }
-        Undo::TightenBound {
-            row,
-            column,
-            side,
-            bound,
-            entries,
-        } => {
-            push_ids(out, &[*row, *column])?;
-            push_bound(out, *side, bound.get())?;
-            push_terms(out, entries.as_slice())
-        }
-        _ => Ok(()),
-    }
+    push_id(out, undo.column)?;
+    push_ratios(out, &[undo.value.get(), undo.cost.get()])?;
+    push_terms(out, undo.entries.as_slice())
 }
 
-/// Appends the fields of a column with one entry.
-fn push_singleton_fields(out: &mut Vec<u8>, undo: &Undo) -> Result<(), AllocError>
-    requires { IsOfSingleton undo.now }
-    ensures { OnOk result (out.new.items ≡ words_onto out.old.items (field_words undo.now)) }
+/// Appends the fields of a row that fixed its columns.
+fn push_forcing_row(out: &mut Vec<u8>, undo: &ForcingRow) -> Result<(), AllocError>
+    ensures { OnOk result (out.new.items ≡ words_onto out.old.items (field_words (kind.ForcingRow undo.now))) }
 {
-    match undo {
-        Undo::FreeSingleton {
-            column,
-            row,
-            value,
-            at,
-            price,
-            entries,
-        } => {
-            push_ids(out, &[*column, *row])?;
-            push_ratios(out, &[value.get(), at.get(), price.get()])?;
-            push_terms(out, entries.as_slice())
-        }
-        Undo::SlackSingleton {
-            column,
-            row,
-            value,
-            price,
-            lower_side,
-            upper_side,
-            lower,
-            upper,
-            fate,
-            entries,
-        } => {
-            push_ids(out, &[*column, *row])?;
-            push_ratios(out, &[value.get(), price.get()])?;
-            push_bounds(out, lower_side.get(), upper_side.get())?;
-            push_bounds(out, lower.get(), upper.get())?;
-            push_fate(out, *fate)?;
-            push_terms(out, entries.as_slice())
-        }
-        _ => Ok(()),
-    }
+    push_id(out, undo.row)?;
+    push_side(out, undo.side)?;
+    push_terms(out, undo.entries.as_slice())
 }
 
-/// Appends the fields of a column that went into another one.
-fn push_pair_fields(out: &mut Vec<u8>, undo: &Undo) -> Result<(), AllocError>
-    requires { IsOfPair undo.now }
-    ensures { OnOk result (out.new.items ≡ words_onto out.old.items (field_words undo.now)) }
+/// Appends the fields of a bound that was replaced.
+fn push_tighten_bound(out: &mut Vec<u8>, undo: &TightenBound) -> Result<(), AllocError>
+    ensures { OnOk result (out.new.items ≡ words_onto out.old.items (field_words (kind.TightenBound undo.now))) }
 {
-    match undo {
-        Undo::Doubleton {
-            row,
-            column,
-            kept,
-            value,
-            kept_value,
-            equal,
-            lower,
-            upper,
-            cost,
-            entries,
-        } => {
-            push_ids(out, &[*row, *column, *kept])?;
-            push_ratios(out, &[value.get(), kept_value.get(), equal.get()])?;
-            push_bounds(out, lower.get(), upper.get())?;
-            push_ratio(out, &cost.get())?;
-            push_terms(out, entries.as_slice())
-        }
-        Undo::ParallelColumns {
-            column,
-            kept,
-            factor,
-            lower,
-            upper,
-            kept_lower,
-            kept_upper,
-        } => {
-            push_ids(out, &[*column, *kept])?;
-            push_ratio(out, &factor.get())?;
-            push_bounds(out, lower.get(), upper.get())?;
-            push_bounds(out, kept_lower.get(), kept_upper.get())
-        }
-        _ => Ok(()),
-    }
+    push_ids(out, &[undo.row, undo.column])?;
+    push_bound(out, undo.side, undo.bound.get())?;
+    push_terms(out, undo.entries.as_slice())
+}
+
+/// Appends the fields of an equation of two columns.
+fn push_doubleton(out: &mut Vec<u8>, undo: &Doubleton) -> Result<(), AllocError>
+    ensures { OnOk result (out.new.items ≡ words_onto out.old.items (field_words (kind.Doubleton undo.now))) }
+{
+    push_ids(out, &[undo.row, undo.column, undo.kept])?;
+    push_ratios(
+        out,
+        &[undo.value.get(), undo.kept_value.get(), undo.equal.get()],
+    )?;
+    push_bounds(out, undo.lower.get(), undo.upper.get())?;
+    push_ratio(out, &undo.cost.get())?;
+    push_terms(out, undo.entries.as_slice())
+}
+
+/// Appends the fields of a free column with one entry.
+fn push_free_singleton(out: &mut Vec<u8>, undo: &FreeSingleton) -> Result<(), AllocError>
+    ensures { OnOk result (out.new.items ≡ words_onto out.old.items (field_words (kind.FreeSingleton undo.now))) }
+{
+    push_ids(out, &[undo.column, undo.row])?;
+    push_ratios(out, &[undo.value.get(), undo.at.get(), undo.price.get()])?;
+    push_terms(out, undo.entries.as_slice())
+}
+
+/// Appends the fields of a slack column with one entry.
+fn push_slack_singleton(out: &mut Vec<u8>, undo: &SlackSingleton) -> Result<(), AllocError>
+    ensures { OnOk result (out.new.items ≡ words_onto out.old.items (field_words (kind.SlackSingleton undo.now))) }
+{
+    push_ids(out, &[undo.column, undo.row])?;
+    push_ratios(out, &[undo.value.get(), undo.price.get()])?;
+    push_bounds(out, undo.lower_side.get(), undo.upper_side.get())?;
+    push_bounds(out, undo.lower.get(), undo.upper.get())?;
+    push_fate(out, undo.fate)?;
+    push_terms(out, undo.entries.as_slice())
+}
+
+/// Appends the fields of parallel rows.
+fn push_parallel_rows(out: &mut Vec<u8>, undo: &ParallelRows) -> Result<(), AllocError>
+    ensures { OnOk result (out.new.items ≡ words_onto out.old.items (field_words (kind.ParallelRows undo.now))) }
+{
+    push_ids(out, &[undo.row, undo.kept])?;
+    push_ratio(out, &undo.factor.get())?;
+    push_bounds(out, undo.lower.get(), undo.upper.get())?;
+    push_terms(out, undo.entries.as_slice())
+}
+
+/// Appends the fields of parallel columns.
+fn push_parallel_columns(out: &mut Vec<u8>, undo: &ParallelColumns) -> Result<(), AllocError>
+    ensures { OnOk result (out.new.items ≡ words_onto out.old.items (field_words (kind.ParallelColumns undo.now))) }
+{
+    push_ids(out, &[undo.column, undo.kept])?;
+    push_ratio(out, &undo.factor.get())?;
+    push_bounds(out, undo.lower.get(), undo.upper.get())?;
+    push_bounds(out, undo.kept_lower.get(), undo.kept_upper.get())
 }

@@ -11,7 +11,24 @@ use Rattle.undo_records.specs.Walk.{NamesLive}
 use Rattle.undo_records.specs.declared.side.Side.{Side}
 use Rattle.undo_records.specs.declared.side.RowFate.{RowFate}
 use Rattle.undo_records.specs.declared.undo.Undo.{Undo}
-use Rattle.undo_records.specs.declared.undo.Undo.TheVariants.{EmptyRow, SingletonRow, FixedColumn, RoundBounds, RedundantRow, RedundantSide, ForcingRow, TightenBound, TightenCoefficient, DualFix, Dominated, Doubleton, FreeSingleton, SlackSingleton, ParallelRows, ParallelColumns, EmptyColumn}
+use Rattle.undo_records.specs.declared.undo.Undo.TheVariants as kind
+use Rattle.undo_records.specs.declared.kinds.empty_row.EmptyRow.{EmptyRow}
+use Rattle.undo_records.specs.declared.kinds.singleton_row.SingletonRow.{SingletonRow}
+use Rattle.undo_records.specs.declared.kinds.fixed_column.FixedColumn.{FixedColumn}
+use Rattle.undo_records.specs.declared.kinds.round_bounds.RoundBounds.{RoundBounds}
+use Rattle.undo_records.specs.declared.kinds.redundant_row.RedundantRow.{RedundantRow}
+use Rattle.undo_records.specs.declared.kinds.redundant_side.RedundantSide.{RedundantSide}
+use Rattle.undo_records.specs.declared.kinds.forcing_row.ForcingRow.{ForcingRow}
+use Rattle.undo_records.specs.declared.kinds.tighten_bound.TightenBound.{TightenBound}
+use Rattle.undo_records.specs.declared.kinds.tighten_coefficient.TightenCoefficient.{TightenCoefficient}
+use Rattle.undo_records.specs.declared.kinds.dual_fix.DualFix.{DualFix}
+use Rattle.undo_records.specs.declared.kinds.dominated.Dominated.{Dominated}
+use Rattle.undo_records.specs.declared.kinds.doubleton.Doubleton.{Doubleton}
+use Rattle.undo_records.specs.declared.kinds.free_singleton.FreeSingleton.{FreeSingleton}
+use Rattle.undo_records.specs.declared.kinds.slack_singleton.SlackSingleton.{SlackSingleton}
+use Rattle.undo_records.specs.declared.kinds.parallel_rows.ParallelRows.{ParallelRows}
+use Rattle.undo_records.specs.declared.kinds.parallel_columns.ParallelColumns.{ParallelColumns}
+use Rattle.undo_records.specs.declared.kinds.empty_column.EmptyColumn.{EmptyColumn}
 use Rattle.undo_records.proofs.Walking as walking
 use Rattle.record_file.specs.Words.{list_words}
 use Rattle.record_file.specs.Fields.{rule_word, field_words}
@@ -56,203 +73,203 @@ id_whole n h = decimal_whole n (omega (arith, h))
 abbrev Again : ℕ → ℕ → Undo → Type 0
 Again m n u = IsSound m n u → UndoFits u → IsReadAgain u
 
-empty_row : (m n i : ℕ) → Again m n (EmptyRow i)
-empty_row m n i s f = record {
+empty_row : (m n : ℕ) (r : EmptyRow) → Again m n (kind.EmptyRow r)
+empty_row m n r s f = record {
   rule = K1;
-  read = (refl, form K1 (field_words (EmptyRow i)) (both _ _ (id_passes i f) refl) refl, λ t. EmptyRow (id_again i f t));
-  whole = (refl, (id_whole i f, tt));
+  read = (refl, form K1 (field_words (kind.EmptyRow r)) (both _ _ (id_passes r.row f) refl) refl, λ t. kind.EmptyRow (record { row = id_again r.row f t }));
+  whole = (refl, (id_whole r.row f, tt));
 }
 
-singleton_row : (m n i j : ℕ) (a : Number) (l u : Option Number) → Again m n (SingletonRow i j a l u)
-singleton_row m n i j a l u s f = record {
+singleton_row : (m n : ℕ) (r : SingletonRow) → Again m n (kind.SingletonRow r)
+singleton_row m n r s f = record {
   rule = K2;
   read = (
     refl,
-    form K2 (field_words (SingletonRow i j a l u)) (both _ _ (id_passes i f.0) (both _ _ (id_passes j f.1) (both _ _ (entry_passes a f.2 s.2) (both _ _ (lower_passes l f.3.0) (both _ _ (upper_passes u f.3.1) refl))))) refl,
-    λ t. SingletonRow (id_again i f.0 t) (id_again j f.1 t) (number_again a f.2 t) (lower_again l f.3.0 t) (upper_again u f.3.1 t),
+    form K2 (field_words (kind.SingletonRow r)) (both _ _ (id_passes r.row f.0) (both _ _ (id_passes r.column f.1) (both _ _ (entry_passes r.value f.2 s.2) (both _ _ (lower_passes r.lower f.3.0) (both _ _ (upper_passes r.upper f.3.1) refl))))) refl,
+    λ t. kind.SingletonRow (record { row = id_again r.row f.0 t; column = id_again r.column f.1 t; value = number_again r.value f.2 t; lower = lower_again r.lower f.3.0 t; upper = upper_again r.upper f.3.1 t }),
   );
-  whole = (refl, (id_whole i f.0, (id_whole j f.1, (ratio_whole a f.2, (lower_whole l f.3.0, (upper_whole u f.3.1, tt))))));
+  whole = (refl, (id_whole r.row f.0, (id_whole r.column f.1, (ratio_whole r.value f.2, (lower_whole r.lower f.3.0, (upper_whole r.upper f.3.1, tt))))));
 }
 
-fixed_column : (m n j : ℕ) (v c : Number) (ts : List Term) → Again m n (FixedColumn j v c ts)
-fixed_column m n j v c ts s f = record {
+fixed_column : (m n : ℕ) (r : FixedColumn) → Again m n (kind.FixedColumn r)
+fixed_column m n r s f = record {
   rule = K3;
   read = (
     refl,
-    form K3 (field_words (FixedColumn j v c ts)) (both _ _ (id_passes j f.0) (both _ _ (number_passes v f.1) (both _ _ (number_passes c f.2) (list_passes m ts s.1 f.3)))) refl,
-    λ t. FixedColumn (id_again j f.0 t) (number_again v f.1 t) (number_again c f.2 t) (list_again ts f.3 t),
+    form K3 (field_words (kind.FixedColumn r)) (both _ _ (id_passes r.column f.0) (both _ _ (number_passes r.value f.1) (both _ _ (number_passes r.cost f.2) (list_passes m r.entries s.1 f.3)))) refl,
+    λ t. kind.FixedColumn (record { column = id_again r.column f.0 t; value = number_again r.value f.1 t; cost = number_again r.cost f.2 t; entries = list_again r.entries f.3 t }),
   );
-  whole = (refl, (id_whole j f.0, (ratio_whole v f.1, (ratio_whole c f.2, list_whole m ts s.1 f.3))));
+  whole = (refl, (id_whole r.column f.0, (ratio_whole r.value f.1, (ratio_whole r.cost f.2, list_whole m r.entries s.1 f.3))));
 }
 
-round_bounds : (m n j : ℕ) → Again m n (RoundBounds j)
-round_bounds m n j s f = record {
+round_bounds : (m n : ℕ) (r : RoundBounds) → Again m n (kind.RoundBounds r)
+round_bounds m n r s f = record {
   rule = K4;
-  read = (refl, form K4 (field_words (RoundBounds j)) (both _ _ (id_passes j f) refl) refl, λ t. RoundBounds (id_again j f t));
-  whole = (refl, (id_whole j f, tt));
+  read = (refl, form K4 (field_words (kind.RoundBounds r)) (both _ _ (id_passes r.column f) refl) refl, λ t. kind.RoundBounds (record { column = id_again r.column f t }));
+  whole = (refl, (id_whole r.column f, tt));
 }
 
-redundant_row : (m n i : ℕ) → Again m n (RedundantRow i)
-redundant_row m n i s f = record {
+redundant_row : (m n : ℕ) (r : RedundantRow) → Again m n (kind.RedundantRow r)
+redundant_row m n r s f = record {
   rule = K5;
-  read = (refl, form K5 (field_words (RedundantRow i)) (both _ _ (id_passes i f) refl) refl, λ t. RedundantRow (id_again i f t));
-  whole = (refl, (id_whole i f, tt));
+  read = (refl, form K5 (field_words (kind.RedundantRow r)) (both _ _ (id_passes r.row f) refl) refl, λ t. kind.RedundantRow (record { row = id_again r.row f t }));
+  whole = (refl, (id_whole r.row f, tt));
 }
 
-redundant_side : (m n i : ℕ) → Again m n (RedundantSide i)
-redundant_side m n i s f = record {
+redundant_side : (m n : ℕ) (r : RedundantSide) → Again m n (kind.RedundantSide r)
+redundant_side m n r s f = record {
   rule = K6;
-  read = (refl, form K6 (field_words (RedundantSide i)) (both _ _ (id_passes i f) refl) refl, λ t. RedundantSide (id_again i f t));
-  whole = (refl, (id_whole i f, tt));
+  read = (refl, form K6 (field_words (kind.RedundantSide r)) (both _ _ (id_passes r.row f) refl) refl, λ t. kind.RedundantSide (record { row = id_again r.row f t }));
+  whole = (refl, (id_whole r.row f, tt));
 }
 
-forcing_row : (m n i : ℕ) (side : Side) (ts : List Term) → Again m n (ForcingRow i side ts)
-forcing_row m n i side ts s f = record {
+forcing_row : (m n : ℕ) (r : ForcingRow) → Again m n (kind.ForcingRow r)
+forcing_row m n r s f = record {
   rule = K7;
   read = (
     refl,
-    form K7 (field_words (ForcingRow i side ts)) (both _ _ (id_passes i f.0) (both _ _ (letter_passes side) (list_passes n ts s.1 f.1))) refl,
-    λ t. ForcingRow (id_again i f.0 t) (letter_again side t) (list_again ts f.1 t),
+    form K7 (field_words (kind.ForcingRow r)) (both _ _ (id_passes r.row f.0) (both _ _ (letter_passes r.side) (list_passes n r.entries s.1 f.1))) refl,
+    λ t. kind.ForcingRow (record { row = id_again r.row f.0 t; side = letter_again r.side t; entries = list_again r.entries f.1 t }),
   );
-  whole = (refl, (id_whole i f.0, (letter_whole side, list_whole n ts s.1 f.1)));
+  whole = (refl, (id_whole r.row f.0, (letter_whole r.side, list_whole n r.entries s.1 f.1)));
 }
 
-tighten_bound : (m n i j : ℕ) (side : Side) (b : Option Number) (ts : List Term) → Again m n (TightenBound i j side b ts)
-tighten_bound m n i j side b ts s f = record {
+tighten_bound : (m n : ℕ) (r : TightenBound) → Again m n (kind.TightenBound r)
+tighten_bound m n r s f = record {
   rule = K8;
   read = (
     refl,
-    form K8 (field_words (TightenBound i j side b ts)) (both _ _ (id_passes i f.0) (both _ _ (id_passes j f.1) (both _ _ (side_passes side) (both _ _ (bound_passes side b f.2) (list_passes n ts s.2 f.3)))))
-        (and_from _ _ (bound_agrees side b f.2) (listed j ts f.1 f.3 ∙ s.3)),
-    λ t. TightenBound (id_again i f.0 t) (id_again j f.1 t) (side_again side t) (bound_again side b f.2 t) (list_again ts f.3 t),
+    form K8 (field_words (kind.TightenBound r)) (both _ _ (id_passes r.row f.0) (both _ _ (id_passes r.column f.1) (both _ _ (side_passes r.side) (both _ _ (bound_passes r.side r.bound f.2) (list_passes n r.entries s.2 f.3)))))
+        (and_from _ _ (bound_agrees r.side r.bound f.2) (listed r.column r.entries f.1 f.3 ∙ s.3)),
+    λ t. kind.TightenBound (record { row = id_again r.row f.0 t; column = id_again r.column f.1 t; side = side_again r.side t; bound = bound_again r.side r.bound f.2 t; entries = list_again r.entries f.3 t }),
   );
-  whole = (refl, (id_whole i f.0, (id_whole j f.1, (side_whole side, (bound_whole side b f.2, list_whole n ts s.2 f.3)))));
+  whole = (refl, (id_whole r.row f.0, (id_whole r.column f.1, (side_whole r.side, (bound_whole r.side r.bound f.2, list_whole n r.entries s.2 f.3)))));
 }
 
-tighten_coefficient : (m n i j : ℕ) → Again m n (TightenCoefficient i j)
-tighten_coefficient m n i j s f = record {
+tighten_coefficient : (m n : ℕ) (r : TightenCoefficient) → Again m n (kind.TightenCoefficient r)
+tighten_coefficient m n r s f = record {
   rule = K9;
   read = (
     refl,
-    form K9 (field_words (TightenCoefficient i j)) (both _ _ (id_passes i f.0) (both _ _ (id_passes j f.1) refl)) refl,
-    λ t. TightenCoefficient (id_again i f.0 t) (id_again j f.1 t),
+    form K9 (field_words (kind.TightenCoefficient r)) (both _ _ (id_passes r.row f.0) (both _ _ (id_passes r.column f.1) refl)) refl,
+    λ t. kind.TightenCoefficient (record { row = id_again r.row f.0 t; column = id_again r.column f.1 t }),
   );
-  whole = (refl, (id_whole i f.0, (id_whole j f.1, tt)));
+  whole = (refl, (id_whole r.row f.0, (id_whole r.column f.1, tt)));
 }
 
-dual_fix : (m n j : ℕ) → Again m n (DualFix j)
-dual_fix m n j s f = record {
+dual_fix : (m n : ℕ) (r : DualFix) → Again m n (kind.DualFix r)
+dual_fix m n r s f = record {
   rule = K10;
-  read = (refl, form K10 (field_words (DualFix j)) (both _ _ (id_passes j f) refl) refl, λ t. DualFix (id_again j f t));
-  whole = (refl, (id_whole j f, tt));
+  read = (refl, form K10 (field_words (kind.DualFix r)) (both _ _ (id_passes r.column f) refl) refl, λ t. kind.DualFix (record { column = id_again r.column f t }));
+  whole = (refl, (id_whole r.column f, tt));
 }
 
-dominated : (m n i j k : ℕ) → Again m n (Dominated i j k)
-dominated m n i j k s f = record {
+dominated : (m n : ℕ) (r : Dominated) → Again m n (kind.Dominated r)
+dominated m n r s f = record {
   rule = K11;
   read = (
     refl,
-    form K11 (field_words (Dominated i j k)) (both _ _ (id_passes i f.0) (both _ _ (id_passes j f.1) (both _ _ (id_passes k f.2) refl))) (apart j k f.1 f.2 s.1.2),
-    λ t. Dominated (id_again i f.0 t) (id_again j f.1 t) (id_again k f.2 t),
+    form K11 (field_words (kind.Dominated r)) (both _ _ (id_passes r.row f.0) (both _ _ (id_passes r.better f.1) (both _ _ (id_passes r.column f.2) refl))) (apart r.better r.column f.1 f.2 s.1.2),
+    λ t. kind.Dominated (record { row = id_again r.row f.0 t; better = id_again r.better f.1 t; column = id_again r.column f.2 t }),
   );
-  whole = (refl, (id_whole i f.0, (id_whole j f.1, (id_whole k f.2, tt))));
+  whole = (refl, (id_whole r.row f.0, (id_whole r.better f.1, (id_whole r.column f.2, tt))));
 }
 
-doubleton : (m n i j k : ℕ) (a b r : Number) (l u : Option Number) (c : Number) (ts : List Term) → Again m n (Doubleton i j k a b r l u c ts)
-doubleton m n i j k a b r l u c ts s ((fi, fj, fk), (fa, fb, fr), (fl, fu), fc, ft) = record {
+doubleton : (m n : ℕ) (r : Doubleton) → Again m n (kind.Doubleton r)
+doubleton m n r s ((fi, fj, fk), (fa, fb, fr), (fl, fu), fc, ft) = record {
   rule = K12;
   read = (
     refl,
-    form K12 (field_words (Doubleton i j k a b r l u c ts))
-        (both _ _ (id_passes i fi) (both _ _ (id_passes j fj) (both _ _ (id_passes k fk)
-        (both _ _ (entry_passes a fa s.0.2) (both _ _ (entry_passes b fb s.2) (both _ _ (number_passes r fr)
-        (both _ _ (lower_passes l fl) (both _ _ (upper_passes u fu) (both _ _ (number_passes c fc) (list_passes m ts s.3.0 ft))))))))))
-        (and_from _ _ (apart j k fj fk s.1.2) (left_out i ts fi ft s.3.1)),
-    λ t. Doubleton (id_again i fi t) (id_again j fj t) (id_again k fk t) (number_again a fa t) (number_again b fb t) (number_again r fr t) (lower_again l fl t) (upper_again u fu t) (number_again c fc t) (list_again ts ft t),
+    form K12 (field_words (kind.Doubleton r))
+        (both _ _ (id_passes r.row fi) (both _ _ (id_passes r.column fj) (both _ _ (id_passes r.kept fk)
+        (both _ _ (entry_passes r.value fa s.0.2) (both _ _ (entry_passes r.kept_value fb s.2) (both _ _ (number_passes r.equal fr)
+        (both _ _ (lower_passes r.lower fl) (both _ _ (upper_passes r.upper fu) (both _ _ (number_passes r.cost fc) (list_passes m r.entries s.3.0 ft))))))))))
+        (and_from _ _ (apart r.column r.kept fj fk s.1.2) (left_out r.row r.entries fi ft s.3.1)),
+    λ t. kind.Doubleton (record { row = id_again r.row fi t; column = id_again r.column fj t; kept = id_again r.kept fk t; value = number_again r.value fa t; kept_value = number_again r.kept_value fb t; equal = number_again r.equal fr t; lower = lower_again r.lower fl t; upper = upper_again r.upper fu t; cost = number_again r.cost fc t; entries = list_again r.entries ft t }),
   );
-  whole = (refl, (id_whole i fi, (id_whole j fj, (id_whole k fk, (ratio_whole a fa, (ratio_whole b fb, (ratio_whole r fr, (lower_whole l fl, (upper_whole u fu, (ratio_whole c fc, list_whole m ts s.3.0 ft))))))))));
+  whole = (refl, (id_whole r.row fi, (id_whole r.column fj, (id_whole r.kept fk, (ratio_whole r.value fa, (ratio_whole r.kept_value fb, (ratio_whole r.equal fr, (lower_whole r.lower fl, (upper_whole r.upper fu, (ratio_whole r.cost fc, list_whole m r.entries s.3.0 ft))))))))));
 }
 
-free_singleton : (m n j i : ℕ) (a level price : Number) (ts : List Term) → Again m n (FreeSingleton j i a level price ts)
-free_singleton m n j i a level price ts s ((fj, fi), (fa, fs, fp), ft) = record {
+free_singleton : (m n : ℕ) (r : FreeSingleton) → Again m n (kind.FreeSingleton r)
+free_singleton m n r s ((fj, fi), (fa, fs, fp), ft) = record {
   rule = K13;
   read = (
     refl,
-    form K13 (field_words (FreeSingleton j i a level price ts))
-        (both _ _ (id_passes j fj) (both _ _ (id_passes i fi) (both _ _ (entry_passes a fa s.0.2) (both _ _ (number_passes level fs) (both _ _ (number_passes price fp) (list_passes n ts s.1.0 ft))))))
-        (left_out j ts fj ft s.1.1),
-    λ t. FreeSingleton (id_again j fj t) (id_again i fi t) (number_again a fa t) (number_again level fs t) (number_again price fp t) (list_again ts ft t),
+    form K13 (field_words (kind.FreeSingleton r))
+        (both _ _ (id_passes r.column fj) (both _ _ (id_passes r.row fi) (both _ _ (entry_passes r.value fa s.0.2) (both _ _ (number_passes r.at fs) (both _ _ (number_passes r.price fp) (list_passes n r.entries s.1.0 ft))))))
+        (left_out r.column r.entries fj ft s.1.1),
+    λ t. kind.FreeSingleton (record { column = id_again r.column fj t; row = id_again r.row fi t; value = number_again r.value fa t; at = number_again r.at fs t; price = number_again r.price fp t; entries = list_again r.entries ft t }),
   );
-  whole = (refl, (id_whole j fj, (id_whole i fi, (ratio_whole a fa, (ratio_whole level fs, (ratio_whole price fp, list_whole n ts s.1.0 ft))))));
+  whole = (refl, (id_whole r.column fj, (id_whole r.row fi, (ratio_whole r.value fa, (ratio_whole r.at fs, (ratio_whole r.price fp, list_whole n r.entries s.1.0 ft))))));
 }
 
-slack_singleton : (m n j i : ℕ) (a price : Number) (L U l u : Option Number) (fate : RowFate) (ts : List Term) → Again m n (SlackSingleton j i a price L U l u fate ts)
-slack_singleton m n j i a price L U l u fate ts s ((fj, fi), (fa, fp), (fL, fU), (fl, fu), ft) = record {
+slack_singleton : (m n : ℕ) (r : SlackSingleton) → Again m n (kind.SlackSingleton r)
+slack_singleton m n r s ((fj, fi), (fa, fp), (fL, fU), (fl, fu), ft) = record {
   rule = K14;
   read = (
     refl,
-    form K14 (field_words (SlackSingleton j i a price L U l u fate ts))
-        (both _ _ (id_passes j fj) (both _ _ (id_passes i fi) (both _ _ (entry_passes a fa s.0.2) (both _ _ (number_passes price fp)
-        (both _ _ (lower_passes L fL) (both _ _ (upper_passes U fU) (both _ _ (lower_passes l fl) (both _ _ (upper_passes u fu)
-        (both _ _ (fate_passes fate) (list_passes n ts s.1.0 ft))))))))))
-        (left_out j ts fj ft s.1.1),
-    λ t. SlackSingleton (id_again j fj t) (id_again i fi t) (number_again a fa t) (number_again price fp t) (lower_again L fL t) (upper_again U fU t) (lower_again l fl t) (upper_again u fu t) (fate_again fate t) (list_again ts ft t),
+    form K14 (field_words (kind.SlackSingleton r))
+        (both _ _ (id_passes r.column fj) (both _ _ (id_passes r.row fi) (both _ _ (entry_passes r.value fa s.0.2) (both _ _ (number_passes r.price fp)
+        (both _ _ (lower_passes r.lower_side fL) (both _ _ (upper_passes r.upper_side fU) (both _ _ (lower_passes r.lower fl) (both _ _ (upper_passes r.upper fu)
+        (both _ _ (fate_passes r.fate) (list_passes n r.entries s.1.0 ft))))))))))
+        (left_out r.column r.entries fj ft s.1.1),
+    λ t. kind.SlackSingleton (record { column = id_again r.column fj t; row = id_again r.row fi t; value = number_again r.value fa t; price = number_again r.price fp t; lower_side = lower_again r.lower_side fL t; upper_side = upper_again r.upper_side fU t; lower = lower_again r.lower fl t; upper = upper_again r.upper fu t; fate = fate_again r.fate t; entries = list_again r.entries ft t }),
   );
-  whole = (refl, (id_whole j fj, (id_whole i fi, (ratio_whole a fa, (ratio_whole price fp, (lower_whole L fL, (upper_whole U fU, (lower_whole l fl, (upper_whole u fu, (fate_whole fate, list_whole n ts s.1.0 ft))))))))));
+  whole = (refl, (id_whole r.column fj, (id_whole r.row fi, (ratio_whole r.value fa, (ratio_whole r.price fp, (lower_whole r.lower_side fL, (upper_whole r.upper_side fU, (lower_whole r.lower fl, (upper_whole r.upper fu, (fate_whole r.fate, list_whole n r.entries s.1.0 ft))))))))));
 }
 
-parallel_rows : (m n i k : ℕ) (factor : Number) (L U : Option Number) (ts : List Term) → Again m n (ParallelRows i k factor L U ts)
-parallel_rows m n i k factor L U ts s ((fi, fk), fs, (fL, fU), ft) = record {
+parallel_rows : (m n : ℕ) (r : ParallelRows) → Again m n (kind.ParallelRows r)
+parallel_rows m n r s ((fi, fk), fs, (fL, fU), ft) = record {
   rule = K15;
   read = (
     refl,
-    form K15 (field_words (ParallelRows i k factor L U ts))
-        (both _ _ (id_passes i fi) (both _ _ (id_passes k fk) (both _ _ (entry_passes factor fs s.1) (both _ _ (lower_passes L fL) (both _ _ (upper_passes U fU) (list_passes n ts s.2 ft))))))
-        (apart i k fi fk s.0.2),
-    λ t. ParallelRows (id_again i fi t) (id_again k fk t) (number_again factor fs t) (lower_again L fL t) (upper_again U fU t) (list_again ts ft t),
+    form K15 (field_words (kind.ParallelRows r))
+        (both _ _ (id_passes r.row fi) (both _ _ (id_passes r.kept fk) (both _ _ (entry_passes r.factor fs s.1) (both _ _ (lower_passes r.lower fL) (both _ _ (upper_passes r.upper fU) (list_passes n r.entries s.2 ft))))))
+        (apart r.row r.kept fi fk s.0.2),
+    λ t. kind.ParallelRows (record { row = id_again r.row fi t; kept = id_again r.kept fk t; factor = number_again r.factor fs t; lower = lower_again r.lower fL t; upper = upper_again r.upper fU t; entries = list_again r.entries ft t }),
   );
-  whole = (refl, (id_whole i fi, (id_whole k fk, (ratio_whole factor fs, (lower_whole L fL, (upper_whole U fU, list_whole n ts s.2 ft))))));
+  whole = (refl, (id_whole r.row fi, (id_whole r.kept fk, (ratio_whole r.factor fs, (lower_whole r.lower fL, (upper_whole r.upper fU, list_whole n r.entries s.2 ft))))));
 }
 
-parallel_columns : (m n j k : ℕ) (factor : Number) (l u L U : Option Number) → Again m n (ParallelColumns j k factor l u L U)
-parallel_columns m n j k factor l u L U s ((fj, fk), fs, (fl, fu), (fL, fU)) = record {
+parallel_columns : (m n : ℕ) (r : ParallelColumns) → Again m n (kind.ParallelColumns r)
+parallel_columns m n r s ((fj, fk), fs, (fl, fu), (fL, fU)) = record {
   rule = K16;
   read = (
     refl,
-    form K16 (field_words (ParallelColumns j k factor l u L U))
-        (both _ _ (id_passes j fj) (both _ _ (id_passes k fk) (both _ _ (entry_passes factor fs s.1)
-        (both _ _ (lower_passes l fl) (both _ _ (upper_passes u fu) (both _ _ (lower_passes L fL) (both _ _ (upper_passes U fU) refl)))))))
-        (apart j k fj fk s.0.2),
-    λ t. ParallelColumns (id_again j fj t) (id_again k fk t) (number_again factor fs t) (lower_again l fl t) (upper_again u fu t) (lower_again L fL t) (upper_again U fU t),
+    form K16 (field_words (kind.ParallelColumns r))
+        (both _ _ (id_passes r.column fj) (both _ _ (id_passes r.kept fk) (both _ _ (entry_passes r.factor fs s.1)
+        (both _ _ (lower_passes r.lower fl) (both _ _ (upper_passes r.upper fu) (both _ _ (lower_passes r.kept_lower fL) (both _ _ (upper_passes r.kept_upper fU) refl)))))))
+        (apart r.column r.kept fj fk s.0.2),
+    λ t. kind.ParallelColumns (record { column = id_again r.column fj t; kept = id_again r.kept fk t; factor = number_again r.factor fs t; lower = lower_again r.lower fl t; upper = upper_again r.upper fu t; kept_lower = lower_again r.kept_lower fL t; kept_upper = upper_again r.kept_upper fU t }),
   );
-  whole = (refl, (id_whole j fj, (id_whole k fk, (ratio_whole factor fs, (lower_whole l fl, (upper_whole u fu, (lower_whole L fL, (upper_whole U fU, tt))))))));
+  whole = (refl, (id_whole r.column fj, (id_whole r.kept fk, (ratio_whole r.factor fs, (lower_whole r.lower fl, (upper_whole r.upper fu, (lower_whole r.kept_lower fL, (upper_whole r.kept_upper fU, tt))))))));
 }
 
-empty_column : (m n j : ℕ) → Again m n (EmptyColumn j)
-empty_column m n j s f = record {
+empty_column : (m n : ℕ) (r : EmptyColumn) → Again m n (kind.EmptyColumn r)
+empty_column m n r s f = record {
   rule = K17;
-  read = (refl, form K17 (field_words (EmptyColumn j)) (both _ _ (id_passes j f) refl) refl, λ t. EmptyColumn (id_again j f t));
-  whole = (refl, (id_whole j f, tt));
+  read = (refl, form K17 (field_words (kind.EmptyColumn r)) (both _ _ (id_passes r.column f) refl) refl, λ t. kind.EmptyColumn (record { column = id_again r.column f t }));
+  whole = (refl, (id_whole r.column f, tt));
 }
 
 pub record_again : (m n : ℕ) (u : Undo) → Again m n u
-record_again m n (EmptyRow i) = empty_row m n i
-record_again m n (SingletonRow i j a l u) = singleton_row m n i j a l u
-record_again m n (FixedColumn j v c ts) = fixed_column m n j v c ts
-record_again m n (RoundBounds j) = round_bounds m n j
-record_again m n (RedundantRow i) = redundant_row m n i
-record_again m n (RedundantSide i) = redundant_side m n i
-record_again m n (ForcingRow i side ts) = forcing_row m n i side ts
-record_again m n (TightenBound i j side b ts) = tighten_bound m n i j side b ts
-record_again m n (TightenCoefficient i j) = tighten_coefficient m n i j
-record_again m n (DualFix j) = dual_fix m n j
-record_again m n (Dominated i j k) = dominated m n i j k
-record_again m n (Doubleton i j k a b r l u c ts) = doubleton m n i j k a b r l u c ts
-record_again m n (FreeSingleton j i a level price ts) = free_singleton m n j i a level price ts
-record_again m n (SlackSingleton j i a price L U l u fate ts) = slack_singleton m n j i a price L U l u fate ts
-record_again m n (ParallelRows i k s L U ts) = parallel_rows m n i k s L U ts
-record_again m n (ParallelColumns j k s l u L U) = parallel_columns m n j k s l u L U
-record_again m n (EmptyColumn j) = empty_column m n j
+record_again m n (kind.EmptyRow r) = empty_row m n r
+record_again m n (kind.SingletonRow r) = singleton_row m n r
+record_again m n (kind.FixedColumn r) = fixed_column m n r
+record_again m n (kind.RoundBounds r) = round_bounds m n r
+record_again m n (kind.RedundantRow r) = redundant_row m n r
+record_again m n (kind.RedundantSide r) = redundant_side m n r
+record_again m n (kind.ForcingRow r) = forcing_row m n r
+record_again m n (kind.TightenBound r) = tighten_bound m n r
+record_again m n (kind.TightenCoefficient r) = tighten_coefficient m n r
+record_again m n (kind.DualFix r) = dual_fix m n r
+record_again m n (kind.Dominated r) = dominated m n r
+record_again m n (kind.Doubleton r) = doubleton m n r
+record_again m n (kind.FreeSingleton r) = free_singleton m n r
+record_again m n (kind.SlackSingleton r) = slack_singleton m n r
+record_again m n (kind.ParallelRows r) = parallel_rows m n r
+record_again m n (kind.ParallelColumns r) = parallel_columns m n r
+record_again m n (kind.EmptyColumn r) = empty_column m n r
 
 -- ---- the line
 pub undo_words : (u : Undo) → IsReadAgain u → words_of (bytes_of (undo_line u)) ≡ rule_word u ∷ field_words u

@@ -25,23 +25,23 @@ ListFits ts = All (λ t. IsId t.id × Fits t.value) ts
 
 -- the ids and numbers of a record
 abbrev pub UndoFits : Undo → Type 0
-UndoFits (EmptyRow i) = IsId i
-UndoFits (SingletonRow i j a l u) = IsId i × IsId j × Fits a × EndsFit l u
-UndoFits (FixedColumn j v c ts) = IsId j × Fits v × Fits c × ListFits ts
-UndoFits (RoundBounds j) = IsId j
-UndoFits (RedundantRow i) = IsId i
-UndoFits (RedundantSide i) = IsId i
-UndoFits (ForcingRow i side ts) = IsId i × ListFits ts
-UndoFits (TightenBound i j side b ts) = IsId i × IsId j × EndFits b × ListFits ts
-UndoFits (TightenCoefficient i j) = IsId i × IsId j
-UndoFits (DualFix j) = IsId j
-UndoFits (Dominated i j k) = IsId i × IsId j × IsId k
-UndoFits (Doubleton i j k a b r l u c ts) = (IsId i × IsId j × IsId k) × (Fits a × Fits b × Fits r) × EndsFit l u × Fits c × ListFits ts
-UndoFits (FreeSingleton j i a s t ts) = (IsId j × IsId i) × (Fits a × Fits s × Fits t) × ListFits ts
-UndoFits (SlackSingleton j i a t L U l u fate ts) = (IsId j × IsId i) × (Fits a × Fits t) × EndsFit L U × EndsFit l u × ListFits ts
-UndoFits (ParallelRows i k s L U ts) = (IsId i × IsId k) × Fits s × EndsFit L U × ListFits ts
-UndoFits (ParallelColumns j k s l u L U) = (IsId j × IsId k) × Fits s × EndsFit l u × EndsFit L U
-UndoFits (EmptyColumn j) = IsId j
+UndoFits (EmptyRow r) = IsId r.row
+UndoFits (SingletonRow r) = IsId r.row × IsId r.column × Fits r.value × EndsFit r.lower r.upper
+UndoFits (FixedColumn r) = IsId r.column × Fits r.value × Fits r.cost × ListFits r.entries
+UndoFits (RoundBounds r) = IsId r.column
+UndoFits (RedundantRow r) = IsId r.row
+UndoFits (RedundantSide r) = IsId r.row
+UndoFits (ForcingRow r) = IsId r.row × ListFits r.entries
+UndoFits (TightenBound r) = IsId r.row × IsId r.column × EndFits r.bound × ListFits r.entries
+UndoFits (TightenCoefficient r) = IsId r.row × IsId r.column
+UndoFits (DualFix r) = IsId r.column
+UndoFits (Dominated r) = IsId r.row × IsId r.better × IsId r.column
+UndoFits (Doubleton r) = (IsId r.row × IsId r.column × IsId r.kept) × (Fits r.value × Fits r.kept_value × Fits r.equal) × EndsFit r.lower r.upper × Fits r.cost × ListFits r.entries
+UndoFits (FreeSingleton r) = (IsId r.column × IsId r.row) × (Fits r.value × Fits r.at × Fits r.price) × ListFits r.entries
+UndoFits (SlackSingleton r) = (IsId r.column × IsId r.row) × (Fits r.value × Fits r.price) × EndsFit r.lower_side r.upper_side × EndsFit r.lower r.upper × ListFits r.entries
+UndoFits (ParallelRows r) = (IsId r.row × IsId r.kept) × Fits r.factor × EndsFit r.lower r.upper × ListFits r.entries
+UndoFits (ParallelColumns r) = (IsId r.column × IsId r.kept) × Fits r.factor × EndsFit r.lower r.upper × EndsFit r.kept_lower r.kept_upper
+UndoFits (EmptyColumn r) = IsId r.column
 
 -- ids have 32 bits, lists are shorter than 2 ^ 64, and numbers have room, as all values of the code do
 pub record HasRange (p : Postsolve) : Type 0 where

@@ -2,7 +2,7 @@
 
 ghost use Rattle.std.specs.Prelude.{◌≡◌, ◌<◌, ◌^◌, All, None};
 ghost use Rattle.rational.specs.Lowest.{Fits};
-ghost use Rattle.record_file.specs.Fields.{IsOfBound, IsOfPair, IsOfRow, IsOfSingleton};
+ghost use Rattle.undo_records.specs.declared.undo.Undo.TheVariants as kind;
 ghost use Rattle.record_file.specs.RecordText.{record_text};
 ghost use Rattle.record_reader.specs.Reading.{first_fault, records_of};
 ghost use Rattle.record_round_trip.specs.Ranges.{EndFits, EndsFit, HasRange, IsId, ListFits, UndoFits};
@@ -10,7 +10,10 @@ ghost use Rattle.record_round_trip.specs.Ranges.{EndFits, EndsFit, HasRange, IsI
 use fractions::ext::Ext;
 use fractions::frac::Frac;
 use lp_model::Term;
-use undo_records::{Records, Undo};
+use undo_records::{
+    Dominated, Doubleton, FixedColumn, ForcingRow, FreeSingleton, ParallelColumns, ParallelRows,
+    Records, SingletonRow, SlackSingleton, TightenBound, TightenCoefficient, Undo,
+};
 
 /// An id has 32 bits.
 fn id_fits(id: u32)
@@ -62,169 +65,121 @@ fn list_fits(terms: &[Term])
     }
 }
 
-/// The record of a deleted row.
-fn row_fits(undo: &Undo)
-    requires { IsOfRow undo.now }
-    ensures { UndoFits undo.now }
+/// The record of a row with one entry.
+fn singleton_row_fits(undo: &SingletonRow)
+    ensures { UndoFits (kind.SingletonRow undo.now) }
 {
-    match undo {
-        Undo::SingletonRow {
-            row,
-            column,
-            value,
-            lower,
-            upper,
-        } => {
-            id_fits(*row);
-            id_fits(*column);
-            number_fits(&value.get());
-            ends_fit(&lower.get(), &upper.get());
-        }
-        Undo::ForcingRow { row, entries, .. } => {
-            id_fits(*row);
-            list_fits(entries.as_slice());
-        }
-        Undo::ParallelRows {
-            row,
-            kept,
-            factor,
-            lower,
-            upper,
-            entries,
-        } => {
-            id_fits(*row);
-            id_fits(*kept);
-            number_fits(&factor.get());
-            ends_fit(&lower.get(), &upper.get());
-            list_fits(entries.as_slice());
-        }
-        _ => {}
-    }
+    id_fits(undo.row);
+    id_fits(undo.column);
+    number_fits(&undo.value.get());
+    ends_fit(&undo.lower.get(), &undo.upper.get());
 }
 
-/// The record of one column's value or bound.
-fn bound_fits(undo: &Undo)
-    requires { IsOfBound undo.now }
-    ensures { UndoFits undo.now }
+/// The record of a column with equal bounds.
+fn fixed_column_fits(undo: &FixedColumn)
+    ensures { UndoFits (kind.FixedColumn undo.now) }
 {
-    match undo {
-        Undo::FixedColumn {
-            column,
-            value,
-            cost,
-            entries,
-        } => {
-            id_fits(*column);
-            number_fits(&value.get());
-            number_fits(&cost.get());
-            list_fits(entries.as_slice());
-        }
-        Undo::TightenBound {
-            row,
-            column,
-            bound,
-            entries,
-            ..
-        } => {
-            id_fits(*row);
-            id_fits(*column);
-            end_fits(&bound.get());
-            list_fits(entries.as_slice());
-        }
-        _ => {}
-    }
+    id_fits(undo.column);
+    number_fits(&undo.value.get());
+    number_fits(&undo.cost.get());
+    list_fits(undo.entries.as_slice());
 }
 
-/// The record of a column with one entry.
-fn singleton_fits(undo: &Undo)
-    requires { IsOfSingleton undo.now }
-    ensures { UndoFits undo.now }
+/// The record of a row that fixed its columns.
+fn forcing_row_fits(undo: &ForcingRow)
+    ensures { UndoFits (kind.ForcingRow undo.now) }
 {
-    match undo {
-        Undo::FreeSingleton {
-            column,
-            row,
-            value,
-            at,
-            price,
-            entries,
-        } => {
-            id_fits(*column);
-            id_fits(*row);
-            number_fits(&value.get());
-            number_fits(&at.get());
-            number_fits(&price.get());
-            list_fits(entries.as_slice());
-        }
-        Undo::SlackSingleton {
-            column,
-            row,
-            value,
-            price,
-            lower_side,
-            upper_side,
-            lower,
-            upper,
-            entries,
-            ..
-        } => {
-            id_fits(*column);
-            id_fits(*row);
-            number_fits(&value.get());
-            number_fits(&price.get());
-            ends_fit(&lower_side.get(), &upper_side.get());
-            ends_fit(&lower.get(), &upper.get());
-            list_fits(entries.as_slice());
-        }
-        _ => {}
-    }
+    id_fits(undo.row);
+    list_fits(undo.entries.as_slice());
 }
 
-/// The record of a column that went into another one.
-fn pair_fits(undo: &Undo)
-    requires { IsOfPair undo.now }
-    ensures { UndoFits undo.now }
+/// The record of a bound that was replaced.
+fn tighten_bound_fits(undo: &TightenBound)
+    ensures { UndoFits (kind.TightenBound undo.now) }
 {
-    match undo {
-        Undo::Doubleton {
-            row,
-            column,
-            kept,
-            value,
-            kept_value,
-            equal,
-            lower,
-            upper,
-            cost,
-            entries,
-        } => {
-            id_fits(*row);
-            id_fits(*column);
-            id_fits(*kept);
-            number_fits(&value.get());
-            number_fits(&kept_value.get());
-            number_fits(&equal.get());
-            ends_fit(&lower.get(), &upper.get());
-            number_fits(&cost.get());
-            list_fits(entries.as_slice());
-        }
-        Undo::ParallelColumns {
-            column,
-            kept,
-            factor,
-            lower,
-            upper,
-            kept_lower,
-            kept_upper,
-        } => {
-            id_fits(*column);
-            id_fits(*kept);
-            number_fits(&factor.get());
-            ends_fit(&lower.get(), &upper.get());
-            ends_fit(&kept_lower.get(), &kept_upper.get());
-        }
-        _ => {}
-    }
+    id_fits(undo.row);
+    id_fits(undo.column);
+    end_fits(&undo.bound.get());
+    list_fits(undo.entries.as_slice());
+}
+
+/// The record of an entry that was brought nearer to 0.
+fn tighten_coefficient_fits(undo: &TightenCoefficient)
+    ensures { UndoFits (kind.TightenCoefficient undo.now) }
+{
+    id_fits(undo.row);
+    id_fits(undo.column);
+}
+
+/// The record of a column that another one does better than.
+fn dominated_fits(undo: &Dominated)
+    ensures { UndoFits (kind.Dominated undo.now) }
+{
+    id_fits(undo.row);
+    id_fits(undo.better);
+    id_fits(undo.column);
+}
+
+/// The record of an equation of two columns.
+fn doubleton_fits(undo: &Doubleton)
+    ensures { UndoFits (kind.Doubleton undo.now) }
+{
+    id_fits(undo.row);
+    id_fits(undo.column);
+    id_fits(undo.kept);
+    number_fits(&undo.value.get());
+    number_fits(&undo.kept_value.get());
+    number_fits(&undo.equal.get());
+    ends_fit(&undo.lower.get(), &undo.upper.get());
+    number_fits(&undo.cost.get());
+    list_fits(undo.entries.as_slice());
+}
+
+/// The record of a free column with one entry.
+fn free_singleton_fits(undo: &FreeSingleton)
+    ensures { UndoFits (kind.FreeSingleton undo.now) }
+{
+    id_fits(undo.column);
+    id_fits(undo.row);
+    number_fits(&undo.value.get());
+    number_fits(&undo.at.get());
+    number_fits(&undo.price.get());
+    list_fits(undo.entries.as_slice());
+}
+
+/// The record of a slack column with one entry.
+fn slack_singleton_fits(undo: &SlackSingleton)
+    ensures { UndoFits (kind.SlackSingleton undo.now) }
+{
+    id_fits(undo.column);
+    id_fits(undo.row);
+    number_fits(&undo.value.get());
+    number_fits(&undo.price.get());
+    ends_fit(&undo.lower_side.get(), &undo.upper_side.get());
+    ends_fit(&undo.lower.get(), &undo.upper.get());
+    list_fits(undo.entries.as_slice());
+}
+
+/// The record of parallel rows.
+fn parallel_rows_fits(undo: &ParallelRows)
+    ensures { UndoFits (kind.ParallelRows undo.now) }
+{
+    id_fits(undo.row);
+    id_fits(undo.kept);
+    number_fits(&undo.factor.get());
+    ends_fit(&undo.lower.get(), &undo.upper.get());
+    list_fits(undo.entries.as_slice());
+}
+
+/// The record of parallel columns.
+fn parallel_columns_fits(undo: &ParallelColumns)
+    ensures { UndoFits (kind.ParallelColumns undo.now) }
+{
+    id_fits(undo.column);
+    id_fits(undo.kept);
+    number_fits(&undo.factor.get());
+    ends_fit(&undo.lower.get(), &undo.upper.get());
+    ends_fit(&undo.kept_lower.get(), &undo.kept_upper.get());
 }
 
 /// The ids and numbers of a record.
@@ -232,31 +187,23 @@ fn undo_fits(undo: &Undo)
     ensures { UndoFits undo.now }
 {
     match undo {
-        Undo::EmptyRow { row } | Undo::RedundantRow { row } | Undo::RedundantSide { row } => {
-            id_fits(*row);
-        }
-        Undo::RoundBounds { column } | Undo::DualFix { column } | Undo::EmptyColumn { column } => {
-            id_fits(*column);
-        }
-        Undo::TightenCoefficient { row, column } => {
-            id_fits(*row);
-            id_fits(*column);
-        }
-        Undo::Dominated {
-            row,
-            better,
-            column,
-        } => {
-            id_fits(*row);
-            id_fits(*better);
-            id_fits(*column);
-        }
-        Undo::FixedColumn { .. } | Undo::TightenBound { .. } => bound_fits(undo),
-        Undo::SingletonRow { .. } | Undo::ForcingRow { .. } | Undo::ParallelRows { .. } => {
-            row_fits(undo);
-        }
-        Undo::FreeSingleton { .. } | Undo::SlackSingleton { .. } => singleton_fits(undo),
-        Undo::Doubleton { .. } | Undo::ParallelColumns { .. } => pair_fits(undo),
+        Undo::EmptyRow(undo) => id_fits(undo.row),
+        Undo::SingletonRow(undo) => singleton_row_fits(undo),
+        Undo::FixedColumn(undo) => fixed_column_fits(undo),
+        Undo::RoundBounds(undo) => id_fits(undo.column),
+        Undo::RedundantRow(undo) => id_fits(undo.row),
+        Undo::RedundantSide(undo) => id_fits(undo.row),
+        Undo::ForcingRow(undo) => forcing_row_fits(undo),
+        Undo::TightenBound(undo) => tighten_bound_fits(undo),
+        Undo::TightenCoefficient(undo) => tighten_coefficient_fits(undo),
+        Undo::DualFix(undo) => id_fits(undo.column),
+        Undo::Dominated(undo) => dominated_fits(undo),
+        Undo::Doubleton(undo) => doubleton_fits(undo),
+        Undo::FreeSingleton(undo) => free_singleton_fits(undo),
+        Undo::SlackSingleton(undo) => slack_singleton_fits(undo),
+        Undo::ParallelRows(undo) => parallel_rows_fits(undo),
+        Undo::ParallelColumns(undo) => parallel_columns_fits(undo),
+        Undo::EmptyColumn(undo) => id_fits(undo.column),
     }
 }
 

@@ -1,5 +1,5 @@
 -- Of faults the one with the lowest number, in any grouping.
-use Rattle.std.proofs.Common.{◌≡◌, Bool, true, false, Option, Some, None, refl}
+use Rattle.std.proofs.Common.{◌≡◌, Bool, true, false, Option, Some, None, refl, ap₂, ◌∙◌}
 use Rattle.record_words.specs.Faults.{unless, lower}
 use Rattle.record_words.specs.declared.faults.LineFault.{LineFault}
 use Rattle.record_words.specs.declared.faults.LineFault.TheVariants.{BadLine, BadId, NumberPast}
@@ -42,3 +42,7 @@ lower_bad (Some NumberPast) b c d = refl
 pub lower_id : (b : Bool) → lower (Some BadId) (unless b BadId) ≡ Some BadId
 lower_id true = refl
 lower_id false = refl
+
+-- what is live adds no fault
+pub fault_stays : (fault : Option LineFault) (live : Bool) (k : LineFault) → fault ≡ Some k → live ≡ true → lower fault (unless live BadId) ≡ Some k
+fault_stays fault live k e h = ap₂ (λ f b. lower f (unless b BadId)) e h ∙ lower_none_is (Some k)

@@ -16,7 +16,8 @@ use Rattle.number_texts.specs.declared.reading.ReadNumber.{ReadNumber}
 use Rattle.number_texts.specs.declared.reading.ReadNumber.TheVariants as why
 use Rattle.number_texts.proofs.Cutting.{both_true}
 use Rattle.lp_model.specs.Flags.{Flags}
-use Rattle.undo_records.specs.Walk.{NamesLive, is_on, ids_of, rows_named, columns_named}
+use Rattle.undo_records.specs.Ids.{is_on, ids_of}
+use Rattle.undo_records.specs.Walk.{NamesLive, rows_named, columns_named}
 use Rattle.undo_records.specs.Sound.{IsSound}
 use Rattle.undo_records.specs.declared.undo.Undo.{Undo}
 use Rattle.record_words.specs.Words.{first, others, skip, is_plain, is_far, id_of, id_fault, same_id, comes_after}

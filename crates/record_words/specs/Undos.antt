@@ -4,7 +4,8 @@ use Rattle.std.specs.List.{list_all}
 use Rattle.rational.specs.Number.{Number}
 use Rattle.lp_model.specs.declared.terms.Term.{Term}
 use Rattle.lp_model.specs.Flags.{Flags}
-use Rattle.undo_records.specs.Walk.{is_on, rows_named, columns_named}
+use Rattle.undo_records.specs.Ids.{is_on}
+use Rattle.undo_records.specs.Walk.{rows_named, columns_named}
 use Rattle.undo_records.specs.declared.side.Side.{Side}
 use Rattle.undo_records.specs.declared.side.Side.TheVariants.{Lower}
 use Rattle.undo_records.specs.declared.side.RowFate.{RowFate}
@@ -52,23 +53,23 @@ list k ws = list_of (skip k ws)
 
 -- the record of a rule, by its words
 abbrev pub undo_of : Rule → List (List ℕ) → Undo
-undo_of K1 ws = EmptyRow (id 0 ws)
-undo_of K2 ws = SingletonRow (id 0 ws) (id 1 ws) (num 2 ws) (end 3 ws) (end 4 ws)
-undo_of K3 ws = FixedColumn (id 0 ws) (num 1 ws) (num 2 ws) (list 3 ws)
-undo_of K4 ws = RoundBounds (id 0 ws)
-undo_of K5 ws = RedundantRow (id 0 ws)
-undo_of K6 ws = RedundantSide (id 0 ws)
-undo_of K7 ws = ForcingRow (id 0 ws) (letter 1 ws) (list 2 ws)
-undo_of K8 ws = TightenBound (id 0 ws) (id 1 ws) (bound 2 ws) (end 3 ws) (list 4 ws)
-undo_of K9 ws = TightenCoefficient (id 0 ws) (id 1 ws)
-undo_of K10 ws = DualFix (id 0 ws)
-undo_of K11 ws = Dominated (id 0 ws) (id 1 ws) (id 2 ws)
-undo_of K12 ws = Doubleton (id 0 ws) (id 1 ws) (id 2 ws) (num 3 ws) (num 4 ws) (num 5 ws) (end 6 ws) (end 7 ws) (num 8 ws) (list 9 ws)
-undo_of K13 ws = FreeSingleton (id 0 ws) (id 1 ws) (num 2 ws) (num 3 ws) (num 4 ws) (list 5 ws)
-undo_of K14 ws = SlackSingleton (id 0 ws) (id 1 ws) (num 2 ws) (num 3 ws) (end 4 ws) (end 5 ws) (end 6 ws) (end 7 ws) (fate 8 ws) (list 9 ws)
-undo_of K15 ws = ParallelRows (id 0 ws) (id 1 ws) (num 2 ws) (end 3 ws) (end 4 ws) (list 5 ws)
-undo_of K16 ws = ParallelColumns (id 0 ws) (id 1 ws) (num 2 ws) (end 3 ws) (end 4 ws) (end 5 ws) (end 6 ws)
-undo_of K17 ws = EmptyColumn (id 0 ws)
+undo_of K1 ws = EmptyRow (record { row = id 0 ws })
+undo_of K2 ws = SingletonRow (record { row = id 0 ws; column = id 1 ws; value = num 2 ws; lower = end 3 ws; upper = end 4 ws })
+undo_of K3 ws = FixedColumn (record { column = id 0 ws; value = num 1 ws; cost = num 2 ws; entries = list 3 ws })
+undo_of K4 ws = RoundBounds (record { column = id 0 ws })
+undo_of K5 ws = RedundantRow (record { row = id 0 ws })
+undo_of K6 ws = RedundantSide (record { row = id 0 ws })
+undo_of K7 ws = ForcingRow (record { row = id 0 ws; side = letter 1 ws; entries = list 2 ws })
+undo_of K8 ws = TightenBound (record { row = id 0 ws; column = id 1 ws; side = bound 2 ws; bound = end 3 ws; entries = list 4 ws })
+undo_of K9 ws = TightenCoefficient (record { row = id 0 ws; column = id 1 ws })
+undo_of K10 ws = DualFix (record { column = id 0 ws })
+undo_of K11 ws = Dominated (record { row = id 0 ws; better = id 1 ws; column = id 2 ws })
+undo_of K12 ws = Doubleton (record { row = id 0 ws; column = id 1 ws; kept = id 2 ws; value = num 3 ws; kept_value = num 4 ws; equal = num 5 ws; lower = end 6 ws; upper = end 7 ws; cost = num 8 ws; entries = list 9 ws })
+undo_of K13 ws = FreeSingleton (record { column = id 0 ws; row = id 1 ws; value = num 2 ws; at = num 3 ws; price = num 4 ws; entries = list 5 ws })
+undo_of K14 ws = SlackSingleton (record { column = id 0 ws; row = id 1 ws; value = num 2 ws; price = num 3 ws; lower_side = end 4 ws; upper_side = end 5 ws; lower = end 6 ws; upper = end 7 ws; fate = fate 8 ws; entries = list 9 ws })
+undo_of K15 ws = ParallelRows (record { row = id 0 ws; kept = id 1 ws; factor = num 2 ws; lower = end 3 ws; upper = end 4 ws; entries = list 5 ws })
+undo_of K16 ws = ParallelColumns (record { column = id 0 ws; kept = id 1 ws; factor = num 2 ws; lower = end 3 ws; upper = end 4 ws; kept_lower = end 5 ws; kept_upper = end 6 ws })
+undo_of K17 ws = EmptyColumn (record { column = id 0 ws })
 
 -- its record has ids alone
 abbrev pub HasIdsAlone : Rule → Type 0
@@ -118,7 +119,7 @@ abbrev pub undo_fault : Flags → List (List ℕ) → Option LineFault
 undo_fault f ws = rule_fault f (rule_of (first ws)) (others ws)
 
 abbrev pub rule_undo : Option Rule → List (List ℕ) → Undo
-rule_undo None ws = EmptyRow 0
+rule_undo None ws = EmptyRow (record { row = 0 })
 rule_undo (Some rule) ws = undo_of rule ws
 
 -- the record that a line is; that of row 0 stands for a line without a rule

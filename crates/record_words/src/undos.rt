@@ -17,7 +17,10 @@ use crate::rules::Rule;
 use crate::words::{Words, next_word};
 use std::alloc::{AllocError, Global};
 use undo_records::{
-    EndApart, KeptEnd, KeptNumber, NumberApart, RowFate, SharedTerms, Side, TermsApart, Undo,
+    Dominated, Doubleton, DualFix, EmptyColumn, EmptyRow, EndApart, FixedColumn, ForcingRow,
+    FreeSingleton, KeptEnd, KeptNumber, NumberApart, ParallelColumns, ParallelRows, RedundantRow,
+    RedundantSide, RoundBounds, RowFate, SharedTerms, Side, SingletonRow, SlackSingleton,
+    TermsApart, TightenBound, TightenCoefficient, Undo,
 };
 
 /// The next word as an id.
@@ -78,13 +81,13 @@ fn singleton_row(alloc: Global, words: Words<'_>) -> Result<Undo, AllocError>
     let value = next_number(alloc, &mut rest)?;
     let lower = next_end(alloc, &mut rest)?;
     let upper = next_end(alloc, &mut rest)?;
-    Ok(Undo::SingletonRow {
+    Ok(Undo::SingletonRow(SingletonRow {
         row,
         column,
         value,
         lower,
         upper,
-    })
+    }))
 }
 
 /// The record of a fixed column.
@@ -96,12 +99,12 @@ fn fixed_column(alloc: Global, words: Words<'_>) -> Result<Undo, AllocError>
     let value = next_number(alloc, &mut rest)?;
     let cost = next_number(alloc, &mut rest)?;
     let entries = list_in(alloc, rest)?;
-    Ok(Undo::FixedColumn {
+    Ok(Undo::FixedColumn(FixedColumn {
         column,
         value,
         cost,
         entries,
-    })
+    }))
 }
 
 /// The record of a forcing row.
@@ -112,7 +115,7 @@ fn forcing_row(alloc: Global, words: Words<'_>) -> Result<Undo, AllocError>
     let row = next_id(&mut rest);
     let side = letter_of(next_word(&mut rest)).unwrap_or(Side::Lower);
     let entries = list_in(alloc, rest)?;
-    Ok(Undo::ForcingRow { row, side, entries })
+    Ok(Undo::ForcingRow(ForcingRow { row, side, entries }))
 }
 
 /// The record of a bound that was tightened.
@@ -125,13 +128,13 @@ fn tighten_bound(alloc: Global, words: Words<'_>) -> Result<Undo, AllocError>
     let side = bound_of(next_word(&mut rest)).unwrap_or(Side::Lower);
     let bound = next_end(alloc, &mut rest)?;
     let entries = SharedTerms::new(alloc, list_in(alloc, rest)?)?;
-    Ok(Undo::TightenBound {
+    Ok(Undo::TightenBound(TightenBound {
         row,
         column,
         side,
         bound,
         entries,
-    })
+    }))
 }
 
 /// The record of an equation of two columns.
@@ -149,7 +152,7 @@ fn doubleton(alloc: Global, words: Words<'_>) -> Result<Undo, AllocError>
     let upper = end_apart(alloc, &mut rest)?;
     let cost = number_apart(alloc, &mut rest)?;
     let entries = list_apart(alloc, rest)?;
-    Ok(Undo::Doubleton {
+    Ok(Undo::Doubleton(Doubleton {
         row,
         column,
         kept,
@@ -160,7 +163,7 @@ fn doubleton(alloc: Global, words: Words<'_>) -> Result<Undo, AllocError>
         upper,
         cost,
         entries,
-    })
+    }))
 }
 
 /// The record of a free column with one entry.
@@ -174,14 +177,14 @@ fn free_singleton(alloc: Global, words: Words<'_>) -> Result<Undo, AllocError>
     let at = number_apart(alloc, &mut rest)?;
     let price = number_apart(alloc, &mut rest)?;
     let entries = list_in(alloc, rest)?;
-    Ok(Undo::FreeSingleton {
+    Ok(Undo::FreeSingleton(FreeSingleton {
         column,
         row,
         value,
         at,
         price,
         entries,
-    })
+    }))
 }
 
 /// The record of a slack column with one entry.
@@ -199,7 +202,7 @@ fn slack_singleton(alloc: Global, words: Words<'_>) -> Result<Undo, AllocError>
     let upper = end_apart(alloc, &mut rest)?;
     let fate = fate_of(next_word(&mut rest)).unwrap_or(RowFate::Kept);
     let entries = list_apart(alloc, rest)?;
-    Ok(Undo::SlackSingleton {
+    Ok(Undo::SlackSingleton(SlackSingleton {
         column,
         row,
         value,
@@ -210,7 +213,7 @@ fn slack_singleton(alloc: Global, words: Words<'_>) -> Result<Undo, AllocError>
         upper,
         fate,
         entries,
-    })
+    }))
 }
 
 /// The record of parallel rows.
@@ -224,14 +227,14 @@ fn parallel_rows(alloc: Global, words: Words<'_>) -> Result<Undo, AllocError>
     let lower = end_apart(alloc, &mut rest)?;
     let upper = end_apart(alloc, &mut rest)?;
     let entries = SharedTerms::new(alloc, list_in(alloc, rest)?)?;
-    Ok(Undo::ParallelRows {
+    Ok(Undo::ParallelRows(ParallelRows {
         row,
         kept,
         factor,
         lower,
         upper,
         entries,
-    })
+    }))
 }
 
 /// The record of parallel columns.
@@ -246,7 +249,7 @@ fn parallel_columns(alloc: Global, words: Words<'_>) -> Result<Undo, AllocError>
     let upper = end_apart(alloc, &mut rest)?;
     let kept_lower = end_apart(alloc, &mut rest)?;
     let kept_upper = end_apart(alloc, &mut rest)?;
-    Ok(Undo::ParallelColumns {
+    Ok(Undo::ParallelColumns(ParallelColumns {
         column,
         kept,
         factor,
@@ -254,7 +257,7 @@ fn parallel_columns(alloc: Global, words: Words<'_>) -> Result<Undo, AllocError>
         upper,
         kept_lower,
         kept_upper,
-    })
+    }))
 }
 
 /// The record of a rule that has ids alone.
@@ -267,21 +270,21 @@ fn ids_alone(rule: Rule, words: Words<'_>) -> Undo
     let second = next_id(&mut rest);
     let third = next_id(&mut rest);
     match rule {
-        Rule::K1 => Undo::EmptyRow { row: first },
-        Rule::K4 => Undo::RoundBounds { column: first },
-        Rule::K5 => Undo::RedundantRow { row: first },
-        Rule::K6 => Undo::RedundantSide { row: first },
-        Rule::K9 => Undo::TightenCoefficient {
+        Rule::K1 => Undo::EmptyRow(EmptyRow { row: first }),
+        Rule::K4 => Undo::RoundBounds(RoundBounds { column: first }),
+        Rule::K5 => Undo::RedundantRow(RedundantRow { row: first }),
+        Rule::K6 => Undo::RedundantSide(RedundantSide { row: first }),
+        Rule::K9 => Undo::TightenCoefficient(TightenCoefficient {
             row: first,
             column: second,
-        },
-        Rule::K10 => Undo::DualFix { column: first },
-        Rule::K11 => Undo::Dominated {
+        }),
+        Rule::K10 => Undo::DualFix(DualFix { column: first }),
+        Rule::K11 => Undo::Dominated(Dominated {
             row: first,
             better: second,
             column: third,
-        },
-        _ => Undo::EmptyColumn { column: first },
+        }),
+        _ => Undo::EmptyColumn(EmptyColumn { column: first }),
     }
 }
 

@@ -2,7 +2,7 @@
 
 ghost use Rattle.std.specs.Prelude.{◌≡◌, ◌++◌, ◌∷◌, [], OnOk};
 ghost use Rattle.std.specs.List.{flat_map};
-ghost use Rattle.undo_records.specs.Walk.{ids_of};
+ghost use Rattle.undo_records.specs.Ids.{ids_of};
 ghost use Rattle.problem_model.specs.Matrices.{live_only};
 ghost use Rattle.problem_model.specs.Problems.{row_entries};
 ghost use Rattle.round_marks.specs.Soles.{soles};

@@ -37,14 +37,14 @@ impl Subject {
 pub type Subjects = [Option<Subject>; 3];
 
 /// One row or column.
-fn one(first: Subject) -> Subjects
+pub fn one(first: Subject) -> Subjects
     ensures { result ≡ one first }
 {
     [Some(first), None, None]
 }
 
 /// Two.
-fn two(first: Subject, second: Subject) -> Subjects
+pub fn two(first: Subject, second: Subject) -> Subjects
     ensures { result ≡ two first second }
 {
     [Some(first), Some(second), None]

@@ -4,7 +4,7 @@ ghost use Rattle.std.specs.Prelude.{◌<◌, ◌^◌, length};
 ghost use Rattle.lp_model.specs.Writable.{EntriesAscend, Writable};
 
 use crate::lines::{push_instance, push_range};
-use crate::named::{Subject, Subjects, named_by_reduction, push_name};
+use crate::named::{Subject, Subjects, named_by_reduction, one, push_name, two};
 use fractions::ext::Ext;
 use instances::is_enabled;
 use lp_model::Program;
@@ -66,33 +66,26 @@ fn view_of(problem: &Problem, subject: Subject) -> View {
 /// The rows and columns of which it is told how a record left them.
 fn told_by(undo: &Undo) -> Subjects {
     match undo {
-        Undo::SingletonRow { column, .. }
-        | Undo::FixedColumn { column, .. }
-        | Undo::RoundBounds { column }
-        | Undo::TightenBound { column, .. }
-        | Undo::DualFix { column }
-        | Undo::Dominated { column, .. }
-        | Undo::EmptyColumn { column } => [Some(Subject::Column(*column)), None, None],
-        Undo::EmptyRow { row }
-        | Undo::RedundantRow { row }
-        | Undo::RedundantSide { row }
-        | Undo::ForcingRow { row, .. }
-        | Undo::TightenCoefficient { row, .. } => [Some(Subject::Row(*row)), None, None],
-        Undo::Doubleton { column, kept, .. } | Undo::ParallelColumns { column, kept, .. } => [
-            Some(Subject::Column(*column)),
-            Some(Subject::Column(*kept)),
-            None,
-        ],
-        Undo::FreeSingleton { column, row, .. } | Undo::SlackSingleton { column, row, .. } => {
-            [
-                Some(Subject::Column(*column)),
-                Some(Subject::Row(*row)),
-                None,
-            ]
-        }
-        Undo::ParallelRows { row, kept, .. } => {
-            [Some(Subject::Row(*row)), Some(Subject::Row(*kept)), None]
-        }
+        Undo::EmptyRow(undo) => one(Subject::Row(undo.row)),
+        Undo::SingletonRow(undo) => one(Subject::Column(undo.column)),
+        Undo::FixedColumn(undo) => one(Subject::Column(undo.column)),
+        Undo::RoundBounds(undo) => one(Subject::Column(undo.column)),
+        Undo::RedundantRow(undo) => one(Subject::Row(undo.row)),
+        Undo::RedundantSide(undo) => one(Subject::Row(undo.row)),
+        Undo::ForcingRow(undo) => one(Subject::Row(undo.row)),
+        Undo::TightenBound(undo) => one(Subject::Column(undo.column)),
+        Undo::TightenCoefficient(undo) => one(Subject::Row(undo.row)),
+        Undo::DualFix(undo) => one(Subject::Column(undo.column)),
+        Undo::Dominated(undo) => one(Subject::Column(undo.column)),
+        Undo::Doubleton(undo) => two(Subject::Column(undo.column), Subject::Column(undo.kept)),
+        Undo::FreeSingleton(undo) => two(Subject::Column(undo.column), Subject::Row(undo.row)),
+        Undo::SlackSingleton(undo) => two(Subject::Column(undo.column), Subject::Row(undo.row)),
+        Undo::ParallelRows(undo) => two(Subject::Row(undo.row), Subject::Row(undo.kept)),
+        Undo::ParallelColumns(undo) => two(
+            Subject::Column(undo.column),
+            Subject::Column(undo.kept),
+        ),
+        Undo::EmptyColumn(undo) => one(Subject::Column(undo.column)),
     }
 }
 
@@ -154,9 +147,9 @@ fn push_views(
 /// Adds the value at which a column goes, where a record holds it.
 fn push_value(text: &mut Vec<u8>, undo: &Undo) -> Result<(), AllocError> {
     match undo {
-        Undo::FixedColumn { value, .. } => {
+        Undo::FixedColumn(fixed) => {
             text.extend_from_slice(b" at ")?;
-            number_texts::push(text, &value.get())
+            number_texts::push(text, &fixed.value.get())
         }
         _ => Ok(()),
     }

@@ -34,7 +34,7 @@ abbrev pub edits : Sparse → ℕ → List Edit
 edits p i = DeleteRow i ∷ []
 
 abbrev pub record_of : Sparse → ℕ → Undo
-record_of p i = undo.EmptyRow i
+record_of p i = undo.EmptyRow (record { row = i })
 
 -- nothing is computed
 abbrev pub Computes : Sparse → ℕ → Type 0

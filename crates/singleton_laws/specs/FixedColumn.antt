@@ -51,7 +51,7 @@ edits p j = map (sides_less p (value_of p j)) (column_entries p j) ++ column_out
 
 -- the record keeps the column
 abbrev pub record_of : Sparse → ℕ → Undo
-record_of p j = undo.FixedColumn j (value_of p j) (cost_at p j) (column_entries p j)
+record_of p j = undo.FixedColumn (record { column = j; value = value_of p j; cost = cost_at p j; entries = column_entries p j })
 
 -- the products and differences are computed
 pub record TermComputes (p : Sparse) (v : Number) (t : Term) : Type 0 where

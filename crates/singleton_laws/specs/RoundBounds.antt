@@ -34,7 +34,7 @@ abbrev pub edits : Sparse → ℕ → List Edit
 edits p j = SetBounds j (rounded_up (bounds_at p j).lower) (rounded_down (bounds_at p j).upper) ∷ []
 
 abbrev pub record_of : Sparse → ℕ → Undo
-record_of p j = undo.RoundBounds j
+record_of p j = undo.RoundBounds (record { column = j })
 
 -- a number rounded has room
 abbrev pub Computes : Sparse → ℕ → Type 0

@@ -55,7 +55,7 @@ edits p i = edits_by p i (sole_entry p i)
 
 -- the record keeps the bounds that the column had
 abbrev pub record_by : Sparse → ℕ → Term → Undo
-record_by p i t = undo.SingletonRow i t.id t.value (bounds_at p t.id).lower (bounds_at p t.id).upper
+record_by p i t = undo.SingletonRow (record { row = i; column = t.id; value = t.value; lower = (bounds_at p t.id).lower; upper = (bounds_at p t.id).upper })
 
 abbrev pub record_of : Sparse → ℕ → Undo
 record_of p i = record_by p i (sole_entry p i)

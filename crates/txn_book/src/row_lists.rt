@@ -4,7 +4,7 @@ ghost use Rattle.std.specs.Prelude.{◌≡◌, IfSome, IsTrue};
 
 use lp_model::Term;
 use std::alloc::{AllocError, Global};
-use undo_records::{SharedTerms, Undo};
+use undo_records::{ParallelRows, SharedTerms, TightenBound, Undo};
 
 /// The list that a record of each row held last. A record of the same row with the same entries gets that list for its own, so that no
 /// record has a list to itself while its row stays as it is.
@@ -94,40 +94,56 @@ impl RowLists {
         }
     }
 
+    /// The same record of a tightened bound, with the list of its row.
+    fn with_bound_list(&mut self, tightened: TightenBound) -> TightenBound
+        ensures { result ≡ tightened }
+    {
+        let TightenBound {
+            row,
+            column,
+            side,
+            bound,
+            entries,
+        } = tightened;
+        TightenBound {
+            row,
+            column,
+            side,
+            bound,
+            entries: self.list_of(row, entries),
+        }
+    }
+
+    /// The same record of parallel rows, with the list of the row that was kept.
+    fn with_kept_list(&mut self, parallel: ParallelRows) -> ParallelRows
+        ensures { result ≡ parallel }
+    {
+        let ParallelRows {
+            row,
+            kept,
+            factor,
+            lower,
+            upper,
+            entries,
+        } = parallel;
+        ParallelRows {
+            row,
+            kept,
+            factor,
+            lower,
+            upper,
+            entries: self.list_of(kept, entries),
+        }
+    }
+
     /// The same record, which holds no list of a row that is held already: of the row that tightened a bound, or was kept beside a parallel
     /// one.
     pub fn share(&mut self, undo: Undo) -> Undo
         ensures { result ≡ undo }
     {
         match undo {
-            Undo::TightenBound {
-                row,
-                column,
-                side,
-                bound,
-                entries,
-            } => Undo::TightenBound {
-                row,
-                column,
-                side,
-                bound,
-                entries: self.list_of(row, entries),
-            },
-            Undo::ParallelRows {
-                row,
-                kept,
-                factor,
-                lower,
-                upper,
-                entries,
-            } => Undo::ParallelRows {
-                row,
-                kept,
-                factor,
-                lower,
-                upper,
-                entries: self.list_of(kept, entries),
-            },
+            Undo::TightenBound(tightened) => Undo::TightenBound(self.with_bound_list(tightened)),
+            Undo::ParallelRows(parallel) => Undo::ParallelRows(self.with_kept_list(parallel)),
             other => other,
         }
     }

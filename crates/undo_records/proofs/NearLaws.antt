@@ -8,7 +8,7 @@ use Rattle.rational.specs.Compare.{lt_ℚ}
 use Rattle.rational.specs.Ends.{AtMost, Between}
 use Rattle.rational.proofs.Comparisons.{le_ℚ-is, lt_ℚ-is, lt_ℚ-not}
 use Rattle.rational.proofs.MinMaxLaws.{abs_ℚ_pos, ≤ℚ-abs_ℚ, neg_ℚ-≤-abs_ℚ, abs_ℚ-≤}
-use Rattle.undo_records.specs.Lift.{zero_or_below, near}
+use Rattle.undo_records.specs.Near.{zero_or_below, near}
 
 so : (t : Bool) → false ≡ not t → IsTrue t
 so true e = refl

@@ -16,23 +16,23 @@ ids_below m n (t ∷ ts) h zero d l = h.1
 ids_below m n (t ∷ ts) h (suc k) d l = ids_below (suc t.id) n ts h.3 k d (omega arith)
 
 pub sound_can : (m n : ℕ) (u : Undo) → IsSound m n u → CanUndo n u
-sound_can m n (FixedColumn j v c ts) h = h.0
-sound_can m n (Doubleton i j k a b r l u c ts) h = (h.1.0, h.1.1, h.0.2)
-sound_can m n (FreeSingleton j i a s t ts) (e, o) = (e.1, e.2, ids_below 0 n ts o.0)
-sound_can m n (SlackSingleton j i a t L U l u fate ts) (e, o) = (e.1, e.2, ids_below 0 n ts o.0)
-sound_can m n (ParallelColumns j k s l u L U) h = (h.0.0, h.0.1, h.1)
-sound_can m n (EmptyRow i) h = tt
-sound_can m n (SingletonRow i j a l u) h = tt
-sound_can m n (RoundBounds j) h = tt
-sound_can m n (RedundantRow i) h = tt
-sound_can m n (RedundantSide i) h = tt
-sound_can m n (ForcingRow i side ts) h = tt
-sound_can m n (TightenBound i j side b ts) h = tt
-sound_can m n (TightenCoefficient i j) h = tt
-sound_can m n (DualFix j) h = tt
-sound_can m n (Dominated i j k) h = tt
-sound_can m n (ParallelRows i k s L U ts) h = tt
-sound_can m n (EmptyColumn j) h = tt
+sound_can m n (FixedColumn r) h = h.0
+sound_can m n (Doubleton r) h = (h.1.0, h.1.1, h.0.2)
+sound_can m n (FreeSingleton r) (e, o) = (e.1, e.2, ids_below 0 n r.entries o.0)
+sound_can m n (SlackSingleton r) (e, o) = (e.1, e.2, ids_below 0 n r.entries o.0)
+sound_can m n (ParallelColumns r) h = (h.0.0, h.0.1, h.1)
+sound_can m n (EmptyRow r) h = tt
+sound_can m n (SingletonRow r) h = tt
+sound_can m n (RoundBounds r) h = tt
+sound_can m n (RedundantRow r) h = tt
+sound_can m n (RedundantSide r) h = tt
+sound_can m n (ForcingRow r) h = tt
+sound_can m n (TightenBound r) h = tt
+sound_can m n (TightenCoefficient r) h = tt
+sound_can m n (DualFix r) h = tt
+sound_can m n (Dominated r) h = tt
+sound_can m n (ParallelRows r) h = tt
+sound_can m n (EmptyColumn r) h = tt
 
 pub all_can : (p : Postsolve) → AreSound p → All (CanUndo (length p.columns)) p.undos
 all_can p h k d l = sound_can (length p.rows) (length p.columns) _ (h.records k d l)

@@ -6,7 +6,7 @@ use Rattle.rational.specs.Division.{inv_ℚ, ◌/ℚ◌, *ℚ-inv_ℚ}
 use Rattle.rational.specs.Total.{put}
 use Rattle.rational.proofs.Totals.{put-same, put-other}
 use Rattle.lp_model.specs.Vectors.{Vector}
-use Rattle.undo_records.specs.Lift.{part}
+use Rattle.undo_records.specs.ParallelColumns.{part}
 
 times_over : (p a : Number) → a ≢ zero_ℚ → a *ℚ (p /ℚ a) ≡ p
 times_over p a h =

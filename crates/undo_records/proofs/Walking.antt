@@ -7,13 +7,18 @@ use Rattle.rational.specs.Number.{Number}
 use Rattle.lp_model.specs.declared.program.Sense.{Sense}
 use Rattle.undo_records.specs.declared.label.Label.{Label}
 use Rattle.lp_model.specs.Flags.{Flags}
-use Rattle.undo_records.specs.Walk.{is_on, rows_named, columns_named, AreSound, NamesLive, Walks, after}
+use Rattle.undo_records.specs.Ids.{is_on}
+use Rattle.undo_records.specs.Walk.{rows_named, columns_named, AreSound, NamesLive, Walks, after}
 
 -- past the last there is nothing to set
 pub set_past : (xs : List Bool) (k : ℕ) (b : Bool) → length xs ≤ k → slice_set xs k b ≡ xs
 set_past [] k b l = refl
 set_past (x ∷ xs) zero b l = absurd (omega (arith, l))
 set_past (x ∷ xs) (suc k) b l = ap (λ ys. x ∷ ys) (set_past xs k b (omega (arith, l)))
+
+pub and_true : (b : Bool) → b ≡ (b && true)
+and_true true = refl
+and_true false = refl
 
 both : (a b : Bool) → IsTrue (a && b) → IsTrue a × IsTrue b
 both true b h = (refl, h)

@@ -1,57 +1,20 @@
 -- When the numbers that undoing computes have room.
-use Rattle.std.specs.Prelude.{ℕ, pred, ◌≤◌, List, [], ◌∷◌, length, drop, Option, Some, None, ⊤}
-use Rattle.rational.specs.Number.{Number, zero_ℚ, neg_ℚ, ◌+ℚ◌, ◌-ℚ◌, ◌*ℚ◌}
-use Rattle.rational.specs.Division.{◌/ℚ◌}
-use Rattle.rational.specs.Lowest.{Fits}
-use Rattle.rational.specs.Ends.{less, minus_ends}
-use Rattle.fractions.specs.FracWords.{SumFits}
-use Rattle.lp_model.specs.declared.terms.Term.{Term}
+use Rattle.std.specs.Prelude.{ℕ, pred, ◌≤◌, List, [], ◌∷◌, length, drop, ⊤}
 use Rattle.lp_model.specs.Vectors.{Vector}
-use Rattle.lp_model.specs.Sparse.{sparse_total}
 use Rattle.undo_records.specs.declared.undo.Undo.{Undo}
 use Rattle.undo_records.specs.declared.undo.Undo.TheVariants.{Doubleton, FreeSingleton, SlackSingleton, ParallelColumns}
-use Rattle.undo_records.specs.Lift.{near_within, lift}
-
--- s plus the products of the terms, each by itself and each sum as the terms go
-abbrev pub TermsFit : Number → List Term → Vector → Type 0
-TermsFit s [] x = ⊤
-TermsFit s (t ∷ ts) x = (Fits (t.value *ℚ x t.id) × SumFits s (t.value *ℚ x t.id)) × TermsFit (s +ℚ t.value *ℚ x t.id) ts x
-
--- p - b v
-abbrev pub LessProductFits : Number → Number → Number → Type 0
-LessProductFits p b v = Fits (b *ℚ v) × SumFits p (neg_ℚ (b *ℚ v))
-
--- (p - q) / a
-abbrev pub QuotientFits : Number → Number → Number → Type 0
-QuotientFits p q a = SumFits p (neg_ℚ q) × Fits ((p -ℚ q) /ℚ a)
-
--- an end less q, p less an end, and an end over a; of no end nothing is computed
-abbrev pub EndLessFits : Option Number → Number → Type 0
-EndLessFits None q = ⊤
-EndLessFits (Some e) q = SumFits e (neg_ℚ q)
-
-abbrev pub LessEndFits : Number → Option Number → Type 0
-LessEndFits p None = ⊤
-LessEndFits p (Some e) = SumFits p (neg_ℚ e)
-
-abbrev pub EndOverFits : Option Number → Number → Type 0
-EndOverFits None a = ⊤
-EndOverFits (Some e) a = Fits (e /ℚ a)
-
--- from lo - q to hi - q, over a
-abbrev pub SlackFits : Number → Option Number → Option Number → Number → Type 0
-SlackFits a lo hi q = (EndLessFits lo q × EndLessFits hi q) × EndOverFits (less lo q) a × EndOverFits (less hi q) a
-
--- from p - hi to p - lo, over a
-abbrev pub ShareFits : Number → Option Number → Option Number → Number → Type 0
-ShareFits a lo hi p = (LessEndFits p hi × LessEndFits p lo) × EndOverFits (minus_ends (Some p) hi) a × EndOverFits (minus_ends (Some p) lo) a
+use Rattle.undo_records.specs.Doubleton as doubleton
+use Rattle.undo_records.specs.FreeSingleton as free_singleton
+use Rattle.undo_records.specs.SlackSingleton as slack_singleton
+use Rattle.undo_records.specs.ParallelColumns as parallel_columns
+use Rattle.undo_records.specs.Lift.{lift}
 
 -- what one undone record computes
 abbrev pub UndoFits : Undo → Vector → Type 0
-UndoFits (Doubleton i j k a b r l u c ts) x = LessProductFits r b (x k) × Fits ((r -ℚ b *ℚ x k) /ℚ a)
-UndoFits (FreeSingleton j i a s t ts) x = TermsFit zero_ℚ ts x × QuotientFits s (sparse_total ts x) a
-UndoFits (SlackSingleton j i a t L U l u fate ts) x = TermsFit zero_ℚ ts x × SlackFits a L U (sparse_total ts x)
-UndoFits (ParallelColumns j k s l u L U) x = ShareFits s L U (x k) × LessProductFits (x k) s (near_within s (minus_ends (Some (x k)) U) (minus_ends (Some (x k)) L) l u)
+UndoFits (Doubleton r) x = doubleton.UndoFits r x
+UndoFits (FreeSingleton r) x = free_singleton.UndoFits r x
+UndoFits (SlackSingleton r) x = slack_singleton.UndoFits r x
+UndoFits (ParallelColumns r) x = parallel_columns.UndoFits r x
 UndoFits other x = ⊤
 
 -- the lift fits: each record, at what the records after it have made of the point

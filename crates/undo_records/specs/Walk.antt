@@ -1,80 +1,84 @@
 -- Which rows and columns are live as reductions are applied, and what is asked of all records of a run.
-use Rattle.std.specs.Prelude.{◌≡◌, ℕ, Bool, true, false, List, [], ◌∷◌, map, length, replicate, slice_index_or, slice_set, All}
+use Rattle.std.specs.Prelude.{◌≡◌, ℕ, Bool, true, false, List, [], ◌∷◌, map, length, replicate, slice_set, All}
 use Rattle.lp_model.specs.Flags.{Flags}
-use Rattle.lp_model.specs.declared.terms.Term.{Term}
 use Rattle.undo_records.specs.declared.label.Label.{Label}
-use Rattle.undo_records.specs.declared.side.RowFate.{RowFate}
-use Rattle.undo_records.specs.declared.side.RowFate.TheVariants.{Kept, Dropped}
 use Rattle.undo_records.specs.declared.undo.Undo.{Undo}
 use Rattle.undo_records.specs.declared.undo.Undo.TheVariants.{EmptyRow, SingletonRow, FixedColumn, RoundBounds, RedundantRow, RedundantSide, ForcingRow, TightenBound, TightenCoefficient, DualFix, Dominated, Doubleton, FreeSingleton, SlackSingleton, ParallelRows, ParallelColumns, EmptyColumn}
+use Rattle.undo_records.specs.Ids.{is_on}
+use Rattle.undo_records.specs.EmptyRow as empty_row
+use Rattle.undo_records.specs.SingletonRow as singleton_row
+use Rattle.undo_records.specs.FixedColumn as fixed_column
+use Rattle.undo_records.specs.RoundBounds as round_bounds
+use Rattle.undo_records.specs.RedundantRow as redundant_row
+use Rattle.undo_records.specs.RedundantSide as redundant_side
+use Rattle.undo_records.specs.ForcingRow as forcing_row
+use Rattle.undo_records.specs.TightenBound as tighten_bound
+use Rattle.undo_records.specs.TightenCoefficient as tighten_coefficient
+use Rattle.undo_records.specs.DualFix as dual_fix
+use Rattle.undo_records.specs.Dominated as dominated
+use Rattle.undo_records.specs.Doubleton as doubleton
+use Rattle.undo_records.specs.FreeSingleton as free_singleton
+use Rattle.undo_records.specs.SlackSingleton as slack_singleton
+use Rattle.undo_records.specs.ParallelRows as parallel_rows
+use Rattle.undo_records.specs.ParallelColumns as parallel_columns
+use Rattle.undo_records.specs.EmptyColumn as empty_column
 use Rattle.undo_records.specs.Postsolve.{Postsolve}
 use Rattle.undo_records.specs.Sound.{IsSound}
 
-abbrev pub is_on : List Bool → ℕ → Bool
-is_on flags k = slice_index_or flags k false
-
-abbrev pub ids_of : List Term → List ℕ
-ids_of ts = map (λ t. t.id) ts
-
 -- the rows that a record names, those of its list too
 abbrev pub rows_named : Undo → List ℕ
-rows_named (EmptyRow i) = i ∷ []
-rows_named (SingletonRow i j a l u) = i ∷ []
-rows_named (FixedColumn j v c ts) = ids_of ts
-rows_named (RedundantRow i) = i ∷ []
-rows_named (RedundantSide i) = i ∷ []
-rows_named (ForcingRow i side ts) = i ∷ []
-rows_named (TightenBound i j side b ts) = i ∷ []
-rows_named (TightenCoefficient i j) = i ∷ []
-rows_named (Dominated i j k) = i ∷ []
-rows_named (Doubleton i j k a b r l u c ts) = i ∷ ids_of ts
-rows_named (FreeSingleton j i a s t ts) = i ∷ []
-rows_named (SlackSingleton j i a t L U l u fate ts) = i ∷ []
-rows_named (ParallelRows i k s L U ts) = i ∷ k ∷ []
+rows_named (EmptyRow r) = empty_row.rows_named r
+rows_named (SingletonRow r) = singleton_row.rows_named r
+rows_named (FixedColumn r) = fixed_column.rows_named r
+rows_named (RedundantRow r) = redundant_row.rows_named r
+rows_named (RedundantSide r) = redundant_side.rows_named r
+rows_named (ForcingRow r) = forcing_row.rows_named r
+rows_named (TightenBound r) = tighten_bound.rows_named r
+rows_named (TightenCoefficient r) = tighten_coefficient.rows_named r
+rows_named (Dominated r) = dominated.rows_named r
+rows_named (Doubleton r) = doubleton.rows_named r
+rows_named (FreeSingleton r) = free_singleton.rows_named r
+rows_named (SlackSingleton r) = slack_singleton.rows_named r
+rows_named (ParallelRows r) = parallel_rows.rows_named r
 rows_named other = []
 
 -- the columns that a record names, those of its list too
 abbrev pub columns_named : Undo → List ℕ
-columns_named (SingletonRow i j a l u) = j ∷ []
-columns_named (FixedColumn j v c ts) = j ∷ []
-columns_named (RoundBounds j) = j ∷ []
-columns_named (ForcingRow i side ts) = ids_of ts
-columns_named (TightenBound i j side b ts) = j ∷ ids_of ts
-columns_named (TightenCoefficient i j) = j ∷ []
-columns_named (DualFix j) = j ∷ []
-columns_named (Dominated i j k) = j ∷ k ∷ []
-columns_named (Doubleton i j k a b r l u c ts) = j ∷ k ∷ []
-columns_named (FreeSingleton j i a s t ts) = j ∷ ids_of ts
-columns_named (SlackSingleton j i a t L U l u fate ts) = j ∷ ids_of ts
-columns_named (ParallelRows i k s L U ts) = ids_of ts
-columns_named (ParallelColumns j k s l u L U) = j ∷ k ∷ []
-columns_named (EmptyColumn j) = j ∷ []
+columns_named (SingletonRow r) = singleton_row.columns_named r
+columns_named (FixedColumn r) = fixed_column.columns_named r
+columns_named (RoundBounds r) = round_bounds.columns_named r
+columns_named (ForcingRow r) = forcing_row.columns_named r
+columns_named (TightenBound r) = tighten_bound.columns_named r
+columns_named (TightenCoefficient r) = tighten_coefficient.columns_named r
+columns_named (DualFix r) = dual_fix.columns_named r
+columns_named (Dominated r) = dominated.columns_named r
+columns_named (Doubleton r) = doubleton.columns_named r
+columns_named (FreeSingleton r) = free_singleton.columns_named r
+columns_named (SlackSingleton r) = slack_singleton.columns_named r
+columns_named (ParallelRows r) = parallel_rows.columns_named r
+columns_named (ParallelColumns r) = parallel_columns.columns_named r
+columns_named (EmptyColumn r) = empty_column.columns_named r
 columns_named other = []
-
--- the row of a slack column, where it was deleted
-abbrev pub dropped : RowFate → ℕ → List ℕ
-dropped Kept i = []
-dropped Dropped i = i ∷ []
 
 -- the rows that a reduction deletes
 abbrev pub rows_deleted : Undo → List ℕ
-rows_deleted (EmptyRow i) = i ∷ []
-rows_deleted (SingletonRow i j a l u) = i ∷ []
-rows_deleted (RedundantRow i) = i ∷ []
-rows_deleted (ForcingRow i side ts) = i ∷ []
-rows_deleted (Doubleton i j k a b r l u c ts) = i ∷ []
-rows_deleted (FreeSingleton j i a s t ts) = i ∷ []
-rows_deleted (SlackSingleton j i a t L U l u fate ts) = dropped fate i
-rows_deleted (ParallelRows i k s L U ts) = i ∷ []
+rows_deleted (EmptyRow r) = empty_row.rows_deleted r
+rows_deleted (SingletonRow r) = singleton_row.rows_deleted r
+rows_deleted (RedundantRow r) = redundant_row.rows_deleted r
+rows_deleted (ForcingRow r) = forcing_row.rows_deleted r
+rows_deleted (Doubleton r) = doubleton.rows_deleted r
+rows_deleted (FreeSingleton r) = free_singleton.rows_deleted r
+rows_deleted (SlackSingleton r) = slack_singleton.rows_deleted r
+rows_deleted (ParallelRows r) = parallel_rows.rows_deleted r
 rows_deleted other = []
 
 -- the columns that a reduction deletes
 abbrev pub columns_deleted : Undo → List ℕ
-columns_deleted (FixedColumn j v c ts) = j ∷ []
-columns_deleted (Doubleton i j k a b r l u c ts) = j ∷ []
-columns_deleted (FreeSingleton j i a s t ts) = j ∷ []
-columns_deleted (SlackSingleton j i a t L U l u fate ts) = j ∷ []
-columns_deleted (ParallelColumns j k s l u L U) = j ∷ []
+columns_deleted (FixedColumn r) = fixed_column.columns_deleted r
+columns_deleted (Doubleton r) = doubleton.columns_deleted r
+columns_deleted (FreeSingleton r) = free_singleton.columns_deleted r
+columns_deleted (SlackSingleton r) = slack_singleton.columns_deleted r
+columns_deleted (ParallelColumns r) = parallel_columns.columns_deleted r
 columns_deleted other = []
 
 -- these ids are no longer on

@@ -8,12 +8,16 @@ ghost use Rattle.rational.specs.MinMax.{abs_ℚ};
 ghost use Rattle.lp_model.specs.declared.terms.Term.{Term};
 ghost use Rattle.lp_model.specs.Sparse.{sparse_total};
 ghost use Rattle.lp_model.specs.Vectors.{Vector};
-ghost use Rattle.undo_records.specs.Lift.{near, undone};
+ghost use Rattle.undo_records.specs.Lift.{undone};
+ghost use Rattle.undo_records.specs.Near.{near};
 ghost use Rattle.undo_records.specs.Sound.{CanUndo, IsSound};
 ghost use Rattle.lp_model.specs.Flags.{Flags};
 ghost use Rattle.undo_records.specs.Walk.{NamesLive, Walks, after};
 ghost use Rattle.undo_records.specs.declared.undo.Undo.{Undo};
-ghost use Rattle.undo_records.specs.declared.undo.Undo.TheVariants.{Doubleton, FreeSingleton, ParallelColumns};
+ghost use Rattle.undo_records.specs.declared.undo.Undo.TheVariants as kind;
+ghost use Rattle.undo_records.specs.declared.kinds.doubleton.Doubleton.{Doubleton};
+ghost use Rattle.undo_records.specs.declared.kinds.free_singleton.FreeSingleton.{FreeSingleton};
+ghost use Rattle.undo_records.specs.declared.kinds.parallel_columns.ParallelColumns.{ParallelColumns};
 
 /// A sound record can be undone.
 pub fn sound_records_can_be_undone()
@@ -29,9 +33,9 @@ pub fn walks_go_on()
 /// What undoing brings back: the equation of two columns holds again, the row of a free column stands at its side, and the merged
 /// number is the kept column's plus the factor times the other one's.
 pub fn undoing_brings_rows_back()
-    ensures doubleton { (i j k : ℕ) (a b r c : Number) (l h : Option Number) (ts : List Term) (x : Vector) → a ≢ zero_ℚ → k ≢ j → a *ℚ undone (Doubleton i j k a b r l h c ts) x j +ℚ b *ℚ undone (Doubleton i j k a b r l h c ts) x k ≡ r }
-    ensures free { (i j : ℕ) (a s t : Number) (ts : List Term) (x : Vector) → a ≢ zero_ℚ → a *ℚ undone (FreeSingleton j i a s t ts) x j +ℚ sparse_total ts x ≡ s }
-    ensures merged { (j k : ℕ) (s : Number) (l h p q : Option Number) (x : Vector) → j ≢ k → undone (ParallelColumns j k s l h p q) x k +ℚ s *ℚ undone (ParallelColumns j k s l h p q) x j ≡ x k }
+    ensures doubleton { (r : Doubleton) (x : Vector) → r.value ≢ zero_ℚ → r.kept ≢ r.column → r.value *ℚ undone (kind.Doubleton r) x r.column +ℚ r.kept_value *ℚ undone (kind.Doubleton r) x r.kept ≡ r.equal }
+    ensures free { (r : FreeSingleton) (x : Vector) → r.value ≢ zero_ℚ → r.value *ℚ undone (kind.FreeSingleton r) x r.column +ℚ sparse_total r.entries x ≡ r.at }
+    ensures merged { (r : ParallelColumns) (x : Vector) → r.column ≢ r.kept → undone (kind.ParallelColumns r) x r.kept +ℚ r.factor *ℚ undone (kind.ParallelColumns r) x r.column ≡ x r.kept }
 {}
 
 /// The number between two ends that is nearest to 0 is between them, where they are in order, and no number between them is nearer.

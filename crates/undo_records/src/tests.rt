@@ -1,6 +1,6 @@
 //! What no text of records shows: names by id of records that are made, and the size of a record.
 
-use crate::{KeptNumber, Label, Records, TermsApart, Undo};
+use crate::{FixedColumn, KeptNumber, Label, Records, TermsApart, Undo};
 use fractions::frac::Frac;
 use lp_model::{Labels, Name, Sense, Term, Terms, is_name};
 use std::alloc::{AllocError, Global};
@@ -26,12 +26,12 @@ fn keeps_names_and_records(rt: HostRuntime) -> Result<(), Fail> {
         id: 0,
         value: Frac::one(),
     };
-    let fixed = Undo::FixedColumn {
+    let fixed = Undo::FixedColumn(FixedColumn {
         column: 0,
         value: KeptNumber::new(alloc, Frac::one())?,
         cost: KeptNumber::new(alloc, Frac::one())?,
         entries: Terms::new(vec![in alloc; one]?),
-    };
+    });
     let undos = vec![in alloc; fixed]?;
     let made = Records::checked(alloc, Sense::Min, columns, rows, Frac::zero(), undos)?;
     let records = made.expect(&rt, "sound records");

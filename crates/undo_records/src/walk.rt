@@ -1,13 +1,12 @@
 //! Which rows and columns are live as reductions are applied.
 
-ghost use Rattle.std.specs.Prelude.{◌≡◌, ◌↔◌, ◌∷◌, ◌&&◌, true, false, IfOk, IsTrue, map, replicate, slice_set};
-ghost use Rattle.std.specs.List.{list_all};
-ghost use Rattle.undo_records.specs.Walk.{NamesLive, after, all_live, cleared, columns_deleted, columns_named, dropped, ids_of, is_on, lives, rows_deleted, rows_named};
+ghost use Rattle.std.specs.Prelude.{◌≡◌, ◌↔◌, false, IfOk, IsTrue, slice_set};
+ghost use Rattle.undo_records.specs.SlackSingleton.{dropped};
+ghost use Rattle.undo_records.specs.Walk.{NamesLive, after, all_live, cleared, columns_deleted, lives, rows_deleted};
 
 use crate::label::Label;
 use crate::side::RowFate;
 use crate::undo::Undo;
-use lp_model::Term;
 use std::alloc::{AllocError, Global};
 use std::marker::Model;
 
@@ -40,7 +39,7 @@ impl Walk {
     pub fn takes(&self, undo: &Undo) -> bool
         ensures { IsTrue result ↔ NamesLive self.now undo.now }
     {
-        is_all_on(undo, self.rows.as_slice(), self.columns.as_slice())
+        undo.names_live(self.rows.as_slice(), self.columns.as_slice())
     }
 
     /// What the reduction deletes is no longer live.
@@ -57,116 +56,6 @@ impl Walk {
     {
         are_flags(self.rows.as_slice(), rows) && are_flags(self.columns.as_slice(), columns)
     }
-}
-
-/// Whether an id is on.
-fn is_one_on(flags: &[bool], id: u32) -> bool
-    ensures { result ≡ is_on flags.now id }
-{
-    match flags.get(id as usize) {
-        Some(flag) => *flag,
-        None => false,
-    }
-}
-
-/// Whether all these ids are on.
-fn are_on(flags: &[bool], ids: &[u32]) -> bool
-    ensures { result ≡ list_all (is_on flags.now) ids.now }
-{
-    let mut rest = ids;
-    while let [id, after @ ..] = rest {
-        if !is_one_on(flags, *id) {
-            return false;
-        }
-        rest = after;
-    }
-    true
-}
-
-/// Whether the ids of all terms are on.
-fn are_terms_on(flags: &[bool], terms: &[Term]) -> bool
-    ensures { result ≡ list_all (is_on flags.now) (ids_of terms.now) }
-{
-    let mut rest = terms;
-    while let [term, after @ ..] = rest {
-        if !is_one_on(flags, term.id) {
-            return false;
-        }
-        rest = after;
-    }
-    true
-}
-
-/// Whether an id and the ids of all terms are on.
-fn are_all_on(flags: &[bool], id: u32, terms: &[Term]) -> bool
-    ensures { result ≡ list_all (is_on flags.now) (id ∷ ids_of terms.now) }
-{
-    is_one_on(flags, id) && are_terms_on(flags, terms)
-}
-
-/// Whether the rows that a record names are on.
-fn are_rows_on(undo: &Undo, rows: &[bool]) -> bool
-    ensures { result ≡ list_all (is_on rows.now) (rows_named undo.now) }
-{
-    match undo {
-        Undo::EmptyRow { row } | Undo::RedundantRow { row } | Undo::RedundantSide { row } => {
-            are_on(rows, &[*row])
-        }
-        Undo::SingletonRow { row, .. }
-        | Undo::ForcingRow { row, .. }
-        | Undo::TightenBound { row, .. }
-        | Undo::TightenCoefficient { row, .. }
-        | Undo::Dominated { row, .. }
-        | Undo::FreeSingleton { row, .. }
-        | Undo::SlackSingleton { row, .. } => are_on(rows, &[*row]),
-        Undo::FixedColumn { entries, .. } => are_terms_on(rows, entries.as_slice()),
-        Undo::Doubleton { row, entries, .. } => are_all_on(rows, *row, entries.as_slice()),
-        Undo::ParallelRows { row, kept, .. } => are_on(rows, &[*row, *kept]),
-        _ => true,
-    }
-}
-
-/// Whether the columns that a record names are on.
-fn are_columns_on(undo: &Undo, columns: &[bool]) -> bool
-    ensures { result ≡ list_all (is_on columns.now) (columns_named undo.now) }
-{
-    match undo {
-        Undo::RoundBounds { column } | Undo::DualFix { column } | Undo::EmptyColumn { column } => {
-            are_on(columns, &[*column])
-        }
-        Undo::SingletonRow { column, .. }
-        | Undo::FixedColumn { column, .. }
-        | Undo::TightenCoefficient { column, .. } => are_on(columns, &[*column]),
-        Undo::ForcingRow { entries, .. } => are_terms_on(columns, entries.as_slice()),
-        Undo::ParallelRows { entries, .. } => are_terms_on(columns, entries.as_slice()),
-        Undo::TightenBound {
-            column,
-            entries,
-            ..
-        } => are_all_on(columns, *column, entries.as_slice()),
-        Undo::FreeSingleton {
-            column,
-            entries,
-            ..
-        } => are_all_on(columns, *column, entries.as_slice()),
-        Undo::SlackSingleton {
-            column,
-            entries,
-            ..
-        } => are_all_on(columns, *column, entries.as_slice()),
-        Undo::Dominated { better, column, .. } => are_on(columns, &[*better, *column]),
-        Undo::Doubleton { column, kept, .. } | Undo::ParallelColumns { column, kept, .. } => {
-            are_on(columns, &[*column, *kept])
-        }
-        _ => true,
-    }
-}
-
-/// Whether all that a record names is on.
-fn is_all_on(undo: &Undo, rows: &[bool], columns: &[bool]) -> bool
-    ensures { result ≡ (list_all (is_on rows.now) (rows_named undo.now) && list_all (is_on columns.now) (columns_named undo.now)) }
-{
-    are_rows_on(undo, rows) && are_columns_on(undo, columns)
 }
 
 /// Turns an id off.
@@ -195,13 +84,14 @@ fn delete_rows(undo: &Undo, rows: &mut [bool])
     ensures { rows.new ≡ cleared (rows_deleted undo.now) rows.old }
 {
     match undo {
-        Undo::EmptyRow { row } | Undo::RedundantRow { row } => clear(rows, *row),
-        Undo::SingletonRow { row, .. }
-        | Undo::ForcingRow { row, .. }
-        | Undo::Doubleton { row, .. }
-        | Undo::FreeSingleton { row, .. }
-        | Undo::ParallelRows { row, .. } => clear(rows, *row),
-        Undo::SlackSingleton { row, fate, .. } => delete_dropped(*fate, *row, rows),
+        Undo::EmptyRow(record) => clear(rows, record.row),
+        Undo::SingletonRow(record) => clear(rows, record.row),
+        Undo::RedundantRow(record) => clear(rows, record.row),
+        Undo::ForcingRow(record) => clear(rows, record.row),
+        Undo::Doubleton(record) => clear(rows, record.row),
+        Undo::FreeSingleton(record) => clear(rows, record.row),
+        Undo::SlackSingleton(record) => delete_dropped(record.fate, record.row, rows),
+        Undo::ParallelRows(record) => clear(rows, record.row),
         _ => {}
     }
 }
@@ -211,11 +101,11 @@ fn delete_columns(undo: &Undo, columns: &mut [bool])
     ensures { columns.new ≡ cleared (columns_deleted undo.now) columns.old }
 {
     match undo {
-        Undo::FixedColumn { column, .. }
-        | Undo::Doubleton { column, .. }
-        | Undo::FreeSingleton { column, .. }
-        | Undo::SlackSingleton { column, .. }
-        | Undo::ParallelColumns { column, .. } => clear(columns, *column),
+        Undo::FixedColumn(record) => clear(columns, record.column),
+        Undo::Doubleton(record) => clear(columns, record.column),
+        Undo::FreeSingleton(record) => clear(columns, record.column),
+        Undo::SlackSingleton(record) => clear(columns, record.column),
+        Undo::ParallelColumns(record) => clear(columns, record.column),
         _ => {}
     }
 }

@@ -7,7 +7,6 @@ ghost use Rattle.undo_records.specs.Sound.{IsSound};
 ghost use Rattle.undo_records.specs.Walk.{AreSound, Walks, all_live, lives};
 
 use crate::label::Label;
-use crate::sound::is_sound;
 use crate::undo::Undo;
 use crate::walk::Walk;
 use std::alloc::{AllocError, Global};
@@ -17,7 +16,7 @@ fn are_each_sound(undos: &[Undo], rows: usize, columns: usize) -> bool
     ensures { IsTrue result ↔ All (IsSound rows columns) undos.now }
 {
     for undo in undos {
-        if !is_sound(undo, rows, columns) {
+        if !undo.is_sound(rows, columns) {
             return false;
         }
     }

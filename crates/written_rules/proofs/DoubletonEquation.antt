@@ -12,7 +12,7 @@ use Rattle.lp_model.specs.declared.terms.Term.{Term}
 use Rattle.lp_model.specs.EndTests.{is_fixed, is_in_order}
 use Rattle.lp_model.specs.Sparse.{dense, without}
 use Rattle.lp_substitutions.specs.DoubletonEquation.{image_lower, image_upper}
-use Rattle.undo_records.specs.Room.{LessProductFits}
+use Rattle.undo_records.specs.Fitting.{LessProductFits}
 use Rattle.problem_model.specs.declared.edit.Edit.{Edit}
 use Rattle.problem_model.specs.declared.edit.Edit.TheVariants.{SetEntry, SetSides}
 use Rattle.problem_model.specs.declared.line.Line.{Line}

@@ -1,6 +1,6 @@
 use Rattle.std.proofs.Common.{◌≡◌, ◌++◌, ◌∙◌, ℕ}
 use Rattle.std.specs.List.{flat_map}
-use Rattle.undo_records.specs.Walk.{ids_of}
+use Rattle.undo_records.specs.Ids.{ids_of}
 use Rattle.problem_model.specs.Matrices.{line_at, live_only}
 use Rattle.problem_model.specs.Problems.{row_entries}
 use Rattle.round_marks.proofs.Sorting.{sides_led}

@@ -1,6 +1,6 @@
 use Rattle.std.proofs.Common.{◌≡◌, ℕ, ◌++◌, length}
 use Rattle.std.specs.List.{flat_map}
-use Rattle.undo_records.specs.Walk.{ids_of}
+use Rattle.undo_records.specs.Ids.{ids_of}
 use Rattle.problem_model.specs.Problems.{row_entries}
 use Rattle.round_marks.specs.Soles.{soles}
 use Rattle.round_marks.proofs.soles.add_soles_of_rows.Given as goal

@@ -8,4 +8,4 @@ returns c =
     names_live c.args.self.now c.args.undo.now _ _ _
     (c.as_slice.ensures.value ∙ ap (λ (f : Flags). f.rows) c.self.view_is)
     (c.as_slice-2.ensures.value ∙ ap (λ (f : Flags). f.columns) c.self.view_is)
-    c.is_all_on.ensures
+    c.names_live.ensures

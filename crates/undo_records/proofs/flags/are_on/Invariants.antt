@@ -1,7 +1,7 @@
 use Rattle.std.proofs.Common.{◌≡◌, length}
 use Rattle.std.specs.List.{list_all}
-use Rattle.undo_records.specs.Walk.{is_on}
-use Rattle.undo_records.proofs.walk.are_on.Given as goal
+use Rattle.undo_records.specs.Ids.{is_on}
+use Rattle.undo_records.proofs.flags.are_on.Given as goal
 
 abbrev pub invariant-loop-rest : goal.invariant-loop-rest
 invariant-loop-rest l = list_all (is_on l.flags) l.rest ≡ list_all (is_on l.flags) l.ids

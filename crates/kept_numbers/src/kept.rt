@@ -3,7 +3,7 @@
 ghost use Rattle.std.specs.Prelude.{◌≡◌, ◌^◌, ◌<◌, ◌+◌, ◌-◌, ℤ, pos, neg_ℤ, IfOk, IfSome, Some, unsigned_abs};
 ghost use Rattle.rational.specs.Lowest.{over_of, under_of, ratio};
 ghost use Rattle.rational.specs.Number.{Number};
-ghost use Rattle.undo_records.specs.Kept.{number_of_form};
+ghost use Rattle.kept_numbers.specs.Kept.{number_of_form};
 
 use fractions::ext::Ext;
 use fractions::frac::Frac;
@@ -39,7 +39,7 @@ impl Model for KeptNumber {
 
     ghost coded = { number_code };
 
-    ghost use Rattle.undo_records.specs.Kept.{number_of_form, number_or_zero};
+    ghost use Rattle.kept_numbers.specs.Kept.{number_of_form, number_or_zero};
 
     ghost view = { λ k. number_or_zero (number_of_form k.form) };
 }
@@ -80,7 +80,7 @@ impl Model for KeptEnd {
 
     ghost coded = { Prim.hlevel (codes, number_code) };
 
-    ghost use Rattle.undo_records.specs.Kept.{number_of_form};
+    ghost use Rattle.kept_numbers.specs.Kept.{number_of_form};
 
     ghost view = { λ k. number_of_form k.form };
 }

@@ -1,9 +1,9 @@
 -- The number that a form of the code holds.
-use Rattle.std.specs.Prelude.{ℕ, ◌+◌, Option, Some, None}
+use Rattle.std.specs.Prelude.{◌+◌, Option, Some, None}
 use Rattle.rational.specs.Number.{Number, zero_ℚ}
 use Rattle.rational.specs.Lowest.{ratio}
-use Rattle.undo_records.specs.declared.kept.Form.{Form}
-use Rattle.undo_records.specs.declared.kept.Form.TheVariants.{Nothing, Whole, Quotient, Long}
+use Rattle.kept_numbers.specs.declared.kept.Form.{Form}
+use Rattle.kept_numbers.specs.declared.kept.Form.TheVariants.{Nothing, Whole, Quotient, Long}
 
 abbrev pub number_of_form : Form → Option Number
 number_of_form Nothing = None
