@@ -17,7 +17,7 @@ invariant_of-self-2 c =
     (subst (λ (l : Ledger). enabled_on l.problem (at.Reduction c.args.reduction) ≡ true) (sym c.self.view_is) c.requires.enabled)
     c.in-Ok.ensures.answer.0 c.in-Ok.ensures.answer.1 c.in-Ok.ensures.answer.2
     (c.push_reserved-2.ensures.items ∙ ap (λ (rs : List Reduction). rs ++ c.args.reduction ∷ []) c.reserve.ensures.items)
-    (c.push_reserved.ensures.items ∙ ap₂ (λ (us : List Undo) (u : Undo). us ++ u ∷ []) c.reserve-2.ensures.items c.in-Ok.ensures.answer.3)
+    (c.push_reserved.ensures.items ∙ ap₂ (λ (us : List Undo) (u : Undo). us ++ u ∷ []) c.reserve-2.ensures.items (c.share.ensures ∙ c.in-Ok.ensures.answer.3))
     c.follow.ensures
 
 pub after-requires : goal.after-requires
