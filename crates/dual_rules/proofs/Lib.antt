@@ -1,4 +1,5 @@
 pub mod Merging
+pub mod FirstRows
 pub mod Orders
 pub mod Pairs
 pub mod Remaining

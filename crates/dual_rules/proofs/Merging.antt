@@ -222,6 +222,11 @@ pub admits_at : (p : Sparse) (ts us : List Term) (i : ℕ) → all_admit p ts us
 admits_at p ts us i h e = let g = and_parts (are_uncrossed (sides_at_ids p (both ts us))) (all_take_over (dense ts) (dense us) (ids_of (both ts us)) (sides_at_ids p (both ts us))) h in
     each p (dense ts) (dense us) (both ts us) g.0 g.1 i (has_both i ts us ∙ or_first (has i ts) (has i us) e)
 
+-- and of the second
+pub admits_at_second : (p : Sparse) (ts us : List Term) (i : ℕ) → all_admit p ts us ≡ true → has i us ≡ true → admits (dense ts i) (dense us i) (contents_of p (part.Sides i)) ≡ true
+admits_at_second p ts us i h e = let g = and_parts (are_uncrossed (sides_at_ids p (both ts us))) (all_take_over (dense ts) (dense us) (ids_of (both ts us)) (sides_at_ids p (both ts us))) h in
+    each p (dense ts) (dense us) (both ts us) g.0 g.1 i (has_both i ts us ∙ or_second (has i ts) (has i us) e)
+
 abbrev live_of : Sparse → List Term → List Term
 live_of p ts = live_only p.matrix.rows ts
 

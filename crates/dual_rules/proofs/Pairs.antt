@@ -1,9 +1,10 @@
 -- Pairs of columns.
-use Rattle.std.proofs.Common.{◌≡◌, ℕ, zero, suc, ◌+◌, ◌<◌, Bool, true, false, not, ◌&&◌, ◌||◌, cond, nat_eq, nat_le, List, [], ◌∷◌, ◌++◌, length, map, drop, get_or, append-nil, Option, is_none, refl, sym, ap, ap₂, ◌∙◌, arith}
+use Rattle.std.proofs.Common.{◌≡◌, ℕ, zero, suc, ◌+◌, ◌<◌, Bool, true, false, not, ◌&&◌, ◌||◌, cond, nat_eq, nat_le, List, [], ◌∷◌, ◌++◌, length, map, take, drop, get_or, append-nil, Option, is_none, refl, sym, ap, ap₂, ◌∙◌, subst, arith}
 use Rattle.std.specs.Prelude.{if◌then◌else◌}
 use Rattle.std.specs.List.{All, filter, flat_map}
 use Rattle.std.proofs.lemmas.Bool.{and_parts}
-use Rattle.std.proofs.lemmas.List.Elements.{All-head, All-tail, filter-append}
+use Rattle.std.proofs.lemmas.List.Elements.{All-append, All-nil, All-cons, All-head, All-tail, filter-append}
+use Rattle.std.proofs.lemmas.List.{map-append, take_more}
 use Rattle.rational.specs.Number.{Number}
 use Rattle.rational.specs.Compare.{le_ℚ}
 use Rattle.lp_model.specs.declared.terms.Term.{Term}
@@ -24,12 +25,13 @@ use Rattle.dual_laws.specs.Locks.{are_uncrossed}
 use Rattle.problem_laws.proofs.Entries.{live_entries_name, live_entries_tell, row_entries-live, row_entries-tell}
 use Rattle.problem_laws.proofs.Terms.{has-cons_same, not_both}
 use Rattle.dual_rules.specs.Merging.{admits, all_admit}
-use Rattle.dual_rules.specs.Pairs.{Tells, are_live, dominates, is_short, pair_if, pairs_among, pairs_beside}
+use Rattle.dual_rules.specs.declared.dominated_column.Standing.{Standing}
+use Rattle.dual_rules.specs.Pairs.{IsStanding, Tells, are_live, dominates, entries_of, is_short, pair_if, pairs_among, pairs_beside}
 use Rattle.dual_rules.proofs.Merging.{admits_at}
 use Rattle.dual_rules.proofs.Remaining.{left, one_more}
 
 -- the tests in another order
-and_none : (b : Bool) → (b && false) ≡ false
+pub and_none : (b : Bool) → (b && false) ≡ false
 and_none true = refl
 and_none false = refl
 
@@ -80,8 +82,8 @@ pub none_beside : (p : Sparse) (j : ℕ) (ts : List Term) → is_none (bounds_at
 none_beside p j [] e = refl
 none_beside p j (t ∷ ts) e = ap (λ (b : Bool). cond b ((j, t.id) ∷ pairs_beside p j ts) (pairs_beside p j ts)) (dominates_none p j t.id e) ∙ none_beside p j ts e
 
-pub at_once : (p : Sparse) (j : ℕ) (ts : List Term) (x : List Pair) (b : Bounds) (q : Bool) → q ≡ is_none b.upper → b ≡ bounds_at p j → q ≡ false → x ≡ x ++ pairs_beside p j ts
-at_once p j ts x b q e f g = sym (ap (λ (l : List Pair). x ++ l) (none_beside p j ts (sym (e ∙ ap (λ (o : Bounds). is_none o.upper) f) ∙ g)) ∙ append-nil x)
+pub at_once : (p : Sparse) (j : ℕ) (ts : List Term) (x : List Pair) (q : Bool) → q ≡ is_none (bounds_at p j).upper → q ≡ false → x ≡ x ++ pairs_beside p j ts
+at_once p j ts x q e g = sym (ap (λ (l : List Pair). x ++ l) (none_beside p j ts (sym e ∙ g)) ∙ append-nil x)
 
 beside_step : (p : Sparse) (j : ℕ) (t : Term) (ts : List Term) → pairs_beside p j (t ∷ ts) ≡ pair_if (dominates p j t.id) j t.id ++ pairs_beside p j ts
 beside_step p j t ts = by (dominates p j t.id)
@@ -91,15 +93,32 @@ beside_step p j t ts = by (dominates p j t.id)
     by false = refl
 
 -- one more
-pub beside_more : (p : Sparse) (j : ℕ) (ts : List Term) (i : ℕ) (t : Term) (x y z : List Pair) → i < length ts → t ≡ get_or ts i t → x ++ pairs_beside p j (drop i ts) ≡ z → y ≡ x ++ pair_if (dominates p j t.id) j t.id
-    → y ++ pairs_beside p j (drop (i + 1) ts) ≡ z
-beside_more p j ts i t x y z l e h g = one_more x y (pairs_beside p j (drop i ts)) (pair_if (dominates p j t.id) j t.id) (pairs_beside p j (drop (i + 1) ts)) z h
-    (ap (pairs_beside p j) (left ts i t l e) ∙ beside_step p j t (drop (i + 1) ts)) g
+pub beside_more : (p : Sparse) (j : ℕ) (ss : List Standing) (i : ℕ) (s : Standing) (x y z : List Pair) → i < length ss → s ≡ get_or ss i s → x ++ pairs_beside p j (entries_of (drop i ss)) ≡ z
+    → y ≡ x ++ pair_if (dominates p j s.entry.id) j s.entry.id → y ++ pairs_beside p j (entries_of (drop (i + 1) ss)) ≡ z
+beside_more p j ss i s x y z l e h g =
+    one_more x y (pairs_beside p j (entries_of (drop i ss))) (pair_if (dominates p j s.entry.id) j s.entry.id) (pairs_beside p j (entries_of (drop (i + 1) ss))) z h
+    (ap (λ (rest : List Standing). pairs_beside p j (entries_of rest)) (left ss i s l e) ∙ beside_step p j s.entry (entries_of (drop (i + 1) ss))) g
 
-pub among_more : (p : Sparse) (us ts : List Term) (i : ℕ) (t : Term) (x y z : List Pair) → i < length ts → t ≡ get_or ts i t → x ++ pairs_among p (drop i ts) us ≡ z → y ≡ x ++ pairs_beside p t.id us
-    → y ++ pairs_among p (drop (i + 1) ts) us ≡ z
-among_more p us ts i t x y z l e h g = one_more x y (pairs_among p (drop i ts) us) (pairs_beside p t.id us) (pairs_among p (drop (i + 1) ts) us) z h
-    (ap (λ (vs : List Term). pairs_among p vs us) (left ts i t l e) ∙ filter-append (λ (q : Pair). dominates p q.0 q.1) (map (λ (u : Term). (t.id, u.id)) us) (flat_map (λ (v : Term). map (λ (u : Term). (v.id, u.id)) us) (drop (i + 1) ts))) g
+pub among_more : (p : Sparse) (us : List Term) (ss : List Standing) (i : ℕ) (s : Standing) (x y z : List Pair) → i < length ss → s ≡ get_or ss i s → x ++ pairs_among p (entries_of (drop i ss)) us ≡ z
+    → y ≡ x ++ pairs_beside p s.entry.id us → y ++ pairs_among p (entries_of (drop (i + 1) ss)) us ≡ z
+among_more p us ss i s x y z l e h g =
+    one_more x y (pairs_among p (entries_of (drop i ss)) us) (pairs_beside p s.entry.id us) (pairs_among p (entries_of (drop (i + 1) ss)) us) z h
+    (ap (λ (rest : List Standing). pairs_among p (entries_of rest) us) (left ss i s l e)
+    ∙ filter-append (λ (q : Pair). dominates p q.0 q.1) (map (λ (u : Term). (s.entry.id, u.id)) us) (flat_map (λ (v : Term). map (λ (u : Term). (v.id, u.id)) us) (entries_of (drop (i + 1) ss)))) g
+
+-- ---- columns of a row
+-- one more
+pub standing_more : (p : Sparse) (ss new : List Standing) (ts : List Term) (i : ℕ) (s : Standing) (t : Term) → i < length ts → t ≡ get_or ts i t → new ≡ ss ++ s ∷ [] → IsStanding p s → s.entry ≡ t
+    → All (IsStanding p) ss × (entries_of ss ≡ take i ts) → All (IsStanding p) new × (entries_of new ≡ take (i + 1) ts)
+standing_more p ss new ts i s t l at is own same h = (
+  subst (All (IsStanding p)) (sym is) (All-append (IsStanding p) ss (s ∷ []) h.0 (All-cons (IsStanding p) s [] own (All-nil (IsStanding p)))),
+  ap entries_of is ∙ map-append (λ (x : Standing). x.entry) ss (s ∷ []) ∙ ap₂ (λ (us : List Term) (u : Term). us ++ u ∷ []) h.1 (same ∙ at) ∙ sym (take_more ts i t l),
+)
+
+-- what holds of the entries holds of the columns
+pub of_entries : (P : Term → Type 0) (ss : List Standing) → All P (entries_of ss) → All (λ s. P s.entry) ss
+of_entries P [] h = All-nil (λ (s : Standing). P s.entry)
+of_entries P (s ∷ ss) h = All-cons (λ (t : Standing). P t.entry) s ss (All-head P s.entry (entries_of ss) h) (of_entries P ss (All-tail P s.entry (entries_of ss) h))
 
 -- ---- the pairs of a row
 not_short : (p : Sparse) (i j k : ℕ) → is_short p i ≡ false → enabled p i j k ≡ false

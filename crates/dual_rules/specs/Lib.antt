@@ -1,3 +1,4 @@
 pub mod Directions
+pub mod FirstRows
 pub mod Merging
 pub mod Pairs

@@ -10,7 +10,8 @@ use Rattle.problem_model.specs.declared.part.Contents.TheVariants as holding
 use Rattle.problem_model.specs.Problems.{bounds_at, column_at, column_entries, cost_at, row_at, row_entries}
 use Rattle.problem_model.specs.Sparse.{Sparse}
 use Rattle.dual_laws.specs.DominatedColumn.{takes_over}
-use Rattle.dual_rules.specs.declared.dominated_column.Better.{Better}
+use Rattle.dual_rules.specs.declared.dominated_column.Standing.{Standing}
+use Rattle.dual_rules.specs.FirstRows.{TellsFirst}
 use Rattle.dual_rules.specs.Merging.{all_admit}
 
 -- what is asked of k beside a column that has no upper bound, has the cost c, and is whole or not
@@ -25,12 +26,18 @@ is_better p j k = not (nat_eq j k) && (is_none (bounds_at p j).upper && may_stay
 abbrev pub dominates : Sparse → ℕ → ℕ → Bool
 dominates p j k = is_better p j k && all_admit p (column_entries p j) (column_entries p k)
 
--- what is known of a column beside which others are looked at
-pub record IsBetter (p : Sparse) (b : Better) : Type 0 where
-  pub live : (column_at p b.entry.id).live ≡ true
-  pub endless : is_none (bounds_at p b.entry.id).upper ≡ true
-  pub cost : b.cost ≡ cost_at p b.entry.id
-  pub whole : b.whole ≡ (bounds_at p b.entry.id).whole
+-- what is known of a column by itself
+pub record IsStanding (p : Sparse) (s : Standing) : Type 0 where
+  pub live : (column_at p s.entry.id).live ≡ true
+  pub cost : s.cost ≡ cost_at p s.entry.id
+  pub whole : s.whole ≡ (bounds_at p s.entry.id).whole
+  pub endless : s.endless ≡ is_none (bounds_at p s.entry.id).upper
+  pub first : TellsFirst p (column_entries p s.entry.id) s.first
+  pub placed : s.placed ≡ (is_apart (bounds_at p s.entry.id).lower (bounds_at p s.entry.id).upper && is_place (bounds_at p s.entry.id).lower (bounds_at p s.entry.id).whole)
+
+-- their entries in the row
+abbrev pub entries_of : List Standing → List Term
+entries_of ss = map (λ s. s.entry) ss
 
 -- sides and two terms tell of columns: where each row admits the first for the second, so do these sides by these terms
 abbrev pub Tells : Sparse → Sides → Term → Term → Type 0

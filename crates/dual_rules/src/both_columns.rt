@@ -93,7 +93,7 @@ fn row_admits(problem: &Problem, row: u32, better: &Frac, worse: &Frac) -> bool
     ensures { result ≡ admits better.now worse.now (contents_of problem.now (part.Sides row)) }
 {
     let sides = problem.sides(row);
-    in_order(&sides.lower, &sides.upper) && takes_over(&sides, better, worse)
+    takes_over(&sides, better, worse) && in_order(&sides.lower, &sides.upper)
 }
 
 /// The same, or the row isn't live.

@@ -1,6 +1,6 @@
 //! K11: a column that another one without an upper bound dominates is fixed at its lower bound.
 
-ghost use Rattle.std.specs.Prelude.{◌≡◌, ◌++◌, ◌&&◌, true, ℕ, length, map, IfOk, OnOk};
+ghost use Rattle.std.specs.Prelude.{◌≡◌, ◌++◌, ◌&&◌, ◌||◌, not, nat_eq, true, ℕ, length, map, IfOk, OnOk};
 ghost use Rattle.std.specs.List.{All, filter};
 ghost use Rattle.lp_model.specs.Sparse.{Ascends, has};
 ghost use Rattle.problem_model.specs.declared.part.Part.TheVariants as part;
@@ -11,10 +11,11 @@ ghost use Rattle.rule_words.specs.Answers.{Changes};
 ghost use Rattle.rule_words.specs.Reading.{terms_in};
 ghost use Rattle.dual_laws.specs.DominatedColumn.{enabled, edits, pairs_of, record_of, rows_of_both, Computes};
 ghost use Rattle.dual_rules.specs.Merging.{all_admit};
-ghost use Rattle.dual_rules.specs.Pairs.{IsBetter, Tells, are_live, dominates, is_better, is_short, may_stay, pair_if, pairs_among, pairs_beside};
+ghost use Rattle.dual_rules.specs.Pairs.{IsStanding, Tells, are_live, dominates, entries_of, is_better, is_short, may_stay, pair_if, pairs_among, pairs_beside};
 
 use crate::both_columns::{add_sides_besides, add_sides_of, rows_admit, takes_over};
 use crate::directions::{entries, entries_if_live};
+use crate::first_rows::{FirstRow, first_row_of, firsts_admit};
 use fractions::frac::Frac;
 use lp_model::Term;
 use lp_model::ends::{apart, place};
@@ -166,43 +167,91 @@ pub fn add_sides(
     Ok(())
 }
 
-/// A column without an upper bound beside which the others of a row are looked at: its entry there, its cost, and whether it is whole.
-#[derive(Drop)]
-struct Better {
+/// A column of a row: its entry there, and what is asked of it whichever column it is looked at beside.
+#[derive(Clone, Copy)]
+struct Standing {
     entry: Term,
     cost: Frac,
     whole: bool,
+    /// Whether it has no upper bound, so that it may stand in for others.
+    endless: bool,
+    /// Whether it may stay at its lower bound: that is below the upper one, and whole if the column is.
+    placed: bool,
+    first: FirstRow,
 }
 
-/// Whether a column dominates that of another entry of its row. The two entries are in hand and are tested first, by the row's sides; then
-/// the bounds and the costs, and last all rows of both columns.
-fn dominates(problem: &Problem, sides: &Sides, better: &Better, other: &Term) -> bool
-    requires better { IsBetter problem.now better.now }
-    requires other { (column_at problem.now other.now.id).live ≡ true }
-    requires row { Tells problem.now sides.now better.now.entry other.now }
-    ensures { result ≡ dominates problem.now better.now.entry.id other.now.id }
+/// What is asked of a column by itself.
+fn standing_of(problem: &Problem, entry: &Term) -> Standing
+    requires { (column_at problem.now entry.now.id).live ≡ true }
+    ensures standing { IsStanding problem.now result }
+    ensures entry { result.entry ≡ entry.now }
 {
-    better.entry.id != other.id
-        && takes_over(sides, &better.entry.value, &other.value)
-        && may_stay(problem, &better.cost, better.whole, other.id)
-        && rows_take_over(problem, better.entry.id, other.id)
+    let bounds = problem.bounds(entry.id);
+    Standing {
+        entry: *entry,
+        cost: problem.cost(entry.id),
+        whole: bounds.whole,
+        endless: bounds.upper.is_none(),
+        placed: apart(&bounds.lower, &bounds.upper) && place(&bounds.lower, bounds.whole),
+        first: first_row_of(problem, entry.id),
+    }
+}
+
+/// The same of each of the columns that terms name, once: so a pair of them is tested by what is in hand.
+fn standings(alloc: Global, problem: &Problem, terms: &[Term]) -> Result<Vec<Standing>, AllocError>
+    requires { All (λ t. (column_at problem.now t.id).live ≡ true) terms.now }
+    ensures standing { IfOk result (λ found. All (IsStanding problem.now) found.items) }
+    ensures entries { IfOk result (λ found. entries_of found.items ≡ terms.now) }
+{
+    let mut found = Vec::with_capacity(alloc, terms.len())?;
+    for term in terms {
+        found.push(standing_of(problem, term))?;
+    }
+    Ok(found)
+}
+
+/// Whether a column may dominate another one, by what is asked of each whichever the other is: they differ, the second may stay at its lower
+/// bound, and is whole if the first is.
+fn may_dominate(better: &Standing, other: &Standing) -> bool
+    ensures { result ≡ (other.now.placed && (not (nat_eq better.now.entry.id other.now.entry.id) && (not better.now.whole || other.now.whole))) }
+{
+    other.placed && better.entry.id != other.entry.id && (!better.whole || other.whole)
+}
+
+/// Whether a column without an upper bound dominates another one of its row. What is known of both is tested first, and of their entries
+/// by the row's sides, and last all rows of both columns.
+fn dominates(problem: &Problem, sides: &Sides, better: &Standing, other: &Standing) -> bool
+    requires better { IsStanding problem.now better.now }
+    requires endless { better.now.endless ≡ true }
+    requires other { IsStanding problem.now other.now }
+    requires row { Tells problem.now sides.now better.now.entry other.now.entry }
+    ensures { result ≡ dominates problem.now better.now.entry.id other.now.entry.id }
+{
+    if !firsts_admit(&better.first, &other.first) {
+        return false;
+    }
+    may_dominate(better, other)
+        && takes_over(sides, &better.entry.value, &other.entry.value)
+        && better.cost.le(&other.cost)
+        && rows_take_over(problem, better.entry.id, other.entry.id)
 }
 
 /// Adds a pair of columns of a row if the first dominates the second.
 fn add_pair(
     problem: &Problem,
     sides: &Sides,
-    better: &Better,
-    other: &Term,
+    better: &Standing,
+    other: &Standing,
     pairs: &mut Vec<(u32, u32)>,
 ) -> Result<(), AllocError>
-    requires better { IsBetter problem.now better.now }
-    requires other { (column_at problem.now other.now.id).live ≡ true }
-    requires row { Tells problem.now sides.now better.now.entry other.now }
-    ensures { OnOk result (pairs.new.items ≡ pairs.old.items ++ pair_if (dominates problem.now better.now.entry.id other.now.id) better.now.entry.id other.now.id) }
+    requires better { IsStanding problem.now better.now }
+    requires endless { better.now.endless ≡ true }
+    requires other { IsStanding problem.now other.now }
+    requires row { Tells problem.now sides.now better.now.entry other.now.entry }
+    ensures { OnOk result (pairs.new.items ≡ pairs.old.items ++ pair_if (dominates problem.now better.now.entry.id other.now.entry.id) better.now.entry.id other.now.entry.id) }
 {
     if dominates(problem, sides, better, other) {
-        pairs.push((better.entry.id, other.id))?;
+        pairs.push((better.entry.id, other.entry.id))?;
     }
     Ok(())
 }
@@ -211,26 +260,20 @@ fn add_pair(
 fn add_pairs_of(
     problem: &Problem,
     sides: &Sides,
-    entry: &Term,
-    terms: &[Term],
+    better: &Standing,
+    others: &[Standing],
     pairs: &mut Vec<(u32, u32)>,
 ) -> Result<(), AllocError>
-    requires column { (column_at problem.now entry.now.id).live ≡ true }
-    requires terms { All (λ u. (column_at problem.now u.id).live ≡ true) terms.now }
-    requires row { All (λ u. Tells problem.now sides.now entry.now u) terms.now }
-    ensures { OnOk result (pairs.new.items ≡ pairs.old.items ++ pairs_beside problem.now entry.now.id terms.now) }
+    requires better { IsStanding problem.now better.now }
+    requires others { All (IsStanding problem.now) others.now }
+    requires row { All (λ u. Tells problem.now sides.now better.now.entry u.entry) others.now }
+    ensures { OnOk result (pairs.new.items ≡ pairs.old.items ++ pairs_beside problem.now better.now.entry.id (entries_of others.now)) }
 {
-    let bounds = problem.bounds(entry.id);
-    if !bounds.upper.is_none() {
+    if !better.endless {
         return Ok(());
     }
-    let better = Better {
-        entry: *entry,
-        cost: problem.cost(entry.id),
-        whole: bounds.whole,
-    };
-    for term in terms {
-        add_pair(problem, sides, &better, term, pairs)?;
+    for other in others {
+        add_pair(problem, sides, better, other, pairs)?;
     }
     Ok(())
 }
@@ -239,15 +282,15 @@ fn add_pairs_of(
 fn add_pairs(
     problem: &Problem,
     sides: &Sides,
-    terms: &[Term],
+    columns: &[Standing],
     pairs: &mut Vec<(u32, u32)>,
 ) -> Result<(), AllocError>
-    requires terms { All (λ t. (column_at problem.now t.id).live ≡ true) terms.now }
-    requires row { All (λ t. All (λ u. Tells problem.now sides.now t u) terms.now) terms.now }
-    ensures { OnOk result (pairs.new.items ≡ pairs.old.items ++ pairs_among problem.now terms.now terms.now) }
+    requires columns { All (IsStanding problem.now) columns.now }
+    requires row { All (λ t. All (λ u. Tells problem.now sides.now t.entry u.entry) columns.now) columns.now }
+    ensures { OnOk result (pairs.new.items ≡ pairs.old.items ++ pairs_among problem.now (entries_of columns.now) (entries_of columns.now)) }
 {
-    for term in terms {
-        add_pairs_of(problem, sides, term, terms, pairs)?;
+    for column in columns {
+        add_pairs_of(problem, sides, column, columns, pairs)?;
     }
     Ok(())
 }
@@ -274,6 +317,7 @@ pub fn pairs_at(alloc: Global, problem: &Problem, row: u32) -> Result<Vec<(u32, 
     problem.is_sparse();
     let sides = problem.sides(row);
     let terms = problem.row_terms(alloc, row)?;
-    add_pairs(problem, &sides, terms.as_slice(), &mut found)?;
+    let columns = standings(alloc, problem, terms.as_slice())?;
+    add_pairs(problem, &sides, columns.as_slice(), &mut found)?;
     Ok(found)
 }

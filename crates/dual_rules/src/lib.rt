@@ -5,6 +5,7 @@
 mod both_columns;
 mod directions;
 pub mod dominated_column;
+mod first_rows;
 pub mod fixed_by_cost;
 pub mod form;
 pub mod ray;
