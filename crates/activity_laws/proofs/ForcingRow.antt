@@ -24,6 +24,8 @@ use Rattle.lp_theory.proofs.ActivityLaws.{lt_true, lt_false}
 use Rattle.lp_rows.specs.ForcingRow.{IsForcedAtLowerSide, IsForcedAtUpperSide, IsUncrossed, forced_at_lower_side, forced_at_upper_side, lower_at_greatest, lower_at_least, upper_at_greatest, upper_at_least}
 use Rattle.lp_rows.proofs.ForcingRow.{forced_at_lower_side_keeps, forced_at_upper_side_keeps}
 use Rattle.undo_records.specs.declared.side.Side.TheVariants.{Lower, Upper}
+use Rattle.postsolve_dual.specs.LiftPair.{undone_pair}
+use Rattle.pair_laws.proofs.RowPairs.{forced_lower_pair, forced_upper_pair}
 use Rattle.problem_model.specs.declared.edit.Edit.{Edit}
 use Rattle.problem_model.specs.declared.edit.Edit.TheVariants.{DeleteRow}
 use Rattle.problem_model.specs.Allowed.{AreAllowed, EntriesFirst, NoEntries}
@@ -42,13 +44,13 @@ use Rattle.rule_words.specs.Owed.{Owes, RuleOwes}
 use Rattle.rule_words.proofs.Coefficients.{coefficient_in_row, end_live}
 use Rattle.rule_words.proofs.EndTestsSay.{not_true}
 use Rattle.rule_words.proofs.Named.{ids_on, nothing, one_on, one_sided}
-use Rattle.edit_laws.proofs.Reducing.{by_edits}
+use Rattle.edit_laws.proofs.Reducing.{by_edits, pairs_by_edits}
 use Rattle.row_spans.specs.declared.span.Extreme.{Extreme}
 use Rattle.row_spans.specs.declared.span.Extreme.TheVariants.{Least, Greatest}
 use Rattle.row_spans.specs.Spans.{span_of, spans_of}
 use Rattle.activity_laws.specs.Rows.{all_in_order, has_some, on_activities}
 use Rattle.activity_laws.specs.ForcingRow.{at_lower, edits, edits_by, enabled, end_of, fixed_at_end, is_forcing_row, is_reached, record_by, record_of}
-use Rattle.activity_laws.proofs.Rows.{known, made, said}
+use Rattle.activity_laws.proofs.Rows.{known, made, row_dense, said}
 
 abbrev one_of : Bool → Option Number → Option Number → Option Number
 one_of b c d = if b then c else d
@@ -287,17 +289,20 @@ module _ (p : Sparse) (i : ℕ) (s : IsSparse p) (live : (row_at p i).live ≡ t
     ordered = ordered_on Greatest p i ls;
     reduces = by_edits p (edits_by Greatest p i) (forced_at_lower_side (shown p) i) (λ x. x) zero_ℚ s (allowed_on Greatest p i p ls (row_entries-live p i) live)
         (program_greatest p i s live) (adds_on Greatest p i ls) (forced_at_lower_side_keeps (shown p) i (at_lower_side e) Min);
+    pairs = λ continuous. pairs_by_edits p (edits_by Greatest p i) (forced_at_lower_side (shown p) i) (undone_pair (record_by Lower p i)) s (allowed_on Greatest p i p ls (row_entries-live p i) live)
+        (program_greatest p i s live) (forced_lower_pair (shown p) i ls (at_lower_side e) (row_entries-ascend p i s) (row_dense p i live));
     sided = λ numbers w. sided_on Greatest p i ls;
     sound = (row_inside p i live, row_entries-ascend p i s);
     names = (one_on p.matrix.rows i live, ids_on p.matrix.columns (row_at p i).entries);
     deletes = flags_on Greatest p i _ ls;
   }
-  owes_by false h e = record {
+  owes_by false h e = let f = at_upper_side (either (is_reached (sides_at p i).lower (greatest (shown p) i)) (is_reached (sides_at p i).upper (least (shown p) i)) h e) in record {
     allowed = allowed_on Least p i p ls (row_entries-live p i) live;
     ordered = ordered_on Least p i ls;
     reduces = by_edits p (edits_by Least p i) (forced_at_upper_side (shown p) i) (λ x. x) zero_ℚ s (allowed_on Least p i p ls (row_entries-live p i) live)
-        (program_least p i s live) (adds_on Least p i ls)
-        (forced_at_upper_side_keeps (shown p) i (at_upper_side (either (is_reached (sides_at p i).lower (greatest (shown p) i)) (is_reached (sides_at p i).upper (least (shown p) i)) h e)) Min);
+        (program_least p i s live) (adds_on Least p i ls) (forced_at_upper_side_keeps (shown p) i f Min);
+    pairs = λ continuous. pairs_by_edits p (edits_by Least p i) (forced_at_upper_side (shown p) i) (undone_pair (record_by Upper p i)) s (allowed_on Least p i p ls (row_entries-live p i) live)
+        (program_least p i s live) (forced_upper_pair (shown p) i ls f (row_entries-ascend p i s) (row_dense p i live));
     sided = λ numbers w. sided_on Least p i ls;
     sound = (row_inside p i live, row_entries-ascend p i s);
     names = (one_on p.matrix.rows i live, ids_on p.matrix.columns (row_at p i).entries);

@@ -8,6 +8,8 @@ use Rattle.lp_model.specs.Edits.{without_row}
 use Rattle.lp_theory.specs.Activities.{least, greatest}
 use Rattle.lp_rows.specs.RedundantRow.{IsRedundantRow}
 use Rattle.lp_rows.proofs.RedundantRow.{row_kept}
+use Rattle.postsolve_dual.specs.LiftPair.{undone_pair}
+use Rattle.pair_laws.proofs.RowPairs.{redundant_row_pair}
 use Rattle.problem_model.specs.declared.edit.Edit.TheVariants.{DeleteRow}
 use Rattle.problem_model.specs.Problems.{row_at, sides_at, IsSparse}
 use Rattle.problem_model.specs.Showing.{shown}
@@ -16,7 +18,7 @@ use Rattle.problem_laws.proofs.AtIds.{row_inside}
 use Rattle.rule_words.specs.Owed.{RuleOwes}
 use Rattle.rule_words.proofs.Coefficients.{end_live}
 use Rattle.rule_words.proofs.Named.{none_on, nothing, one_on, one_sided}
-use Rattle.edit_laws.proofs.Reducing.{by_edits}
+use Rattle.edit_laws.proofs.Reducing.{by_edits, pairs_by_edits}
 use Rattle.row_spans.specs.Spans.{spans_of}
 use Rattle.activity_laws.specs.Rows.{has_some, keeps_lower, keeps_upper, on_activities}
 use Rattle.activity_laws.specs.RedundantRow.{edits, enabled, is_redundant_row, record_of}
@@ -42,6 +44,7 @@ owes p i s e = let r = said is_redundant_row p i e in record {
   allowed = (r.live, tt);
   ordered = tt;
   reduces = by_edits p (edits p i) (without_row (shown p) i) (λ x. x) zero_ℚ s (r.live, tt) refl nothing (row_kept Min (shown p) i (shows p i s r));
+  pairs = λ continuous. pairs_by_edits p (edits p i) (without_row (shown p) i) (undone_pair (record_of p i)) s (r.live, tt) refl (redundant_row_pair (shown p) i (shows p i s r));
   sided = λ numbers h. one_sided (DeleteRow i) tt;
   sound = row_inside p i r.live;
   names = (one_on p.matrix.rows i r.live, none_on p.matrix.columns);

@@ -2,11 +2,12 @@
 use Rattle.std.proofs.Common.{◌≡◌, ℕ, Bool, true, false, ◌&&◌, List, map, Option, Some, None, refl, sym, ap, ap₂, ◌∙◌, Result, Ok, Err}
 use Rattle.std.specs.Prelude.{if◌then◌else◌}
 use Rattle.std.proofs.lemmas.Bool.{and_parts}
-use Rattle.rational.specs.Number.{Number}
+use Rattle.rational.specs.Number.{Number, zero_ℚ}
 use Rattle.rational.specs.Ends.{LowBelow, HighAbove}
 use Rattle.rational.proofs.Comparisons.{le_ℚ-is}
 use Rattle.fractions.specs.declared.Past.{Past}
 use Rattle.lp_model.specs.EndTests.{is_in_order}
+use Rattle.lp_model.specs.Sparse.{dense}
 use Rattle.lp_model.specs.declared.terms.Term.{Term}
 use Rattle.lp_theory.specs.Activities.{least, greatest}
 use Rattle.problem_model.specs.declared.part.Contents.{Contents}
@@ -14,9 +15,10 @@ use Rattle.problem_model.specs.declared.part.Contents.TheVariants as holding
 use Rattle.problem_model.specs.declared.part.Part.{Part}
 use Rattle.problem_model.specs.Parts.{contents_of}
 use Rattle.problem_model.specs.Problems.{row_at, sides_at, row_entries, IsSparse}
-use Rattle.problem_model.specs.Showing.{shown}
+use Rattle.problem_model.specs.Showing.{coefficient_of, shown}
 use Rattle.problem_model.specs.Sparse.{Sparse}
 use Rattle.rule_words.specs.Reading.{bounds_of, terms_in}
+use Rattle.rule_words.proofs.Coefficients.{coefficient_in_row}
 use Rattle.rule_words.proofs.EndTestsSay.{not_true}
 use Rattle.row_spans.specs.declared.span.Span.{Span}
 use Rattle.row_spans.specs.declared.span.Extreme.TheVariants.{Least, Greatest}
@@ -25,6 +27,10 @@ use Rattle.row_spans.specs.Spans.{spans_from, spans_of}
 use Rattle.row_spans.proofs.Bridge.{activity-is}
 use Rattle.row_spans.proofs.Reading.{row_is_read}
 use Rattle.activity_laws.specs.Rows.{RowTest, all_in_order, keeps_lower, keeps_upper, on_activities, on_both, on_parts, on_row, on_spans, row_found}
+
+-- a live row's coefficients are those of its entries
+pub row_dense : (p : Sparse) (i : ℕ) → (row_at p i).live ≡ true → dense (row_entries p i) ≡ coefficient_of p i
+row_dense p i live t k = sym (coefficient_in_row p i k ∙ ap (λ (on : Bool). if on then dense (row_entries p i) k else zero_ℚ) live) t
 
 -- a test of what was read of a row: the row is live, and the test holds of its sides and its spans
 row_tested : (test : RowTest) (on : Bool) (f : Part → Contents) (ts : List Term) (l u : Option Number) (ss : List Span) → spans_from ts (map f (bounds_of ts)) ≡ Some ss

@@ -14,15 +14,20 @@ use Rattle.rational.proofs.Signs.{<ℚ-irrefl}
 use Rattle.fractions.specs.declared.Past.{Past}
 use Rattle.lp_model.specs.Edits.{with_bounds}
 use Rattle.lp_model.specs.LinearProgram.{LinearProgram}
+use Rattle.lp_model.specs.Reductions.{ReducesPairs}
 use Rattle.lp_model.specs.Sparse.{dense, has}
 use Rattle.lp_model.specs.declared.program.Sense.TheVariants.{Min}
 use Rattle.lp_model.specs.declared.terms.Term.{Term}
 use Rattle.lp_theory.specs.Activities.{greatest_rest, least_rest}
-use Rattle.lp_rows.specs.TightenedBound.{implied_lower, implied_upper, lower_bound_tightened, upper_bound_tightened}
+use Rattle.lp_rows.specs.TightenedBound.{IsTighterLowerBound, IsTighterUpperBound, implied_lower, implied_upper, lower_bound_tightened, upper_bound_tightened}
 use Rattle.lp_rows.proofs.TightenedBound.{lower_bound_implied, upper_bound_implied}
 use Rattle.undo_records.specs.Ids.{ids_of, is_on}
 use Rattle.undo_records.specs.declared.side.Side.{Side}
 use Rattle.undo_records.specs.declared.side.Side.TheVariants.{Lower, Upper}
+use Rattle.undo_records.specs.declared.undo.Undo.{Undo}
+use Rattle.undo_records.specs.declared.undo.Undo.TheVariants as undo
+use Rattle.postsolve_dual.specs.LiftPair.{undone_pair}
+use Rattle.pair_laws.proofs.RowPairs.{tightened_lower_pair, tightened_upper_pair}
 use Rattle.problem_model.specs.declared.edit.Edit.{Edit}
 use Rattle.problem_model.specs.declared.edit.Edit.TheVariants.{SetBounds}
 use Rattle.problem_model.specs.declared.line.Bounds.{Bounds}
@@ -31,6 +36,7 @@ use Rattle.problem_model.specs.declared.part.Contents.{Contents}
 use Rattle.problem_model.specs.declared.part.Contents.TheVariants as holding
 use Rattle.problem_model.specs.declared.part.Part.{Part}
 use Rattle.problem_model.specs.declared.part.Part.TheVariants as part
+use Rattle.problem_model.specs.EditedPrograms.{programs_edited}
 use Rattle.problem_model.specs.Edits.{bounds_set}
 use Rattle.problem_model.specs.Matrices.{no_line}
 use Rattle.problem_model.specs.Parts.{contents_of}
@@ -47,7 +53,7 @@ use Rattle.rule_words.specs.Reading.{bounds_named, bounds_of as named_bounds, pa
 use Rattle.rule_words.proofs.Coefficients.{coefficient_in_row, end_live}
 use Rattle.rule_words.proofs.EndTestsSay.{not_true}
 use Rattle.rule_words.proofs.Named.{ids_on, lives, nothing, one_on, one_sided}
-use Rattle.edit_laws.proofs.Reducing.{by_edits}
+use Rattle.edit_laws.proofs.Reducing.{by_edits, pairs_by_edits}
 use Rattle.row_spans.specs.declared.span.Extreme.TheVariants.{Least, Greatest}
 use Rattle.row_spans.specs.declared.span.Span.{Span}
 use Rattle.row_spans.specs.Exact.{fits, if_room, sum_fits}
@@ -57,7 +63,7 @@ use Rattle.row_spans.proofs.Bridge.{rest-is}
 use Rattle.row_spans.proofs.Reading.{row_is_read}
 use Rattle.activity_laws.specs.Rows.{heads, row_found}
 use Rattle.activity_laws.specs.TightenedBound.{Improves, IsBetter, bound_set, by_lower_side, by_upper_side, edits, enabled, entry_at, has_two, holds, if_made, implied, is_better, is_tightened_at, is_tightened_bound, left_over, new_bound, old_bound, over_entry, record_of}
-use Rattle.activity_laws.proofs.Rows.{said}
+use Rattle.activity_laws.proofs.Rows.{row_dense, said}
 
 -- ---- the entry of a column
 pub record IsFound (p : Sparse) (ts : List Term) (j : ℕ) (s : Span) : Type 0 where
@@ -200,34 +206,56 @@ module _ (p : Sparse) (i j : ℕ) (s : IsSparse p) (live : (row_at p i).live ≡
   named_on = All-cons (λ k. is_on (lives p.matrix.columns) k ≡ true) j (ids_of (row_entries p i))
       (All-head (λ k. is_on (lives p.matrix.columns) k ≡ true) j [] (one_on p.matrix.columns j column_on)) (ids_on p.matrix.columns (row_at p i).entries)
 
+  -- the record with the bound o
+  abbrev kept : Side → Option Number → Undo
+  kept side o = undo.TightenBound (record { row = i; column = j; side = side; bound = o; entries = row_entries p i })
+
+  is_tighter_lower : IsMadeBetter Lower (bounds_at p j).lower (new_bound p i j Lower) → IsTighterLowerBound M i j
+  is_tighter_lower b = record {
+    row = row_inside p i live;
+    column = column_inside p j column_on;
+    entry = entry;
+    better = subst (LowBelow (M.lower_bound j)) (sym (lower_is b.bound b.made)) (subst (λ o. LowBelow o (Some b.bound)) (sym low_shown) (low_better (bounds_at p j).lower b.bound b.better));
+  }
+
+  lower_set : IsMadeBetter Lower (bounds_at p j).lower (new_bound p i j Lower) → programs_edited M (edits p i j Lower) ≡ lower_bound_tightened M i j
+  lower_set b = ap₂ (with_bounds M j) (b.made ∙ sym (lower_is b.bound b.made)) (sym high_shown)
+
+  lower_pairs : IsMadeBetter Lower (bounds_at p j).lower (new_bound p i j Lower) → ReducesPairs Min M (shown (committed p (edits p i j Lower))) (undone_pair (record_of p i j Lower))
+  lower_pairs b = pairs_by_edits p (edits p i j Lower) (lower_bound_tightened M i j) (undone_pair (record_of p i j Lower)) s (column_on, tt) (lower_set b)
+      (subst (λ o. ReducesPairs Min M (lower_bound_tightened M i j) (undone_pair (kept Lower o))) low_shown (tightened_lower_pair M i j (row_entries p i) (is_tighter_lower b) (row_dense p i live)))
+
+  is_tighter_upper : IsMadeBetter Upper (bounds_at p j).upper (new_bound p i j Upper) → IsTighterUpperBound M i j
+  is_tighter_upper b = record {
+    row = row_inside p i live;
+    column = column_inside p j column_on;
+    entry = entry;
+    better = subst (HighAbove (M.upper_bound j)) (sym (upper_is b.bound b.made)) (subst (λ o. HighAbove o (Some b.bound)) (sym high_shown) (high_better (bounds_at p j).upper b.bound b.better));
+  }
+
+  upper_set : IsMadeBetter Upper (bounds_at p j).upper (new_bound p i j Upper) → programs_edited M (edits p i j Upper) ≡ upper_bound_tightened M i j
+  upper_set b = ap₂ (with_bounds M j) (sym low_shown) (b.made ∙ sym (upper_is b.bound b.made))
+
+  upper_pairs : IsMadeBetter Upper (bounds_at p j).upper (new_bound p i j Upper) → ReducesPairs Min M (shown (committed p (edits p i j Upper))) (undone_pair (record_of p i j Upper))
+  upper_pairs b = pairs_by_edits p (edits p i j Upper) (upper_bound_tightened M i j) (undone_pair (record_of p i j Upper)) s (column_on, tt) (upper_set b)
+      (subst (λ o. ReducesPairs Min M (upper_bound_tightened M i j) (undone_pair (kept Upper o))) high_shown (tightened_upper_pair M i j (row_entries p i) (is_tighter_upper b) (row_dense p i live)))
+
   owes_by : (side : Side) → is_better side (old_bound side (bounds_at p j).lower (bounds_at p j).upper) (new_bound p i j side) ≡ true → Owes p (edits p i j side) (record_of p i j side)
-  owes_by Lower e = let b = better_is Lower (bounds_at p j).lower (new_bound p i j Lower) e in let n = lower_is b.bound b.made in record {
+  owes_by Lower e = let b = better_is Lower (bounds_at p j).lower (new_bound p i j Lower) e in record {
     allowed = (column_on, tt);
     ordered = tt;
-    reduces = by_edits p (edits p i j Lower) (lower_bound_tightened M i j) (λ x. x) zero_ℚ s (column_on, tt)
-        (ap₂ (with_bounds M j) (b.made ∙ sym n) (sym high_shown)) nothing
-        (lower_bound_implied Min M i j (record {
-          row = row_inside p i live;
-          column = column_inside p j column_on;
-          entry = entry;
-          better = subst (LowBelow (M.lower_bound j)) (sym n) (subst (λ o. LowBelow o (Some b.bound)) (sym low_shown) (low_better (bounds_at p j).lower b.bound b.better));
-        }));
+    reduces = by_edits p (edits p i j Lower) (lower_bound_tightened M i j) (λ x. x) zero_ℚ s (column_on, tt) (lower_set b) nothing (lower_bound_implied Min M i j (is_tighter_lower b));
+    pairs = λ continuous. lower_pairs b;
     sided = λ numbers h. one_sided (SetBounds j (new_bound p i j Lower) (bounds_at p j).upper) tt;
     sound = (row_inside p i live, column_inside p j column_on, row_entries-ascend p i s, named);
     names = (one_on p.matrix.rows i live, named_on);
     deletes = refl;
   }
-  owes_by Upper e = let b = better_is Upper (bounds_at p j).upper (new_bound p i j Upper) e in let n = upper_is b.bound b.made in record {
+  owes_by Upper e = let b = better_is Upper (bounds_at p j).upper (new_bound p i j Upper) e in record {
     allowed = (column_on, tt);
     ordered = tt;
-    reduces = by_edits p (edits p i j Upper) (upper_bound_tightened M i j) (λ x. x) zero_ℚ s (column_on, tt)
-        (ap₂ (with_bounds M j) (sym low_shown) (b.made ∙ sym n)) nothing
-        (upper_bound_implied Min M i j (record {
-          row = row_inside p i live;
-          column = column_inside p j column_on;
-          entry = entry;
-          better = subst (HighAbove (M.upper_bound j)) (sym n) (subst (λ o. HighAbove o (Some b.bound)) (sym high_shown) (high_better (bounds_at p j).upper b.bound b.better));
-        }));
+    reduces = by_edits p (edits p i j Upper) (upper_bound_tightened M i j) (λ x. x) zero_ℚ s (column_on, tt) (upper_set b) nothing (upper_bound_implied Min M i j (is_tighter_upper b));
+    pairs = λ continuous. upper_pairs b;
     sided = λ numbers h. one_sided (SetBounds j (bounds_at p j).lower (new_bound p i j Upper)) tt;
     sound = (row_inside p i live, column_inside p j column_on, row_entries-ascend p i s, named);
     names = (one_on p.matrix.rows i live, named_on);

@@ -19,7 +19,7 @@ use Rattle.lp_model.specs.Edits.{with_bounds, with_cost, without_row}
 use Rattle.lp_model.specs.EndTests.{is_fixed, is_in_order}
 use Rattle.lp_model.specs.Ends.{IsSided}
 use Rattle.lp_model.specs.LinearProgram.{LinearProgram}
-use Rattle.lp_model.specs.Reductions.{Reduces}
+use Rattle.lp_model.specs.Reductions.{Reduces, ReducesPairs}
 use Rattle.lp_model.specs.Sparse.{Ascends, dense, has}
 use Rattle.lp_model.specs.Vectors.{Vector}
 use Rattle.lp_theory.specs.Elsewhere.{substituted}
@@ -27,6 +27,11 @@ use Rattle.lp_substitutions.specs.DoubletonEquation.{IsDoubletonEquation, double
 use Rattle.lp_substitutions.proofs.DoubletonEquation.{doubleton_reduces}
 use Rattle.undo_records.specs.Lift.{undone}
 use Rattle.undo_records.specs.Ids.{ids_of, is_on}
+use Rattle.undo_records.specs.declared.undo.Undo.{Undo}
+use Rattle.undo_records.specs.declared.undo.Undo.TheVariants.{Doubleton}
+use Rattle.postsolve_dual.specs.LiftPair.{undone_pair}
+use Rattle.pair_laws.specs.Records as records
+use Rattle.pair_laws.proofs.ColumnPairs.{equation_pair}
 use Rattle.problem_model.specs.declared.edit.Edit.{Edit}
 use Rattle.problem_model.specs.declared.edit.Edit.TheVariants.{SetCost, SetBounds, AddOffset, DeleteRow, DeleteColumn}
 use Rattle.problem_model.specs.declared.line.Line.{Line}
@@ -49,7 +54,7 @@ use Rattle.problem_laws.proofs.AtIds.{column_inside, losing-live, row_inside}
 use Rattle.problem_laws.proofs.Entries.{column_entries-ascend, column_entries-live, row_entries-ascend}
 use Rattle.problem_laws.proofs.Terms.{ascends-filter, dense-absent, dense-cons_other, dense-cons_same, dense-without, has-without, terms_tell}
 use Rattle.edit_laws.proofs.Lists.{allowed_more}
-use Rattle.edit_laws.proofs.Reducing.{by_edits}
+use Rattle.edit_laws.proofs.Reducing.{by_edits, pairs_by_edits}
 use Rattle.edit_laws.proofs.Sweeps.{sweep, programs_more, added_more, sweep_matrix, sweep_allowed, sweep_added, sweep_flags, sweep_no_entries, sweep_sided, sweep_only, sweep_lower, sweep_upper}
 use Rattle.row_spans.specs.Exact.{exact_quotient, if_room}
 use Rattle.rule_words.specs.Owed.{Owes}
@@ -356,6 +361,28 @@ module _ (p : Sparse) (s : IsSparse p) (i j k : ℕ) (f : SaidOf p i j k) where
       (subst (λ (g : Vector → Vector). Reduces Min M (doubleton_substituted M i j k r) g (doubleton_offset M i j r)) (sym (ap₂ (λ (x y : Number). undo_doubleton j k x y r) a_is b_is))
       (doubleton_reduces M i j k r is_doubleton_equation Min))
 
+  -- ---- the record holds what is shown
+  terms_have : dense ts ≡ put (λ m. M.coefficient m j) i zero_ℚ
+  terms_have z m = (dense-without i (column_entries p j) m ∙ (λ t. put (λ x. in_column x j f.first_on t) i zero_ℚ m)) z
+
+  record_is : records.doubleton M i j k r ts ≡ record_of p i j k
+  record_is z = Doubleton (record {
+    row = i;
+    column = j;
+    kept = k;
+    value = sym a_is z;
+    kept_value = sym b_is z;
+    equal = r;
+    lower = end_live (column_at p k).live (bounds_at p k).lower f.second_on z;
+    upper = end_live (column_at p k).live (bounds_at p k).upper f.second_on z;
+    cost = ap (λ (on : Bool). if on then cost_at p j else zero_ℚ) f.first_on z;
+    entries = ts;
+  })
+
+  pairs : ReducesPairs Min M (shown (committed p (edits p i j k))) (undone_pair (record_of p i j k))
+  pairs = pairs_by_edits p (edits p i j k) (doubleton_substituted M i j k r) (undone_pair (record_of p i j k)) s allowed shows
+      (subst (λ (u : Undo). ReducesPairs Min M (doubleton_substituted M i j k r) (undone_pair u)) record_is (equation_pair M i j k r ts is_doubleton_equation terms_ascend terms_have))
+
   -- ---- the rest of what is owed
   joined_sided : (c : Number) (l u : Option Number) (o : Number) → All EditIsSided (column_joined i j k c l u o)
   joined_sided c l u o = All-cons EditIsSided (SetCost k c) (SetBounds k l u ∷ AddOffset o ∷ DeleteRow i ∷ DeleteColumn j ∷ []) tt
@@ -382,6 +409,7 @@ module _ (p : Sparse) (s : IsSparse p) (i j k : ℕ) (f : SaidOf p i j k) where
     allowed = allowed;
     ordered = set_first k (new_entry p k (factor p i j k)) ts (sides ++ joined) (sweep_no_entries low high ts joined tt);
     reduces = reduces;
+    pairs = λ continuous. pairs;
     sided = sided;
     sound = ((row_inside p i f.row_on, column_inside p j f.first_on, pair.first), (column_inside p j f.first_on, column_inside p k f.second_on, pair.apart), pair.second, (terms_ascend, has-without i (column_entries p j)));
     names = (rows_on, columns_on);

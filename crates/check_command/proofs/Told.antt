@@ -14,7 +14,7 @@ use Rattle.endings.specs.Moments.{Reads}
 use Rattle.endings.specs.declared.reads.TheConstants.{SOLUTION_LIMIT}
 use Rattle.endings.specs.declared.ending.Ending.{Ending}
 use Rattle.endings.specs.declared.ending.Ending.TheVariants.{Done, Usage, Refused, ReadFault, WriteFault, NoMemory, NoRoom, RecordsRefused, SolutionRefused, Violated, Infeasible, UnboundedOrInfeasible}
-use Rattle.check_command.specs.PairTexts.{IsPairOf}
+use Rattle.endings.specs.SolutionTexts.{IsPairOf}
 use Rattle.check_command.specs.VerdictText.{status_of_verdict, verdict_text, status_of_pair_verdict, pair_verdict_text}
 use Rattle.check_command.specs.Checked.{IsPointJudged, IsPairJudged, SaysSolution, TellsVerdict, TellsPairVerdict}
 use Rattle.check_command.proofs.Proved.{proved_best}

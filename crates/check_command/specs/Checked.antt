@@ -11,11 +11,11 @@ use Rattle.lp_model.specs.Optimality.{Continuous, Meets}
 use Rattle.lp_model.specs.Senses.{NoWorse}
 use Rattle.lp_check.specs.Deciding.{Decides}
 use Rattle.lp_check.specs.DecidingPairs.{DecidesPair}
-use Rattle.lp_check.specs.FirstWhole.{IsFirstWhole}
 use Rattle.lp_check.specs.declared.verdicts.Verdict.{Verdict}
 use Rattle.lp_check.specs.declared.pair_verdicts.PairVerdict.{PairVerdict}
 use Rattle.fractions.specs.declared.Numbers.TheVariants.{Fractions}
 use Rattle.mps_profile.specs.declared.dialect.Dialect.{Dialect}
+use Rattle.endings.specs.Continuity.{NamesFirstWhole}
 use Rattle.endings.specs.Dialects.{format_of}
 use Rattle.endings.specs.Ending.{When, no_memory_line, read_fault_line}
 use Rattle.endings.specs.Moments.{FailsToRead, IsQuiet, IsThere, Reads}
@@ -23,8 +23,8 @@ use Rattle.endings.specs.ProgramTexts.{IsProgramOf, SaysFaultOf}
 use Rattle.endings.specs.declared.reads.TheConstants.{INPUT_LIMIT, SOLUTION_LIMIT}
 use Rattle.endings.specs.declared.ending.Ending.{Ending}
 use Rattle.endings.specs.declared.ending.Ending.TheVariants.{Done, NoRoom, Refused, SolutionRefused, Violated}
-use Rattle.check_command.specs.PairTexts.{IsPairOf, SaysPairFault}
-use Rattle.check_command.specs.VerdictText.{status_of_verdict, verdict_text, status_of_pair_verdict, pair_verdict_text, yes_text, not_continuous_text}
+use Rattle.endings.specs.SolutionTexts.{IsPairOf, SaysPairFault}
+use Rattle.check_command.specs.VerdictText.{status_of_verdict, verdict_text, status_of_pair_verdict, pair_verdict_text, yes_text}
 
 -- how IN is read
 abbrev pub check_dialect : CheckNames → Dialect
@@ -79,10 +79,8 @@ IsJudged program solution status printed = IsPointJudged program solution status
 pub record IsNotContinuous (program : ProgramData) (solution : Told) (printed : List ℕ) : Type 0 where
   pub point : List Number
   pub duals : List Number
-  pub column : ℕ
   pub given : Reads SOLUTION_LIMIT solution (λ text. IsPairOf program text point (Some duals))
-  pub whole : IsFirstWhole (meaning program) column
-  pub said : printed ≡ not_continuous_text program column
+  pub names : NamesFirstWhole program printed
 
 -- what an ending says of a program and the solution by this name
 abbrev pub SaysSolution : ProgramData → List ℕ → Moment → Moment → Ending → Type 0

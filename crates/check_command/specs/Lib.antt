@@ -1,3 +1,2 @@
 pub mod VerdictText
-pub mod PairTexts
 pub mod Checked

@@ -3,7 +3,8 @@ use Rattle.std.specs.Prelude.{ℕ, List, [], ◌∷◌, ◌++◌, codes, Some, N
 use Rattle.rational.specs.Number.{Number}
 use Rattle.number_texts.specs.Written.{written}
 use Rattle.lp_model.specs.ProgramData.{ProgramData}
-use Rattle.lp_model.specs.Names.{names_of_rows, names_of_columns}
+use Rattle.lp_model.specs.Names.{names_of_rows}
+use Rattle.endings.specs.ProgramTexts.{column_text}
 use Rattle.lp_check.specs.declared.verdicts.Item.{Item}
 use Rattle.lp_check.specs.declared.verdicts.Item.TheVariants.{Column, Row, Cost}
 use Rattle.lp_check.specs.declared.verdicts.Limit.{Limit}
@@ -15,9 +16,6 @@ use Rattle.lp_check.specs.declared.pair_verdicts.End.TheVariants.{Lower, Upper}
 use Rattle.lp_check.specs.declared.pair_verdicts.Misplaced.{Misplaced}
 use Rattle.lp_check.specs.declared.pair_verdicts.PairVerdict.{PairVerdict}
 use Rattle.lp_check.specs.declared.pair_verdicts.PairVerdict.TheVariants.{OnPoint, Dual, ReducedCost, PastReducedCost}
-
-abbrev pub column_text : ProgramData → ℕ → List ℕ
-column_text program j = slice_index_or (names_of_columns program.columns) j []
 
 abbrev pub row_text : ProgramData → ℕ → List ℕ
 row_text program i = slice_index_or (names_of_rows program.rows) i []
@@ -86,7 +84,3 @@ status_of_pair_verdict (OnPoint verdict) = status_of_verdict verdict
 status_of_pair_verdict (Dual i found) = 9
 status_of_pair_verdict (ReducedCost j found) = 9
 status_of_pair_verdict (PastReducedCost j) = 6
-
--- what is said of a column that has to be whole, where duals are given
-abbrev pub not_continuous_text : ProgramData → ℕ → List ℕ
-not_continuous_text program j = codes "not continuous: " ++ (column_text program j ++ 10 ∷ [])

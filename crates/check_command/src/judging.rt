@@ -9,12 +9,12 @@ ghost use Rattle.endings.specs.Ending.{status_of, text_of};
 ghost use Rattle.lp_model.specs.Meaning.{meaning};
 ghost use Rattle.lp_model.specs.Optimality.{Continuous};
 ghost use Rattle.lp_model.specs.Writable.{EntriesAscend};
-ghost use Rattle.check_command.specs.PairTexts.{IsPairOf};
+ghost use Rattle.endings.specs.SolutionTexts.{IsPairOf};
 ghost use Rattle.check_command.specs.Checked.{SaysCheck, SaysSolution, check_dialect};
 
-use crate::pair_verdict_text::{not_continuous_text, pair_verdict_ending};
+use crate::pair_verdict_text::pair_verdict_ending;
 use crate::verdict_text::verdict_ending;
-use endings::{Ending, fault_line, solution_fault_line};
+use endings::{Ending, fault_line, not_continuous_text, solution_fault_line};
 use lp_check::{check_pair, check_point, first_whole_column};
 use lp_model::{Duals, Pair, Point, Program};
 use mps_reader::{Dialect, MpsError, read_mps};

@@ -1,11 +1,11 @@
 //! Verdicts on points with duals as text.
 
 ghost use Rattle.std.specs.Prelude.{◌≡◌, ◌++◌, OnOk, IfOk};
-ghost use Rattle.check_command.specs.VerdictText.{end_text, no_dual_text, no_reduced_cost_text, not_continuous_text};
+ghost use Rattle.check_command.specs.VerdictText.{end_text, no_dual_text, no_reduced_cost_text};
 ghost use Rattle.check_command.specs.Checked.{TellsPairVerdict};
 
-use crate::verdict_text::{past_text, push_column, push_row, verdict_ending};
-use endings::Ending;
+use crate::verdict_text::{past_text, push_row, verdict_ending};
+use endings::{Ending, push_column};
 use lp_check::{End, Item, Misplaced, PairVerdict};
 use lp_model::Program;
 use std::alloc::{AllocError, Global};
@@ -64,21 +64,6 @@ fn no_reduced_cost_text(
     number_texts::push(&mut text, &found.value)?;
     text.extend_from_slice(b" bound ")?;
     push_end(&mut text, found.end)?;
-    text.push(b'\n')?;
-    Ok(text)
-}
-
-/// What is said of a column that has to be whole, where duals are given.
-pub fn not_continuous_text(
-    alloc: Global,
-    program: &Program,
-    column: u32,
-) -> Result<Vec<u8>, AllocError>
-    ensures { IfOk result (λ text. text.items ≡ not_continuous_text program.now column) }
-{
-    let mut text = Vec::new(alloc);
-    text.extend_from_slice(b"not continuous: ")?;
-    push_column(&mut text, program, column)?;
     text.push(b'\n')?;
     Ok(text)
 }

@@ -1,24 +1,14 @@
 //! Verdicts as text.
 
 ghost use Rattle.std.specs.Prelude.{◌≡◌, ◌++◌, OnOk, IfOk};
-ghost use Rattle.check_command.specs.VerdictText.{column_text, row_text, item_text, limit_text, yes_text, no_text, past_text};
+ghost use Rattle.check_command.specs.VerdictText.{row_text, item_text, limit_text, yes_text, no_text, past_text};
 ghost use Rattle.check_command.specs.Checked.{TellsVerdict};
 
-use endings::Ending;
+use endings::{Ending, push_column};
 use fractions::frac::Frac;
 use lp_check::{Item, Limit, Verdict};
 use lp_model::{Labels, Program};
 use std::alloc::{AllocError, Global};
-
-/// Appends the name of a column, if there is one of this id.
-pub fn push_column(out: &mut Vec<u8>, program: &Program, id: u32) -> Result<(), AllocError>
-    ensures { OnOk result (out.new.items ≡ out.old.items ++ column_text program.now id) }
-{
-    if (id as usize) < program.column_count() {
-        out.extend_from_slice(program.column_name(id as usize).as_bytes())?;
-    }
-    Ok(())
-}
 
 /// Appends the name of a row, if there is one of this id.
 pub fn push_row(out: &mut Vec<u8>, program: &Program, id: u32) -> Result<(), AllocError>

@@ -25,6 +25,8 @@ use Rattle.lp_rows.specs.TightenedCoefficient.OneSide.{Lower as LowerAlone, Uppe
 use Rattle.lp_rows.proofs.TightenedCoefficient.{tightened_coefficient}
 use Rattle.undo_records.specs.declared.side.Side.{Side}
 use Rattle.undo_records.specs.declared.side.Side.TheVariants.{Lower, Upper}
+use Rattle.postsolve_dual.specs.LiftPair.{undone_pair}
+use Rattle.pair_laws.proofs.RowPairs.{coefficient_pair}
 use Rattle.problem_model.specs.declared.edit.Edit.{Edit}
 use Rattle.problem_model.specs.declared.edit.Edit.TheVariants.{SetEntry, SetSides}
 use Rattle.problem_model.specs.Allowed.{AreAllowed}
@@ -38,7 +40,7 @@ use Rattle.rule_words.specs.Owed.{Owes}
 use Rattle.rule_words.proofs.Coefficients.{coefficient_in_row, end_live}
 use Rattle.rule_words.proofs.EndTestsSay.{not_true}
 use Rattle.rule_words.proofs.Named.{nothing_twice, one_on, two_sided}
-use Rattle.edit_laws.proofs.Reducing.{by_edits}
+use Rattle.edit_laws.proofs.Reducing.{by_edits, pairs_by_edits}
 use Rattle.row_spans.specs.declared.span.Extreme.TheVariants.{Least, Greatest}
 use Rattle.row_spans.specs.declared.span.Span.{Span}
 use Rattle.row_spans.specs.Exact.{exact_difference, exact_product, exact_sum, if_room}
@@ -334,6 +336,7 @@ module _ (p : Sparse) (i j : ℕ) (s : IsSparse p) (live : (row_at p i).live ≡
     allowed = allowed c e;
     ordered = tt;
     reduces = by_edits p (edits_with c e) (theory.coefficient_tightened M i j f numbers_there) (λ y. y) zero_ℚ s (allowed c e) refl nothing_twice (tightened_coefficient M i j f numbers_there enabled_there Min);
+    pairs = λ continuous. pairs_by_edits p (edits_with c e) (theory.coefficient_tightened M i j f numbers_there) (undone_pair (record_of p i j)) s (allowed c e) refl (coefficient_pair M i j f numbers_there enabled_there);
     sided = λ numbers h. two_sided (SetEntry i j c) (SetSides i (theory.lower_alone f e) (theory.upper_alone f e)) tt (one_sided_ends f e);
     sound = (row_inside p i live, column_inside p j column_on);
     names = (one_on p.matrix.rows i live, one_on p.matrix.columns j column_on);

@@ -8,7 +8,7 @@ use Rattle.rational.specs.Compare.{lt_ℚ}
 use Rattle.rational.specs.Ends.{HighAbove, LowBelow, minus_ends, over}
 use Rattle.rational.specs.Total.{put}
 use Rattle.lp_model.specs.LinearProgram.{LinearProgram}
-use Rattle.lp_model.specs.Reductions.{Reduces}
+use Rattle.lp_model.specs.Reductions.{Reduces, ReducesPairs}
 use Rattle.lp_model.specs.Vectors.{Vector}
 use Rattle.lp_model.specs.declared.program.Sense.TheVariants.{Min}
 use Rattle.lp_model.specs.declared.terms.Term.{Term}
@@ -19,6 +19,11 @@ use Rattle.lp_substitutions.specs.FreeColumnSingleton.{IsFreeColumnSingleton, ch
 use Rattle.lp_substitutions.proofs.FreeColumnSingleton.{free_column_reduces}
 use Rattle.undo_records.specs.Lift.{undone}
 use Rattle.undo_records.specs.declared.side.Side.TheVariants.{Lower, Upper}
+use Rattle.undo_records.specs.declared.undo.Undo.{Undo}
+use Rattle.undo_records.specs.declared.undo.Undo.TheVariants.{FreeSingleton}
+use Rattle.postsolve_dual.specs.LiftPair.{undone_pair}
+use Rattle.pair_laws.specs.Records as records
+use Rattle.pair_laws.proofs.ColumnPairs.{free_pair}
 use Rattle.problem_model.specs.declared.edit.Edit.TheVariants.{DeleteColumn, DeleteRow}
 use Rattle.problem_model.specs.declared.part.Contents.TheVariants as holding
 use Rattle.problem_model.specs.declared.part.Part.TheVariants as part
@@ -42,9 +47,9 @@ use Rattle.activity_laws.specs.TightenedBound.{entry_at, if_made, implied, left_
 use Rattle.activity_laws.proofs.Rows as rows
 use Rattle.activity_laws.proofs.Rows.{high_above, low_below}
 use Rattle.activity_laws.proofs.TightenedBound.{found, is_made}
-use Rattle.column_laws.specs.SoleEntry.{entry_of, is_sole_at, price_of}
+use Rattle.column_laws.specs.SoleEntry.{entry_of, is_sole_at, others_of, price_of}
 use Rattle.column_laws.specs.FreeColumn.{cheapest_for, edits, enabled, gain_of, is_free, is_free_column, is_implied_at, record_of, side_for, value_of}
-use Rattle.column_laws.proofs.SoleEntry.{IsSole, IsSoleEntry, costs_are, costs_moved, entry_is, entry_sound, in_order, named_on, not_whole, others_sound, out_allowed, owes_with, price_is, singleton, sole, sum_is, with_costs}
+use Rattle.column_laws.proofs.SoleEntry.{IsSole, IsSoleEntry, costs_are, costs_moved, entry_is, entry_sound, in_order, named_on, not_whole, others_have, others_sound, out_allowed, owes_with, price_is, singleton, sole, sum_is, with_costs}
 
 -- ---- what the condition says
 -- o is a number at which the bounds of column j are implied
@@ -195,6 +200,14 @@ module _ (p : Sparse) (s : IsSparse p) (j i : ℕ) (f : Said p j i) where
   deleted_is : programs_edited (costs_moved p s j i there) (DeleteColumn j ∷ DeleteRow i ∷ []) ≡ free_column_deleted M j i
   deleted_is z = record (free_column_deleted M j i) { costs = costs_are p s j i there z }
 
+  -- the record holds what is shown
+  record_is : records.free_singleton M j i w (others_of p j i) ≡ record_of p j i
+  record_is z = FreeSingleton (record { column = j; row = i; value = a_is z; at = w; price = price_is p s j i there z; entries = others_of p j i })
+
+  pairs : ReducesPairs Min M (free_column_deleted M j i) (undone_pair (record_of p j i))
+  pairs = subst (λ (u : Undo). ReducesPairs Min M (free_column_deleted M j i) (undone_pair u)) record_is
+      (free_pair M j i w (others_of p j i) free (others_sound p s j i there).0 (others_have p s j i there))
+
   owes_free : Owes p (with_costs p s j i there (gain_of p j i) (DeleteColumn j ∷ DeleteRow i ∷ [])) (record_of p j i)
   owes_free = owes_with p s j i there (gain_of p j i) (DeleteColumn j ∷ DeleteRow i ∷ []) (free_column_deleted M j i) (record_of p j i) (record {
     allowed = out_allowed p s j i there;
@@ -204,6 +217,7 @@ module _ (p : Sparse) (s : IsSparse p) (j i : ℕ) (f : Said p j i) where
     program = deleted_is;
     reduces = subst (λ (k : Number). Reduces Min M (free_column_deleted M j i) (undone (record_of p j i)) k) offset_is
         (subst (λ (undo : Vector → Vector). Reduces Min M (free_column_deleted M j i) undo (free_column_offset M j i w)) undone_is (free_column_reduces M j i w free));
+    pairs = pairs;
     sound = (entry_sound p s j i there, others_sound p s j i there);
     names = (one_on p.matrix.rows i f.row_live, named_on p s j i there);
     deletes = refl;

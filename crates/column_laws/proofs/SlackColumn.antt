@@ -12,7 +12,7 @@ use Rattle.rational.proofs.Totals.{put-same, put-other}
 use Rattle.lp_model.specs.EndTests.{is_fixed, is_in_order}
 use Rattle.lp_model.specs.Ends.{IsSided}
 use Rattle.lp_model.specs.LinearProgram.{LinearProgram}
-use Rattle.lp_model.specs.Reductions.{Reduces}
+use Rattle.lp_model.specs.Reductions.{Reduces, ReducesPairs}
 use Rattle.lp_model.specs.Sparse.{sparse_total}
 use Rattle.lp_model.specs.Vectors.{Vector}
 use Rattle.lp_model.specs.declared.program.Sense.TheVariants.{Min}
@@ -22,12 +22,17 @@ use Rattle.lp_theory.specs.MetEnds.{lower_over, upper_over}
 use Rattle.lp_theory.specs.Nearest as nearest
 use Rattle.lp_theory.specs.Nearest.{InOrder}
 use Rattle.lp_theory.proofs.ActivityLaws.{lt_false}
-use Rattle.lp_substitutions.specs.SlackColumnSingleton.{IsEquation, IsSlackColumnSingleton, equation_offset, moved_lower, moved_upper, slack_column_deleted, slack_column_offset, slack_column_point, slack_row_deleted, slack_value, undo_slack_column}
+use Rattle.lp_substitutions.specs.SlackColumnSingleton.{IsEquation, IsRowLeftFree, IsSlackColumnSingleton, equation_offset, moved_lower, moved_upper, slack_column_deleted, slack_column_offset, slack_column_point, slack_row_deleted, slack_value, undo_slack_column}
 use Rattle.lp_substitutions.proofs.SlackColumnSingleton.{slack_dropped_reduces, slack_kept_reduces}
 use Rattle.undo_records.specs.Near.{near, near_within}
 use Rattle.undo_records.specs.Lift.{undone}
 use Rattle.undo_records.specs.declared.side.RowFate.{RowFate}
 use Rattle.undo_records.specs.declared.side.RowFate.TheVariants.{Dropped, Kept}
+use Rattle.undo_records.specs.declared.undo.Undo.{Undo}
+use Rattle.undo_records.specs.declared.undo.Undo.TheVariants.{SlackSingleton}
+use Rattle.postsolve_dual.specs.LiftPair.{undone_pair}
+use Rattle.pair_laws.specs.Records as records
+use Rattle.pair_laws.proofs.ColumnPairs.{slack_dropped, slack_kept}
 use Rattle.problem_model.specs.declared.edit.Edit.TheVariants.{DeleteColumn, DeleteRow, SetSides}
 use Rattle.problem_model.specs.declared.part.Contents.TheVariants as holding
 use Rattle.problem_model.specs.EditedPrograms.{programs_edited}
@@ -40,7 +45,7 @@ use Rattle.rule_words.proofs.EndTestsSay.{fixed_ends, not_true}
 use Rattle.rule_words.proofs.Named.{nothing_twice, one_on, two_sided}
 use Rattle.column_laws.specs.SoleEntry.{entry_of, is_sole_at, others_of, price_of}
 use Rattle.column_laws.specs.SlackColumn.{column_out, edits, enabled, fate_of, gain_of, is_equation_or_free, is_slack_column, least_at, new_lower, new_upper, record_by, record_of}
-use Rattle.column_laws.proofs.SoleEntry.{IsSole, IsSoleEntry, column_on, costs_are, costs_moved, entry_is, entry_sound, in_order, named_on, not_whole, others_sound, out_allowed, owes_with, price_is, row_on, singleton, sole, sum_is, with_costs}
+use Rattle.column_laws.proofs.SoleEntry.{IsSole, IsSoleEntry, column_on, costs_are, costs_moved, entry_is, entry_sound, in_order, named_on, not_whole, others_have, others_sound, out_allowed, owes_with, price_is, row_on, singleton, sole, sum_is, with_costs}
 
 -- ---- what the condition says
 equation_or_free : (l u : Option Number) (c : Number) → is_equation_or_free l u c ≡ true → IsEquation l u ⊎ (c ≡ zero_ℚ)
@@ -210,6 +215,32 @@ module _ (p : Sparse) (s : IsSparse p) (j i : ℕ) (f : SaidAt p j i) where
   in_words R fate h = subst (λ (k : Number). Reduces Min M R (undone (record_by p j i fate)) k) offset_is
       (subst (λ (undo : Vector → Vector). Reduces Min M R undo (slack_column_offset M j i)) (undone_is fate) h)
 
+  -- the record holds what is shown
+  record_is : (fate : RowFate) → records.slack_singleton M j i fate others ≡ record_by p j i fate
+  record_is fate z = SlackSingleton (record {
+    column = j;
+    row = i;
+    value = a_is z;
+    price = price_is p s j i there z;
+    lower_side = lower_side_is z;
+    upper_side = upper_side_is z;
+    lower = lower_bound_is z;
+    upper = upper_bound_is z;
+    fate = fate;
+    entries = others;
+  })
+
+  kept_pairs : ReducesPairs Min M (slack_column_deleted M j i) (undone_pair (record_by p j i Kept))
+  kept_pairs = subst (λ (w : Undo). ReducesPairs Min M (slack_column_deleted M j i) (undone_pair w)) (record_is Kept)
+      (slack_kept M j i others slack (others_sound p s j i there).0 (others_have p s j i there))
+
+  dropped_pairs : IsRowLeftFree M j i → ReducesPairs Min M (slack_row_deleted M j i) (undone_pair (record_by p j i Dropped))
+  dropped_pairs free = subst (λ (w : Undo). ReducesPairs Min M (slack_row_deleted M j i) (undone_pair w)) (record_is Dropped)
+      (slack_dropped M j i others free (others_sound p s j i there).0 (others_have p s j i there))
+
+  left_free : new_lower p j i ≡ None → new_upper p j i ≡ None → IsRowLeftFree M j i
+  left_free e g = record { slack = slack; lower = sym moved_lower_is ∙ e; upper = sym moved_upper_is ∙ g }
+
   owes_kept : (b c : Option Number) → new_lower p j i ≡ b → new_upper p j i ≡ c → IsSided b c → Owes p (with_costs p s j i there (gain_of p j i) (SetSides i b c ∷ DeleteColumn j ∷ [])) (record_by p j i Kept)
   owes_kept b c e g h = owes_with p s j i there (gain_of p j i) (SetSides i b c ∷ DeleteColumn j ∷ []) (slack_column_deleted M j i) (record_by p j i Kept) (record {
     allowed = λ q m. (row_on p s j i there q m, (column_on p s j i there q m, tt));
@@ -218,6 +249,7 @@ module _ (p : Sparse) (s : IsSparse p) (j i : ℕ) (f : SaidAt p j i) where
     sided = two_sided (SetSides i b c) (DeleteColumn j) h tt;
     program = ap₂ (λ (x y : Option Number). programs_edited (costs_moved p s j i there) (SetSides i x y ∷ DeleteColumn j ∷ [])) (sym e) (sym g) ∙ kept_is;
     reduces = in_words (slack_column_deleted M j i) Kept (slack_kept_reduces M j i slack Min);
+    pairs = kept_pairs;
     sound = (entry_sound p s j i there, others_sound p s j i there);
     names = (one_on p.matrix.rows i f.row_live, named_on p s j i there);
     deletes = refl;
@@ -230,7 +262,8 @@ module _ (p : Sparse) (s : IsSparse p) (j i : ℕ) (f : SaidAt p j i) where
     nothing_added = sym nothing_twice;
     sided = two_sided (DeleteColumn j) (DeleteRow i) tt tt;
     program = dropped_is;
-    reduces = in_words (slack_row_deleted M j i) Dropped (slack_dropped_reduces M j i (record { slack = slack; lower = sym moved_lower_is ∙ e; upper = sym moved_upper_is ∙ g }) Min);
+    reduces = in_words (slack_row_deleted M j i) Dropped (slack_dropped_reduces M j i (left_free e g) Min);
+    pairs = dropped_pairs (left_free e g);
     sound = (entry_sound p s j i there, others_sound p s j i there);
     names = (one_on p.matrix.rows i f.row_live, named_on p s j i there);
     deletes = refl;

@@ -14,7 +14,7 @@ use Rattle.lp_model.specs.Edits.{with_cost}
 use Rattle.lp_model.specs.EndTests.{is_in_order}
 use Rattle.lp_model.specs.Flags.{Flags}
 use Rattle.lp_model.specs.LinearProgram.{LinearProgram}
-use Rattle.lp_model.specs.Reductions.{Reduces}
+use Rattle.lp_model.specs.Reductions.{Reduces, ReducesPairs}
 use Rattle.lp_model.specs.Sparse.{Ascends, dense, has, sparse_total}
 use Rattle.lp_model.specs.Vectors.{Vector}
 use Rattle.lp_model.specs.declared.program.Sense.TheVariants.{Min}
@@ -27,6 +27,7 @@ use Rattle.undo_records.specs.Ids.{AreOthers, IsEntry, ids_of, is_on}
 use Rattle.undo_records.specs.Sound.{IsSound}
 use Rattle.undo_records.specs.Walk.{NamesLive, after}
 use Rattle.undo_records.specs.declared.undo.Undo.{Undo}
+use Rattle.postsolve_dual.specs.LiftPair.{undone_pair}
 use Rattle.problem_model.specs.declared.edit.Edit.{Edit}
 use Rattle.problem_model.specs.declared.edit.Edit.TheVariants.{AddOffset, DeleteColumn, DeleteRow}
 use Rattle.problem_model.specs.Allowed.{AreAllowed, NoEntries}
@@ -49,7 +50,7 @@ use Rattle.rule_words.proofs.Coefficients.{coefficient_in_column, coefficient_in
 use Rattle.rule_words.proofs.EndTestsSay.{not_true}
 use Rattle.rule_words.proofs.Named.{lives, one_on}
 use Rattle.edit_laws.proofs.Lists.{allowed_more, entries_first_none}
-use Rattle.edit_laws.proofs.Reducing.{by_edits}
+use Rattle.edit_laws.proofs.Reducing.{by_edits, pairs_by_edits}
 use Rattle.edit_laws.proofs.Sweeps.{added_more, programs_more}
 use Rattle.column_laws.specs.SoleEntry.{cost_less, costs_less, entry_of, is_sole_at, others_of, price_of}
 
@@ -204,12 +205,12 @@ module _ (p : Sparse) (s : IsSparse p) (j i : ℕ) (f : IsSoleEntry p j i) where
       (All-map (λ k. is_on (lives p.matrix.columns) k ≡ true) (λ (e : Term). e.id) others
       (λ k d l. All-head (λ m. is_on (lives p.matrix.columns) m ≡ true) (get_or others k d).id [] (one_on p.matrix.columns (get_or others k d).id (others_live k d l))))
 
-  others_have : (k : ℕ) → dense others k ≡ put (M.coefficient i) j zero_ℚ k
-  others_have k = dense-without j ts k ∙ (λ u. put (λ m. sym (row_has m) u) j zero_ℚ k)
+  pub others_have : dense others ≡ put (M.coefficient i) j zero_ℚ
+  others_have w k = (dense-without j ts k ∙ (λ u. put (λ m. sym (row_has m) u) j zero_ℚ k)) w
 
   -- their sum is that of the row without column j
   pub sum_is : (x : Vector) → sparse_total others x ≡ products M.columns (put (M.coefficient i) j zero_ℚ) x
-  sum_is x = sparse-dense others 0 n x ascends ∙ (λ u. total n (λ k. others_have k u *ℚ x k))
+  sum_is x = sparse-dense others 0 n x ascends ∙ (λ u. total n (λ k. others_have u k *ℚ x k))
 
   -- ---- the costs
   abbrev t : Number
@@ -273,6 +274,7 @@ module _ (p : Sparse) (s : IsSparse p) (j i : ℕ) (f : IsSoleEntry p j i) where
     pub sided : All EditIsSided es
     pub program : programs_edited costs_moved es ≡ R
     pub reduces : Reduces Min M R (undone u) gain
+    pub pairs : ReducesPairs Min M R (undone_pair u)
     pub sound : IsSound (length p.matrix.rows) n u
     pub names : NamesLive (flags_of p) u
     pub deletes : all_flags_edited (flags_of p) es ≡ after u (flags_of p)
@@ -282,6 +284,7 @@ module _ (p : Sparse) (s : IsSparse p) (j i : ℕ) (f : IsSoleEntry p j i) where
     allowed = allowed_with gain es h.allowed;
     ordered = entries_first_none (with_costs gain es) (less_no_entries p t others (AddOffset gain ∷ es) h.no_entries);
     reduces = by_edits p (with_costs gain es) R (undone u) gain s (allowed_with gain es h.allowed) (program_is gain es ∙ h.program) (adds gain es h.nothing_added) h.reduces;
+    pairs = λ continuous. pairs_by_edits p (with_costs gain es) R (undone_pair u) s (allowed_with gain es h.allowed) (program_is gain es ∙ h.program) h.pairs;
     sided = λ numbers w. less_sided p t others (AddOffset gain ∷ es) (All-cons EditIsSided (AddOffset gain) es tt h.sided);
     sound = h.sound;
     names = h.names;

@@ -10,7 +10,7 @@ use Rattle.clap.specs.Simple.{Shape, built, built_leaf, help_shape, inherited, l
 use Rattle.clap.specs.Takes.{is_given, value_passes}
 use Rattle.clap.specs.Walk.{Row, Rule, Text, answers_to, arg_by_id, first_of}
 use Rattle.clap.specs.declared.builder.value_parser.ValueParser.TheVariants.{Unsigned}
-use Rattle.command_line.specs.Line.{check_app, first_app, limit_in, limit_of, limited_app, line_app, postsolve_app, postsolve_words, presolve_app, presolve_words, request_of}
+use Rattle.command_line.specs.Line.{check_app, dual_app, first_app, limit_in, limit_of, limited_app, line_app, postsolve_app, postsolve_words, presolve_app, presolve_words, request_of}
 use Rattle.command_line.specs.declared.reading.TheConstants.{MOST_RECORDS}
 use Rattle.command_laws.proofs.Rows.{Each, HasFirst, either, first_passes, given_first}
 use Rattle.command_laws.proofs.Uses.{IsKnown}
@@ -80,11 +80,11 @@ module _ (rules : List Rule) (rows : List Row) (each : Each (HasFirst rules) row
       inl (λ none. none-some _ (sym (rw (program.1, records.1, solution.1, result.1) at none)))
 
 presolve_known : Each (IsKnown presolve_command.rules) presolve_command.rules
-unfolding presolve_command line_app first_app check_app presolve_app limited_app presolve_words postsolve_app postsolve_words
-presolve_known = ((refl, refl), ((refl, refl), ((refl, refl), ((refl, refl), ((refl, refl), ((refl, refl), ((refl, refl), tt)))))))
+unfolding presolve_command line_app first_app check_app presolve_app dual_app limited_app presolve_words postsolve_app postsolve_words
+presolve_known = ((refl, refl), ((refl, refl), ((refl, refl), ((refl, refl), ((refl, refl), ((refl, refl), ((refl, refl), ((refl, refl), tt))))))))
 
 presolve_asks : AsksWhereGiven presolve_command
-unfolding presolve_command line_app first_app check_app presolve_app limited_app presolve_words postsolve_app postsolve_words
+unfolding presolve_command line_app first_app check_app presolve_app dual_app limited_app presolve_words postsolve_app postsolve_words
 presolve_asks word answers differs = (
   presolve_known,
   λ rows each given.
@@ -96,11 +96,11 @@ presolve_asks word answers differs = (
 )
 
 check_known : Each (IsKnown check_command.rules) check_command.rules
-unfolding check_command line_app first_app check_app presolve_app limited_app presolve_words postsolve_app postsolve_words
+unfolding check_command line_app first_app check_app presolve_app dual_app limited_app presolve_words postsolve_app postsolve_words
 check_known = ((refl, refl), ((refl, refl), ((refl, refl), ((refl, refl), tt))))
 
 check_asks : AsksWhereGiven check_command
-unfolding check_command line_app first_app check_app presolve_app limited_app presolve_words postsolve_app postsolve_words
+unfolding check_command line_app first_app check_app presolve_app dual_app limited_app presolve_words postsolve_app postsolve_words
 check_asks word answers differs = (
   check_known,
   λ rows each given.
@@ -110,11 +110,11 @@ check_asks word answers differs = (
 )
 
 postsolve_known : Each (IsKnown postsolve_command.rules) postsolve_command.rules
-unfolding postsolve_command line_app first_app check_app presolve_app limited_app presolve_words postsolve_app postsolve_words
+unfolding postsolve_command line_app first_app check_app presolve_app dual_app limited_app presolve_words postsolve_app postsolve_words
 postsolve_known = ((refl, refl), ((refl, refl), ((refl, refl), ((refl, refl), ((refl, refl), tt)))))
 
 postsolve_asks : AsksWhereGiven postsolve_command
-unfolding postsolve_command line_app first_app check_app presolve_app limited_app presolve_words postsolve_app postsolve_words
+unfolding postsolve_command line_app first_app check_app presolve_app dual_app limited_app presolve_words postsolve_app postsolve_words
 postsolve_asks word answers differs = (
   postsolve_known,
   λ rows each given.
@@ -138,10 +138,10 @@ help_asks s label word answers differs =
 
 -- each command of the line asks for something
 pub commands_ask : Each AsksWhereGiven (built line_app).subs
-unfolding presolve_command check_command postsolve_command line_app first_app check_app presolve_app limited_app presolve_words postsolve_app postsolve_words
+unfolding presolve_command check_command postsolve_command line_app first_app check_app presolve_app dual_app limited_app presolve_words postsolve_app postsolve_words
 commands_ask = (presolve_asks, (check_asks, (postsolve_asks, (help_asks (built_leaf help_shape) refl, tt))))
 
 -- the line has the command for help
 pub line_has_help : (built line_app).top.disable_help_subcommand ≡ false
-unfolding line_app first_app check_app presolve_app limited_app presolve_words postsolve_app postsolve_words
+unfolding line_app first_app check_app presolve_app dual_app limited_app presolve_words postsolve_app postsolve_words
 line_has_help = refl

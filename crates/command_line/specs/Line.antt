@@ -31,9 +31,13 @@ presolve_words = with_rule (with_rule (with_rule (new_app (codes "presolve")) (w
 unfoldable pub limited_app : App
 limited_app = with_rule presolve_words (number_rule (codes "limit") MOST_RECORDS)
 
--- presolve IN OUT REC [--limit N] [--fractions] [--fixed]
+-- presolve IN OUT REC [--limit N] [--dual]
+unfoldable pub dual_app : App
+dual_app = with_rule limited_app (flag_rule (codes "dual"))
+
+-- presolve IN OUT REC [--limit N] [--dual] [--fractions] [--fixed]
 unfoldable pub presolve_app : App
-presolve_app = with_rule (with_rule limited_app (flag_rule (codes "fractions"))) (flag_rule (codes "fixed"))
+presolve_app = with_rule (with_rule dual_app (flag_rule (codes "fractions"))) (flag_rule (codes "fixed"))
 
 -- check IN SOL [--fixed]
 unfoldable pub check_app : App
@@ -92,8 +96,12 @@ limit_of None = Some MOST_RECORDS
 limit_of (Some text) = limit_in text
 
 abbrev pub options_of : List Row → Option PresolveOptions
-options_of rows = option_map (λ limit. record { fractions = is_on (first_of (codes "fractions") rows); fixed = is_on (first_of (codes "fixed") rows); limit = limit })
-    (limit_of (first_of (codes "limit") rows))
+options_of rows = option_map (λ limit. record {
+  dual = is_on (first_of (codes "dual") rows);
+  fractions = is_on (first_of (codes "fractions") rows);
+  fixed = is_on (first_of (codes "fixed") rows);
+  limit = limit;
+}) (limit_of (first_of (codes "limit") rows))
 
 -- the names that check works on, and whether IN has the fixed format
 pub record CheckNames : Type 0 where

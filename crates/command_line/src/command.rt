@@ -2,7 +2,7 @@
 ghost use Rattle.std.specs.Prelude.{◌≡◌, ◌≢◌, [], Err, false, IfOk, OnOk, OnErr};
 ghost use Rattle.clap.specs.Words.{app_of, kind_of, rule_of, subcommand_rows_of};
 ghost use Rattle.clap.specs.declared.builder.command.Command.TheViews.{out-Command};
-ghost use Rattle.command_line.specs.Line.{check_app, faults, first_app, flag_rule, found_in, is_taken, limited_app, line_app, number_rule, postsolve_app, postsolve_words, presolve_app, presolve_words, texts, word_rule};
+ghost use Rattle.command_line.specs.Line.{check_app, dual_app, faults, first_app, flag_rule, found_in, is_taken, limited_app, line_app, number_rule, postsolve_app, postsolve_words, presolve_app, presolve_words, texts, word_rule};
 
 use crate::reading::{MOST_RECORDS, Refusal};
 use clap::builder::ValueParser;
@@ -55,12 +55,20 @@ fn limited<'a>(alloc: Global) -> Result<Command<'a>, AllocError>
     presolve_words(alloc)?.arg(number(alloc, "limit", MOST_RECORDS))
 }
 
+#[tactic(auto, unfolding(crate::specs::Line::dual_app))]
+fn with_dual<'a>(alloc: Global) -> Result<Command<'a>, AllocError>
+    ensures app { IfOk result (λ command. app_of command ≡ dual_app) }
+    ensures local { IfOk result (λ command. (out-Command command).has_globals ≡ false) }
+{
+    limited(alloc)?.arg(flag(alloc, "dual"))
+}
+
 #[tactic(auto, unfolding(crate::specs::Line::presolve_app))]
 fn presolve<'a>(alloc: Global) -> Result<Command<'a>, AllocError>
     ensures app { IfOk result (λ command. app_of command ≡ presolve_app) }
     ensures local { IfOk result (λ command. (out-Command command).has_globals ≡ false) }
 {
-    limited(alloc)?
+    with_dual(alloc)?
         .arg(flag(alloc, "fractions"))?
         .arg(flag(alloc, "fixed"))
 }

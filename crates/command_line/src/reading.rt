@@ -15,6 +15,8 @@ pub const MOST_RECORDS: u64 = 1_000_000_000;
 /// The options of `presolve`.
 #[derive(Clone, Copy, Debug, PartialEq, Eq)]
 pub struct PresolveOptions {
+    /// A solution with duals can be brought back too; every column has to be continuous.
+    pub dual: bool,
     /// Numbers that are no decimal numbers are taken and written too, as `n/d`.
     pub fractions: bool,
     /// IN has the fixed format.
@@ -127,6 +129,7 @@ fn options(found: &ArgMatches) -> Option<PresolveOptions>
 {
     let limit = limit(found)?;
     Some(PresolveOptions {
+        dual: is_given(found, "dual"),
         fractions: is_given(found, "fractions"),
         fixed: is_given(found, "fixed"),
         limit,

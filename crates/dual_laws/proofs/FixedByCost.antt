@@ -11,6 +11,8 @@ use Rattle.lp_model.specs.Edits.{with_bounds}
 use Rattle.lp_model.specs.EndTests.{is_apart, is_place}
 use Rattle.lp_columns.specs.FixedByCost.{GoesDown, GoesUp, IsFixedByCost}
 use Rattle.lp_columns.proofs.FixedByCost.{fixed_by_cost}
+use Rattle.postsolve_dual.specs.LiftPair.{undone_pair}
+use Rattle.pair_laws.proofs.ColumnPairs.{cost_pair}
 use Rattle.problem_model.specs.declared.edit.Edit.TheVariants.{SetBounds}
 use Rattle.problem_model.specs.declared.part.Contents.{Contents}
 use Rattle.problem_model.specs.declared.part.Contents.TheVariants as holding
@@ -25,7 +27,7 @@ use Rattle.rule_words.specs.Reading.{sides_of, terms_in}
 use Rattle.rule_words.proofs.Coefficients.{end_live}
 use Rattle.rule_words.proofs.EndTestsSay.{not_true, apart_ends, Finite, finite_end}
 use Rattle.rule_words.proofs.Named.{one_on, none_on, one_sided, nothing}
-use Rattle.edit_laws.proofs.Reducing.{by_edits}
+use Rattle.edit_laws.proofs.Reducing.{by_edits, pairs_by_edits}
 use Rattle.dual_laws.specs.FixedByCost.{goes_down, goes_up, is_fixed_by_cost, enabled, end_kept, place_of, edits, record_of}
 use Rattle.dual_laws.specs.Locks.{all_take, are_uncrossed, sides_on, takes_down, takes_up}
 use Rattle.dual_laws.proofs.Locks.{cost_live, no_down_lock, no_up_lock}
@@ -126,6 +128,8 @@ owes p j s e = let r = said p j e in let w : Number = unwrap_or (place_of p j) z
   ordered = tt;
   reduces = by_edits p (edits p j) (with_bounds (shown p) j (Some w) (Some w)) (λ x. x) zero_ℚ s (r.live, tt)
       (ap (λ (o : Option Number). with_bounds (shown p) j o o) r.place) nothing (fixed_by_cost (shown p) j w (shows p j s r));
+  pairs = λ continuous. pairs_by_edits p (edits p j) (with_bounds (shown p) j (Some w) (Some w)) (undone_pair (record_of p j)) s (r.live, tt)
+      (ap (λ (o : Option Number). with_bounds (shown p) j o o) r.place) (cost_pair (shown p) j w (shows p j s r));
   sided = λ numbers h. one_sided (SetBounds j (place_of p j) (place_of p j)) tt;
   sound = column_inside p j r.live;
   names = (none_on p.matrix.rows, one_on p.matrix.columns j r.live);

@@ -1,5 +1,5 @@
 -- What holds since a read holds since before it: a read changes nothing that is told, and counts never fall.
-use Rattle.std.proofs.Common.{◌≡◌, ℕ, ◌≤◌, List, length, Option, Some, None, arith, sym, subst}
+use Rattle.std.proofs.Common.{◌≡◌, ℕ, ◌≤◌, List, length, Option, Some, None, arith, subst}
 use Rattle.file_ports.specs.Ports.{Moment, Told, Rose, Gives, IsLonger}
 use Rattle.lp_model.specs.ProgramData.{ProgramData}
 use Rattle.mps_profile.specs.Reading.{first_fault}

@@ -1,8 +1,9 @@
 -- What is said of the text of a program: what it gives, or its first fault.
-use Rattle.std.specs.Prelude.{◌≡◌, ◌⊎◌, ℕ, List, [], ◌∷◌, ◌++◌, codes, Some, None}
+use Rattle.std.specs.Prelude.{◌≡◌, ◌⊎◌, ℕ, List, [], ◌∷◌, ◌++◌, codes, Some, None, slice_index_or}
 use Rattle.std.specs.Fmt.{decimal}
 use Rattle.file_ports.specs.Ports.{Moment}
 use Rattle.lp_model.specs.ProgramData.{ProgramData}
+use Rattle.lp_model.specs.Names.{names_of_columns}
 use Rattle.mps_profile.specs.Faults.{number_of_kind}
 use Rattle.mps_profile.specs.Program.{program_of}
 use Rattle.mps_profile.specs.Reading.{first_fault}
@@ -23,3 +24,7 @@ abbrev pub SaysFaultOf : ℕ → Dialect → List ℕ → List ℕ → Moment �
 SaysFaultOf limit dialect name said before now =
     ((fault : MpsFault) × Reads limit (before.told name) (λ text. first_fault dialect text ≡ Some (fault.kind, fault.line)) × (said ≡ fault_text fault))
     ⊎ (IsOverlong limit name before now × (said ≡ codes "error M17" ++ 10 ∷ []))
+
+-- the name of a column, if there is one of this id
+abbrev pub column_text : ProgramData → ℕ → List ℕ
+column_text program j = slice_index_or (names_of_columns program.columns) j []

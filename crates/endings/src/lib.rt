@@ -4,11 +4,13 @@
 //! name a fault of a text that a file holds.
 #![tactic(auto)]
 
+mod continuity;
 mod dialects;
 mod ending;
 mod faults;
 mod reads;
 
+pub use continuity::{not_continuous_text, push_column};
 pub use dialects::{dialect_of, format_of};
 pub use ending::Ending;
 pub use faults::{fault_line, solution_fault_line};

@@ -73,6 +73,7 @@ pub fn run<R: Eprint>(
     let options = Options {
         numbers: dialect.numbers,
         limit: words.options.limit,
+        dual: words.options.dual,
     };
     match read_mps(alloc, text, dialect) {
         Ok(program) => run_program(rt, alloc, &program, &options, words, is_shown),

@@ -93,6 +93,7 @@ pub fn read<'a>(alloc: Global, words: &'a [String]) -> Result<Words<'a>, Refusal
     Ok(Words {
         input,
         options: PresolveOptions {
+            dual: false,
             fractions: is_given(&found, "fractions"),
             fixed: is_given(&found, "fixed"),
             limit: limit_in(&found),

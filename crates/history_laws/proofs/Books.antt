@@ -2,9 +2,13 @@
 use Rattle.std.proofs.Common.{◌≡◌, ℕ, ◌+◌, ◌<◌, true, List, [], ◌∷◌, ◌++◌, length, Option, Some, None, IfSome, sym, ap, ap₂, ◌∙◌, subst, arith, length-append}
 use Rattle.rational.specs.Number.{◌-ℚ◌}
 use Rattle.lp_model.specs.declared.program.Sense.TheVariants.{Min}
-use Rattle.lp_model.specs.Reductions.{Reduces}
+use Rattle.lp_model.specs.Optimality.{Continuous}
+use Rattle.lp_model.specs.Reductions.{Reduces, ReducesPairs}
 use Rattle.undo_records.specs.Lift.{lift}
+use Rattle.undo_records.specs.declared.undo.Undo.{Undo}
+use Rattle.postsolve_dual.specs.LiftPair.{lift_pair}
 use Rattle.problem_model.specs.Showing.{shown}
+use Rattle.problem_model.specs.Sparse.{Sparse}
 use Rattle.problem_model.specs.declared.part.Read.{Read}
 use Rattle.presolve_model.specs.declared.instance.Reduction.{Reduction}
 use Rattle.presolve_model.specs.declared.instance.Verdict.{Verdict}
@@ -25,7 +29,7 @@ use Rattle.presolve_model.specs.Tallies.{AreCountsOf}
 use Rattle.presolve_model.proofs.ByCases.{records_tallied, tallied_long}
 use Rattle.presolve_model.proofs.Tabled.{enabled_by, same_size}
 use Rattle.history_laws.specs.Meanings.{Means}
-use Rattle.history_laws.proofs.Histories.{history_reduces, replay_grows, replays_grow, records_grow}
+use Rattle.history_laws.proofs.Histories.{history_reduces, history_pairs, replay_grows, replays_grow, records_grow}
 use Rattle.history_laws.proofs.Keeping.{verdict_means}
 
 -- one reduction more
@@ -66,6 +70,11 @@ reduces_of b s = subst (λ q. Reduces Min (shown b.start) (shown q) (lift b.reco
     (subst (λ us. Reduces Min (shown b.start) (shown (replay b.start b.history)) (lift us) ((replay b.start b.history).offset -ℚ b.start.offset)) (sym s.records)
     (history_reduces b.numbers b.start b.history s.sound s.replays))
 
+pairs_of : (b : Ledger) → Stands b → Continuous (shown b.start) → ReducesPairs Min (shown b.start) (shown b.problem) (lift_pair b.records)
+pairs_of b s continuous = subst (λ (q : Sparse). ReducesPairs Min (shown b.start) (shown q) (lift_pair b.records)) (sym s.problem)
+    (subst (λ (us : List Undo). ReducesPairs Min (shown b.start) (shown (replay b.start b.history)) (lift_pair us)) (sym s.records)
+    (history_pairs b.numbers b.start b.history s.sound s.replays continuous))
+
 verdict_of : (b : Ledger) → Stands b → IfSome b.verdict (λ v. Meant v Min (shown b.start))
 verdict_of b s = by b.verdict s.verdict
   where
@@ -74,4 +83,4 @@ verdict_of b s = by b.verdict s.verdict
     by (Some v) e = verdict_means b.numbers b.start b.history v s.sound s.replays (subst (λ q. enabled_on q (at.Verdict v) ≡ true) s.problem e)
 
 pub book_means : (b : Ledger) → Stands b → Means b
-book_means b s = record { reduces = reduces_of b s; verdict = verdict_of b s }
+book_means b s = record { reduces = reduces_of b s; pairs = pairs_of b s; verdict = verdict_of b s }

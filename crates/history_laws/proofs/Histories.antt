@@ -6,6 +6,7 @@ use Rattle.fractions.specs.declared.Numbers.{Numbers}
 use Rattle.lp_model.specs.declared.program.Sense.TheVariants.{Min}
 use Rattle.lp_model.specs.Reductions.{Reduces}
 use Rattle.lp_theory.proofs.Steps.{compose, same_points}
+use Rattle.pair_laws.proofs.Joining.{none, first}
 use Rattle.undo_records.specs.Lift.{lift, undone}
 use Rattle.problem_model.specs.Sparse.{Sparse}
 use Rattle.problem_model.specs.Showing.{shown}
@@ -13,8 +14,8 @@ use Rattle.presolve_model.specs.declared.instance.Reduction.{Reduction}
 use Rattle.presolve_model.specs.Changes.{changed, added}
 use Rattle.presolve_model.specs.Tables.{record_of}
 use Rattle.presolve_model.specs.Replay.{replay, records, Replays, CanApply}
-use Rattle.presolve_model.specs.Laws.{HistoryReduces}
-use Rattle.presolve_model.proofs.Tabled.{reduces_changed, adds, sound_changed}
+use Rattle.presolve_model.specs.Laws.{HistoryReduces, HistoryReducesPairs}
+use Rattle.presolve_model.proofs.Tabled.{reduces_changed, pairs_changed, continuous_changed, adds, sound_changed}
 
 pub history_reduces : HistoryReduces
 history_reduces numbers p [] s h = subst (λ k. Reduces Min (shown p) (shown p) (λ x. x) k) (ring rational (p.offset ∷ []) (num (pos 0)) (v 0 :- v 0) refl)
@@ -26,6 +27,13 @@ history_reduces numbers p (r ∷ rs) s h =
     (ap (λ o. added r p +ℚ (e.offset -ℚ o)) (adds p r) ∙ ring rational (e.offset ∷ p.offset ∷ added r p ∷ []) (v 2 :+ (v 0 :- (v 1 :+ v 2))) (v 0 :- v 1) refl)
     (compose Min (shown p) (shown q) (shown e) (undone (record_of r p)) (lift (records q rs)) (added r p) (e.offset -ℚ q.offset)
     (reduces_changed p r s h.0.enabled) (history_reduces numbers q rs (sound_changed p r s h.0.enabled) h.1))
+
+pub history_pairs : HistoryReducesPairs
+history_pairs numbers p [] s h continuous = none Min (shown p)
+history_pairs numbers p (r ∷ rs) s h continuous =
+    let q : Sparse = changed r p in
+    first Min (shown p) (shown q) (shown (replay q rs)) (record_of r p) (records q rs) (pairs_changed p r s h.0.enabled continuous)
+    (history_pairs numbers q rs (sound_changed p r s h.0.enabled) h.1 (continuous_changed p r s h.0.enabled continuous))
 
 -- ---- one reduction more
 pub replay_grows : (p : Sparse) (rs : List Reduction) (r : Reduction) → replay p (rs ++ r ∷ []) ≡ changed r (replay p rs)

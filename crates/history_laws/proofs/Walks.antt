@@ -1,28 +1,34 @@
--- What was walked reduces the program, and its records are sound.
-use Rattle.std.proofs.Common.{◌≡◌, ℕ, suc, ◌+◌, ◌<◌, Bool, true, false, All, List, [], ◌∷◌, length, map, replicate, sym, refl, ap, ap₂, ◌∙◌, subst, pos, if◌then◌else◌, drop, get_or, arith}
+-- What was walked reduces the program, with duals too where no column has to be whole, and its records are sound.
+use Rattle.std.proofs.Common.{◌≡◌, ℕ, suc, nat_eq, ◌+◌, ◌<◌, Bool, true, false, All, List, [], ◌∷◌, length, map, replicate, sym, refl, ap, ap₂, ◌∙◌, subst, pos, if◌then◌else◌, drop, get_or, arith}
 use Rattle.std.proofs.lemmas.List.{length-map}
 use Rattle.std.proofs.lemmas.Bool.{true≢false}
 use Rattle.rational.specs.Ring.{ring, v, num, ◌:+◌, ◌:-◌}
-use Rattle.rational.specs.Number.{Number, rational, zero_ℚ, ◌+ℚ◌, ◌-ℚ◌}
+use Rattle.rational.specs.Number.{Number, rational, zero_ℚ, neg_ℚ, ◌+ℚ◌, ◌-ℚ◌}
+use Rattle.rational.specs.Total.{put}
 use Rattle.fractions.specs.declared.Numbers.{Numbers}
-use Rattle.lp_model.specs.declared.program.Sense.TheVariants.{Min}
+use Rattle.lp_model.specs.declared.program.Sense.{Sense}
+use Rattle.lp_model.specs.declared.program.Sense.TheVariants.{Min, Max}
 use Rattle.lp_model.specs.declared.program.ColumnDef.{ColumnDef}
 use Rattle.lp_model.specs.ProgramData.{ProgramData}
 use Rattle.lp_model.specs.Meaning.{meaning}
 use Rattle.lp_model.specs.LinearProgram.{LinearProgram}
 use Rattle.lp_model.specs.Vectors.{Vector}
-use Rattle.lp_model.specs.Reductions.{Reduces}
+use Rattle.lp_model.specs.Optimality.{Continuous}
+use Rattle.lp_model.specs.Reductions.{Priced, Reduces, ReducesPairs}
 use Rattle.lp_model.specs.Writable.{EntriesAscend}
-use Rattle.lp_model.specs.Turning.{minimizing, signed}
-use Rattle.lp_passages.specs.Renumbering.{spread}
-use Rattle.lp_theory.proofs.Steps.{compose}
-use Rattle.lp_passages.proofs.Turns.{reduces_in}
+use Rattle.lp_model.specs.Turning.{in_sense, minimizing, signed, turned}
+use Rattle.lp_passages.specs.Renumbering.{spread, spread_pair}
+use Rattle.lp_theory.proofs.Steps.{compose, compose_pairs}
+use Rattle.lp_passages.proofs.Turns.{pairs_in, reduces_in}
+use Rattle.pair_laws.proofs.SenseLaws.{agreeing}
 use Rattle.undo_records.specs.Postsolve.{Postsolve}
 use Rattle.undo_records.specs.Lift.{lift}
+use Rattle.postsolve_dual.specs.LiftPair.{lift_pair}
 use Rattle.undo_records.specs.Sound.{IsSound}
 use Rattle.lp_model.specs.Flags.{Flags}
 use Rattle.undo_records.specs.Walk.{Walks, AreSound, all_live, flags_of as told_flags}
 use Rattle.undo_records.specs.declared.label.Label.{Label}
+use Rattle.undo_records.specs.declared.undo.Undo.{Undo}
 use Rattle.problem_model.specs.Flags.{flags_of}
 use Rattle.problem_model.specs.Matrices.{line_at}
 use Rattle.problem_model.specs.Sparse.{Sparse}
@@ -31,11 +37,12 @@ use Rattle.problem_model.specs.Problems.{IsSparse}
 use Rattle.problem_model.specs.Programs.{IsProblemOf, line_of, written_program, live_ids, live_ids_from}
 use Rattle.problem_model.specs.Showing.{shown}
 use Rattle.presolve_model.specs.Replay.{replay, records, Replays}
-use Rattle.presolve_model.specs.Accounts.{Walked, ReducesTo, live_labels_from, postsolved}
+use Rattle.presolve_model.specs.Accounts.{Walked, ReducesPairsTo, ReducesTo, at_original_ids, live_labels_from, postsolved, postsolved_pair}
 use Rattle.program_laws.specs.Shapes.{IsOf}
 use Rattle.program_laws.proofs.ProblemsShow.{problem_shows_program}
-use Rattle.program_laws.proofs.WrittenShow.{written_points}
-use Rattle.history_laws.proofs.Histories.{history_reduces}
+use Rattle.program_laws.proofs.Negating.{neg_zero}
+use Rattle.program_laws.proofs.WrittenShow.{written_pairs, written_points}
+use Rattle.history_laws.proofs.Histories.{history_pairs, history_reduces}
 use Rattle.history_laws.proofs.Keeping.{records_sound, records_walk, sparse_replay}
 use Rattle.history_laws.proofs.Sizes.{replay_size}
 
@@ -82,6 +89,67 @@ walked_reduces numbers program reduced told asc w =
     subst (λ k. Reduces program.sense (meaning program) (meaning reduced) (postsolved told) k) (sym w.offset)
     (reduces_in program.sense (meaning program) (meaning reduced) (postsolved told) _
     (in_min numbers program reduced told asc w))
+
+-- ---- pairs
+-- a program without whole columns has none as it is minimized
+continuous_minimizing : (d : Sense) (M : LinearProgram) → Continuous M → Continuous (minimizing d M)
+continuous_minimizing Min M h = h
+continuous_minimizing Max M h = h
+
+-- numbers negated and placed are placed and negated
+put_negated : (f : Vector) (i : ℕ) (a : Number) (k : ℕ) → put (λ j. neg_ℚ (f j)) i (neg_ℚ a) k ≡ neg_ℚ (put f i a k)
+unfolding put
+put_negated f i a k = by (nat_eq k i)
+  where
+    by : (b : Bool) → (if b then neg_ℚ a else neg_ℚ (f k)) ≡ neg_ℚ (if b then a else f k)
+    by true = refl
+    by false = refl
+
+spread_negated : (ids : List ℕ) (x : Vector) (k : ℕ) → spread ids (λ j. neg_ℚ (x j)) k ≡ neg_ℚ (spread ids x k)
+spread_negated [] x k = sym neg_zero
+spread_negated (i ∷ ids) x k =
+    ap (λ (f : Vector). put f i (neg_ℚ (x 0)) k) (λ t j. spread_negated ids (λ a. x (suc a)) j t) ∙ put_negated (spread ids (λ a. x (suc a))) i (x 0) k
+
+turned_placed : (rows columns : List ℕ) (p : Priced) → spread_pair rows columns (turned p) ≡ turned (spread_pair rows columns p)
+turned_placed rows columns p = λ t. record { x = spread columns p.x; y = λ i. spread_negated rows p.y i t; z = λ j. spread_negated columns p.z j t }
+
+-- placed in the file's sense, or in the minimizing one
+placed_in : (d : Sense) (us : List Undo) (rows columns : List ℕ) (p : Priced)
+    → in_sense d (lift_pair us) (spread_pair rows columns p) ≡ in_sense d (λ q. lift_pair us (spread_pair rows columns q)) p
+placed_in Min us rows columns p = refl
+placed_in Max us rows columns p = ap (λ (q : Priced). turned (lift_pair us q)) (sym (turned_placed rows columns p))
+
+pairs_in_min : (numbers : Numbers) (program reduced : ProgramData) (told : Postsolve) (w : Walked numbers program reduced told) → Continuous (meaning program)
+    → ReducesPairs Min (minimizing program.sense (meaning program)) (minimizing program.sense (meaning reduced)) (λ p. lift_pair told.undos (at_original_ids told p))
+pairs_in_min numbers program reduced told w continuous =
+    let p : Sparse = w.start in
+    let q : Sparse = replay p w.history in
+    let rows : List ℕ = live_ids q.matrix.rows in
+    let columns : List ℕ = live_ids q.matrix.columns in
+    let first : LinearProgram = minimizing program.sense (meaning program) in
+    let last : LinearProgram = minimizing program.sense (meaning (written_program program q)) in
+    let size = replay_size p w.history in
+    let sparse : IsSparse q = sparse_replay numbers p w.history w.opened.sound w.replays in
+    let shows : shown p ≡ first = problem_shows_program program p w.opened in
+    let whole = compose_pairs Min (shown p) (shown q) last (lift_pair (records p w.history)) (spread_pair rows columns)
+    (history_pairs numbers p w.history w.opened.sound w.replays (subst Continuous (sym shows) (continuous_minimizing program.sense (meaning program) continuous)))
+    (written_pairs program q sparse (is_of program p q w.opened size.rows size.columns size.constant)) in
+    let from = subst (λ (M : LinearProgram). ReducesPairs Min M last (λ x. lift_pair (records p w.history) (spread_pair rows columns x))) shows whole in
+    let to = subst (λ (r : ProgramData). ReducesPairs Min first (minimizing program.sense (meaning r)) (λ x. lift_pair (records p w.history) (spread_pair rows columns x))) (sym w.written) from in
+    let named = subst (λ (us : List Undo). ReducesPairs Min first (minimizing program.sense (meaning reduced)) (λ x. lift_pair us (spread_pair rows columns x))) (sym w.undos) to in
+    subst (λ (ks : List ℕ). ReducesPairs Min first (minimizing program.sense (meaning reduced)) (λ x. lift_pair told.undos (spread_pair ks (live_labels_from 0 told.columns) x)))
+    (sym (same_ids 0 told.rows q.matrix.rows w.rows))
+    (subst (λ (ks : List ℕ). ReducesPairs Min first (minimizing program.sense (meaning reduced)) (λ x. lift_pair told.undos (spread_pair rows ks x)))
+    (sym (same_ids 0 told.columns q.matrix.columns w.columns)) named)
+
+pub walked_pairs : (numbers : Numbers) (program reduced : ProgramData) (told : Postsolve) → Walked numbers program reduced told → told.sense ≡ program.sense → Continuous (meaning program) → ReducesPairsTo program reduced told
+walked_pairs numbers program reduced told w same continuous =
+    subst (λ (d : Sense). ReducesPairs program.sense (meaning program) (meaning reduced) (λ p. in_sense d (lift_pair told.undos) (at_original_ids told p))) (sym same)
+    (agreeing program.sense (meaning program) (meaning reduced)
+    (λ p. in_sense program.sense (lift_pair told.undos) (at_original_ids told p)) (in_sense program.sense (λ q. lift_pair told.undos (at_original_ids told q)))
+    (placed_in program.sense told.undos (live_labels_from 0 told.rows) (live_labels_from 0 told.columns))
+    (pairs_in program.sense (meaning program) (meaning reduced) (λ q. lift_pair told.undos (at_original_ids told q))
+    (pairs_in_min numbers program reduced told w continuous)))
 
 -- ---- the records are sound
 rows_on : (lines : List Line) → ((i : ℕ) → i < length lines → (line_at lines i).live ≡ true) → map (λ l. l.live) lines ≡ replicate (length lines) true

@@ -2,6 +2,8 @@
 
 ghost use Rattle.std.specs.Prelude.{◌≡◌, List, [], ◌∷◌, ◌++◌, length, All, Option};
 ghost use Rattle.fractions.specs.declared.Numbers.{Numbers};
+ghost use Rattle.lp_model.specs.Meaning.{meaning};
+ghost use Rattle.lp_model.specs.Optimality.{Continuous};
 ghost use Rattle.lp_model.specs.ProgramData.{ProgramData};
 ghost use Rattle.lp_model.specs.Writable.{EntriesAscend};
 ghost use Rattle.undo_records.specs.Postsolve.{Postsolve};
@@ -9,13 +11,13 @@ ghost use Rattle.undo_records.specs.Sound.{IsSound};
 ghost use Rattle.undo_records.specs.Walk.{AreSound, Walks};
 ghost use Rattle.presolve_model.specs.declared.instance.Reduction.{Reduction};
 ghost use Rattle.presolve_model.specs.declared.outcome.Outcome.{Outcome};
-ghost use Rattle.presolve_model.specs.Accounts.{ReducesTo, Walked};
+ghost use Rattle.presolve_model.specs.Accounts.{ReducesPairsTo, ReducesTo, Walked};
 ghost use Rattle.presolve_model.specs.Changes.{changed};
 ghost use Rattle.presolve_model.specs.Commits.{Allows, left_by};
 ghost use Rattle.presolve_model.specs.Enabled.{Enabled};
 ghost use Rattle.problem_model.specs.Flags.{flags_of};
 ghost use Rattle.presolve_model.specs.Given.{Proposed};
-ghost use Rattle.presolve_model.specs.Laws.{HistoryReduces, VerdictMeans};
+ghost use Rattle.presolve_model.specs.Laws.{HistoryReduces, HistoryReducesPairs, VerdictMeans};
 ghost use Rattle.presolve_model.specs.Ledger.{Ledger, Stands};
 ghost use Rattle.problem_model.specs.Problems.{IsSparse};
 ghost use Rattle.presolve_model.specs.Tables.{record_of};
@@ -25,9 +27,11 @@ ghost use Rattle.presolve_model.specs.Worlds.{AreProposals, Happening, opened, R
 ghost use Rattle.problem_model.specs.Writing.{IsWritable};
 ghost use Rattle.history_laws.specs.Meanings.{Means};
 
-/// A history reduces the linear program that is shown, and a verdict after it means before it what it says.
+/// A history reduces the linear program that is shown, with duals too where no column is whole, and a verdict after it means before it what it
+/// says.
 pub fn histories_reduce()
     ensures reduces { HistoryReduces }
+    ensures pairs { HistoryReducesPairs }
     ensures verdict { VerdictMeans }
 {}
 
@@ -54,9 +58,11 @@ pub fn books_stand()
     ensures commits { (b : Ledger) (p : Proposed) (o : Outcome) → Stands b → Enabled p.instance p.reading → Allows b p o → Stands (left_by b p o) }
 {}
 
-/// What was walked reduces the program as the records and the offset say, and the records are sound.
+/// What was walked reduces the program as the records and the offset say, with duals too where no column has to be whole, and the records are
+/// sound.
 pub fn walks_reduce()
     ensures reduces { (numbers : Numbers) (program reduced : ProgramData) (told : Postsolve) → EntriesAscend program → Walked numbers program reduced told → ReducesTo program reduced told }
+    ensures pairs { (numbers : Numbers) (program reduced : ProgramData) (told : Postsolve) → Walked numbers program reduced told → told.sense ≡ program.sense → Continuous (meaning program) → ReducesPairsTo program reduced told }
     ensures sound { (numbers : Numbers) (program reduced : ProgramData) (told : Postsolve) → Walked numbers program reduced told → AreSound told }
 {}
 

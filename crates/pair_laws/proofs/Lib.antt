@@ -4,5 +4,8 @@ pub mod ForcedLaws
 pub mod RowLaws
 pub mod ColumnLaws
 pub mod SenseLaws
+pub mod RowPairs
+pub mod ColumnPairs
 pub mod Pricing
 pub mod Joining
+pub mod PointsOfPairs

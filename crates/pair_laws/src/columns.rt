@@ -25,9 +25,7 @@ ghost use Rattle.pair_laws.specs.Records.{fixed_column, round_bounds, dual_fix, 
 /// K3: a fixed column of a program without whole columns; the list has the column's entries.
 pub fn fixed_columns_keep_pairs()
     ensures { (M : LinearProgram) (j : ℕ) (v : Number) (ts : List Term) → Continuous M → IsFixedColumn M j v → Ascends 0 M.rows ts → dense ts ≡ (λ i. M.coefficient i j) → ReducesPairs Min M (fixed_column_deleted M j v) (undone_pair (fixed_column M j v ts)) }
-{
-    lp_columns::laws::fixed_columns_reduce();
-}
+{}
 
 /// K4: rounded bounds. Their column has to be whole, so that nothing meets the optimality conditions.
 pub fn rounded_bounds_keep_pairs()
@@ -39,27 +37,19 @@ pub fn placed_columns_keep_pairs()
     ensures cost { (M : LinearProgram) (j : ℕ) (v : Number) → IsFixedByCost M j v → ReducesPairs Min M (column_fixed_by_cost M j v) (undone_pair (dual_fix j)) }
     ensures dominated { (M : LinearProgram) (i j k : ℕ) (v : Number) → IsDominatedColumn M j k v → ReducesPairs Min M (dominated_column_fixed M k v) (undone_pair (dominated_column i j k)) }
     ensures empty { (M : LinearProgram) (j : ℕ) (v : Number) → IsEmptyColumn M j v → ReducesPairs Min M (empty_column_fixed M j v) (undone_pair (empty_column j)) }
-{
-    lp_columns::laws::columns_fixed_by_cost_reduce();
-    lp_columns::laws::dominated_columns_reduce();
-    lp_columns::laws::empty_columns_reduce();
-}
+{}
 
 /// K12: an equation of two columns; the list has the other entries of the one that was deleted.
 pub fn equations_keep_pairs()
     ensures { (M : LinearProgram) (i j k : ℕ) (r : Number) (ts : List Term) → IsDoubletonEquation M i j k r → Ascends 0 M.rows ts → dense ts ≡ put (λ m. M.coefficient m j) i zero_ℚ
         → ReducesPairs Min M (doubleton_substituted M i j k r) (undone_pair (doubleton M i j k r ts)) }
-{
-    lp_substitutions::doubleton_equations_reduce();
-}
+{}
 
 /// K13: a column with one entry that was deleted with its row; the list has the row's other entries.
 pub fn free_singletons_keep_pairs()
     ensures { (M : LinearProgram) (j i : ℕ) (s : Number) (ts : List Term) → IsFreeColumnSingleton M j i s → Ascends 0 M.columns ts → dense ts ≡ put (M.coefficient i) j zero_ℚ
         → ReducesPairs Min M (free_column_deleted M j i) (undone_pair (free_singleton M j i s ts)) }
-{
-    lp_substitutions::free_column_singletons_reduce();
-}
+{}
 
 /// K14: a column with one entry, a slack of its row; the list has the row's other entries.
 pub fn slack_singletons_keep_pairs()
@@ -67,13 +57,9 @@ pub fn slack_singletons_keep_pairs()
         → ReducesPairs Min M (slack_column_deleted M j i) (undone_pair (slack_singleton M j i Kept ts)) }
     ensures dropped { (M : LinearProgram) (j i : ℕ) (ts : List Term) → IsRowLeftFree M j i → Ascends 0 M.columns ts → dense ts ≡ put (M.coefficient i) j zero_ℚ
         → ReducesPairs Min M (slack_row_deleted M j i) (undone_pair (slack_singleton M j i Dropped ts)) }
-{
-    lp_substitutions::slack_column_singletons_reduce();
-}
+{}
 
 /// K16: a column that was merged into one that it is a multiple of.
 pub fn parallel_columns_keep_pairs()
     ensures { (M : LinearProgram) (j k : ℕ) (s : Number) → AreParallelColumns M j k s → ReducesPairs Min M (parallel_columns_joined M j k s) (undone_pair (parallel_columns M j k s)) }
-{
-    lp_columns::laws::parallel_columns_reduce();
-}
+{}

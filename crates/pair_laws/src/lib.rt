@@ -17,6 +17,7 @@ ghost use Rattle.lp_model.specs.declared.program.Sense.{Sense};
 ghost use Rattle.lp_model.specs.Reductions.{IsPriced, Priced, ReducesPairs};
 ghost use Rattle.lp_model.specs.Vectors.{Vector, vector_of};
 ghost use Rattle.undo_records.specs.declared.undo.Undo.{Undo};
+ghost use Rattle.undo_records.specs.Lift.{lift, undone};
 ghost use Rattle.lp_rows.specs.EmptyRow.{undo_empty_row};
 ghost use Rattle.lp_rows.specs.RedundantRow.{undo_redundant_row};
 ghost use Rattle.lp_rows.specs.SingletonRow.{undo_singleton_row};
@@ -143,4 +144,11 @@ pub fn lifts_of_pairs_join()
     ensures none { (s : Sense) (M : LinearProgram) → ReducesPairs s M M (lift_pair []) }
     ensures first { (s : Sense) (M N R : LinearProgram) (u : Undo) (us : List Undo) → ReducesPairs s M N (undone_pair u) → ReducesPairs s N R (lift_pair us) → ReducesPairs s M R (lift_pair (u ∷ us)) }
     ensures last { (s : Sense) (M N R : LinearProgram) (u : Undo) (us : List Undo) → ReducesPairs s M N (lift_pair us) → ReducesPairs s N R (undone_pair u) → ReducesPairs s M R (lift_pair (us ++ u ∷ [])) }
+{}
+
+/// The point of a pair is undone, and lifted, as it is by itself: its duals do not matter.
+#[tactic(auto, using(crate::proofs::PointsOfPairs::points_of_pairs))]
+pub fn points_of_pairs_are_lifted()
+    ensures undone { (u : Undo) (p : Priced) → (undone_pair u p).x ≡ undone u p.x }
+    ensures lifted { (us : List Undo) (p : Priced) → (lift_pair us p).x ≡ lift us p.x }
 {}

@@ -24,38 +24,25 @@ pub fn deleted_rows_keep_pairs()
     ensures empty { (M : LinearProgram) (i : ℕ) → IsEmptyRow M i → ReducesPairs Min M (empty_row_deleted M i) (undone_pair (empty_row i)) }
     ensures singleton { (M : LinearProgram) (i j : ℕ) → IsSingletonRow M i j → ReducesPairs Min M (singleton_row_met M i j) (undone_pair (singleton_row M i j)) }
     ensures redundant { (M : LinearProgram) (i : ℕ) → IsRedundantRow M i → ReducesPairs Min M (redundant_row_deleted M i) (undone_pair (redundant_row i)) }
-{
-    lp_rows::empty_rows_reduce();
-    lp_rows::singleton_rows_reduce();
-    lp_rows::redundant_rows_reduce();
-}
+{}
 
 /// K6: sides that were dropped.
 pub fn dropped_sides_keep_pairs()
     ensures lower { (M : LinearProgram) (i : ℕ) → IsRedundantLowerSide M i → ReducesPairs Min M (lower_side_dropped M i) (undone_pair (redundant_side i)) }
     ensures upper { (M : LinearProgram) (i : ℕ) → IsRedundantUpperSide M i → ReducesPairs Min M (upper_side_dropped M i) (undone_pair (redundant_side i)) }
-{
-    lp_rows::redundant_lower_sides_reduce();
-    lp_rows::redundant_upper_sides_reduce();
-}
+{}
 
 /// K7: forcing rows; the list has the row's entries.
 pub fn forcing_rows_keep_pairs()
     ensures lower { (M : LinearProgram) (i : ℕ) (ts : List Term) → IsForcedAtLowerSide M i → Ascends 0 M.columns ts → dense ts ≡ M.coefficient i → ReducesPairs Min M (forced_at_lower_side M i) (undone_pair (forcing_row i Lower ts)) }
     ensures upper { (M : LinearProgram) (i : ℕ) (ts : List Term) → IsForcedAtUpperSide M i → Ascends 0 M.columns ts → dense ts ≡ M.coefficient i → ReducesPairs Min M (forced_at_upper_side M i) (undone_pair (forcing_row i Upper ts)) }
-{
-    lp_rows::rows_forced_at_the_lower_side_reduce();
-    lp_rows::rows_forced_at_the_upper_side_reduce();
-}
+{}
 
 /// K8: tightened bounds; the list has the row's entries.
 pub fn tightened_bounds_keep_pairs()
     ensures lower { (M : LinearProgram) (i j : ℕ) (ts : List Term) → IsTighterLowerBound M i j → dense ts ≡ M.coefficient i → ReducesPairs Min M (lower_bound_tightened M i j) (undone_pair (tighten_lower_bound M i j ts)) }
     ensures upper { (M : LinearProgram) (i j : ℕ) (ts : List Term) → IsTighterUpperBound M i j → dense ts ≡ M.coefficient i → ReducesPairs Min M (upper_bound_tightened M i j) (undone_pair (tighten_upper_bound M i j ts)) }
-{
-    lp_rows::tightened_lower_bounds_reduce();
-    lp_rows::tightened_upper_bounds_reduce();
-}
+{}
 
 /// K9: a tightened coefficient. Its column has to be whole, so that nothing meets the optimality conditions.
 pub fn tightened_coefficients_keep_pairs()
@@ -65,6 +52,4 @@ pub fn tightened_coefficients_keep_pairs()
 /// K15: parallel rows; the list has the entries of the row that was kept.
 pub fn parallel_rows_keep_pairs()
     ensures { (M : LinearProgram) (i k : ℕ) (s : Number) (ts : List Term) → AreParallelRows M i k s → Ascends 0 M.columns ts → dense ts ≡ M.coefficient k → ReducesPairs Min M (parallel_rows_joined M i k s) (undone_pair (parallel_rows M i k s ts)) }
-{
-    lp_rows::parallel_rows_reduce();
-}
+{}

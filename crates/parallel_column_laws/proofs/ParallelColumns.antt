@@ -17,7 +17,7 @@ use Rattle.lp_model.specs.declared.program.Sense.TheVariants.{Min}
 use Rattle.lp_model.specs.declared.terms.Term.{Term}
 use Rattle.lp_model.specs.EndTests.{is_broken, is_in_order}
 use Rattle.lp_model.specs.LinearProgram.{LinearProgram}
-use Rattle.lp_model.specs.Reductions.{Reduces}
+use Rattle.lp_model.specs.Reductions.{Reduces, ReducesPairs}
 use Rattle.lp_model.specs.Sparse.{Ascends, dense}
 use Rattle.lp_model.specs.Vectors.{Vector}
 use Rattle.lp_theory.specs.Activities.{greatest_term, least_term}
@@ -30,6 +30,11 @@ use Rattle.undo_records.specs.Near.{near, near_within}
 use Rattle.undo_records.specs.ParallelColumns.{part}
 use Rattle.undo_records.specs.Lift.{undone}
 use Rattle.undo_records.specs.Ids.{is_on}
+use Rattle.undo_records.specs.declared.undo.Undo.{Undo}
+use Rattle.undo_records.specs.declared.undo.Undo.TheVariants.{ParallelColumns}
+use Rattle.postsolve_dual.specs.LiftPair.{undone_pair}
+use Rattle.pair_laws.specs.Records as records
+use Rattle.pair_laws.proofs.ColumnPairs.{parallel_columns_pair}
 use Rattle.problem_model.specs.declared.edit.Edit.TheVariants.{DeleteColumn, SetBounds}
 use Rattle.problem_model.specs.declared.part.Contents.{Contents}
 use Rattle.problem_model.specs.declared.part.Contents.TheVariants as holding
@@ -42,7 +47,7 @@ use Rattle.problem_model.specs.Sparse.{Sparse}
 use Rattle.problem_laws.proofs.AtIds.{column_inside}
 use Rattle.problem_laws.proofs.Entries.{column_entries-ascend}
 use Rattle.problem_laws.proofs.Terms.{dense-cons_other, dense-cons_same}
-use Rattle.edit_laws.proofs.Reducing.{by_edits}
+use Rattle.edit_laws.proofs.Reducing.{by_edits, pairs_by_edits}
 use Rattle.rule_words.specs.Entries.{has_none}
 use Rattle.rule_words.specs.Owed.{Owes}
 use Rattle.rule_words.proofs.Coefficients.{coefficient_in_column, end_live}
@@ -312,6 +317,22 @@ module _ (p : Sparse) (sp : IsSparse p) (j k : ℕ) (f : SaidAt p j k) where
   reduces = by_edits p (edits p j k) (parallel_columns_joined M j k q) (undone (record_of p j k)) zero_ℚ sp (f.second_live, (f.first_live, tt)) shows nothing_twice
       (subst (λ (g : Vector → Vector). Reduces Min M (parallel_columns_joined M j k q) g zero_ℚ) undone_is (parallel_columns M j k q are_parallel Min))
 
+  -- the record holds what is shown
+  record_is : records.parallel_columns M j k q ≡ record_of p j k
+  record_is z = ParallelColumns (record {
+    column = j;
+    kept = k;
+    factor = q;
+    lower = lower_of j f.first_live z;
+    upper = upper_of j f.first_live z;
+    kept_lower = lower_of k f.second_live z;
+    kept_upper = upper_of k f.second_live z;
+  })
+
+  pairs : ReducesPairs Min M (shown (committed p (edits p j k))) (undone_pair (record_of p j k))
+  pairs = pairs_by_edits p (edits p j k) (parallel_columns_joined M j k q) (undone_pair (record_of p j k)) sp (f.second_live, (f.first_live, tt)) shows
+      (subst (λ (u : Undo). ReducesPairs Min M (parallel_columns_joined M j k q) (undone_pair u)) record_is (parallel_columns_pair M j k q are_parallel))
+
   columns_on : All (λ c. is_on (lives p.matrix.columns) c ≡ true) (j ∷ k ∷ [])
   columns_on = All-cons (λ c. is_on (lives p.matrix.columns) c ≡ true) j (k ∷ [])
       (All-head (λ c. is_on (lives p.matrix.columns) c ≡ true) j [] (one_on p.matrix.columns j f.first_live)) (one_on p.matrix.columns k f.second_live)
@@ -321,6 +342,7 @@ module _ (p : Sparse) (sp : IsSparse p) (j k : ℕ) (f : SaidAt p j k) where
     allowed = (f.second_live, (f.first_live, tt));
     ordered = tt;
     reduces = reduces;
+    pairs = λ continuous. pairs;
     sided = λ numbers h. two_sided (SetBounds k (joined_lower p j k) (joined_upper p j k)) (DeleteColumn j) tt tt;
     sound = ((column_inside p j f.first_live, column_inside p k f.second_live, f.differ), factor_some);
     names = (none_on p.matrix.rows, columns_on);

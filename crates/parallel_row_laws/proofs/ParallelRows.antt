@@ -1,5 +1,5 @@
 -- K15.
-use Rattle.std.proofs.Common.{◌≡◌, ◌≢◌, ℕ, Bool, true, false, not, ◌&&◌, nat_eq, List, [], ◌∷◌, Option, Some, None, refl, sym, ap, ap₂, ◌∙◌}
+use Rattle.std.proofs.Common.{◌≡◌, ◌≢◌, ℕ, Bool, true, false, not, ◌&&◌, nat_eq, List, [], ◌∷◌, Option, Some, None, refl, sym, ap, ap₂, ◌∙◌, subst}
 use Rattle.std.specs.Prelude.{if◌then◌else◌}
 use Rattle.std.specs.List.{All}
 use Rattle.std.proofs.lemmas.Bool.{and_parts, eq-eqb}
@@ -11,7 +11,7 @@ use Rattle.lp_model.specs.declared.terms.Term.{Term}
 use Rattle.lp_model.specs.Edits.{with_sides, without_row}
 use Rattle.lp_model.specs.Ends.{IsSided}
 use Rattle.lp_model.specs.LinearProgram.{LinearProgram}
-use Rattle.lp_model.specs.Reductions.{Reduces}
+use Rattle.lp_model.specs.Reductions.{Reduces, ReducesPairs}
 use Rattle.lp_model.specs.Sparse.{dense}
 use Rattle.lp_theory.specs.MetEnds.{lower_over, upper_over}
 use Rattle.lp_rows.specs.ParallelRows.{AreParallelRows, parallel_rows_joined, shared_lower, shared_upper}
@@ -19,6 +19,11 @@ use Rattle.lp_rows.proofs.ParallelRows.{parallel_rows}
 use Rattle.fractions.specs.declared.Numbers.{Numbers}
 use Rattle.undo_records.specs.Lift.{undone}
 use Rattle.undo_records.specs.Ids.{is_on}
+use Rattle.undo_records.specs.declared.undo.Undo.{Undo}
+use Rattle.undo_records.specs.declared.undo.Undo.TheVariants.{ParallelRows}
+use Rattle.postsolve_dual.specs.LiftPair.{undone_pair}
+use Rattle.pair_laws.specs.Records as records
+use Rattle.pair_laws.proofs.RowPairs.{parallel_rows_pair}
 use Rattle.problem_model.specs.declared.edit.Edit.TheVariants.{DeleteRow, SetSides}
 use Rattle.problem_model.specs.declared.part.Contents.TheVariants as holding
 use Rattle.problem_model.specs.Allowed.{AreAllowed}
@@ -31,10 +36,10 @@ use Rattle.problem_model.specs.Sparse.{Sparse}
 use Rattle.problem_model.specs.Writing.{KeptSides}
 use Rattle.problem_laws.proofs.AtIds.{row_inside}
 use Rattle.problem_laws.proofs.Entries.{row_entries-ascend}
-use Rattle.edit_laws.proofs.Reducing.{by_edits}
+use Rattle.edit_laws.proofs.Reducing.{by_edits, pairs_by_edits}
 use Rattle.rule_words.specs.Entries.{has_none}
 use Rattle.rule_words.specs.Owed.{Owes}
-use Rattle.rule_words.proofs.Coefficients.{coefficient_in_row}
+use Rattle.rule_words.proofs.Coefficients.{coefficient_in_row, end_live}
 use Rattle.rule_words.proofs.EndTestsSay.{not_true}
 use Rattle.rule_words.proofs.Named.{ids_on, lives, nothing_twice, one_on, two_sided}
 use Rattle.row_spans.specs.Exact.{fits}
@@ -140,6 +145,22 @@ module _ (p : Sparse) (sp : IsSparse p) (i k : ℕ) (f : SaidAt p i k) where
   reduces : Reduces Min M (shown (committed p (edits p i k))) (undone (record_of p i k)) (added_by (edits p i k))
   reduces = by_edits p (edits p i k) (parallel_rows_joined M i k q) (λ x. x) zero_ℚ sp allowed joined nothing_twice (parallel_rows M i k q are_parallel Min)
 
+  -- ---- the record holds what is shown
+  record_is : records.parallel_rows M i k q us ≡ record_of p i k
+  record_is z = ParallelRows (record {
+    row = i;
+    kept = k;
+    factor = q;
+    lower = end_live (row_at p k).live (sides_at p k).lower f.second_live z;
+    upper = end_live (row_at p k).live (sides_at p k).upper f.second_live z;
+    entries = us;
+  })
+
+  pairs : ReducesPairs Min M (shown (committed p (edits p i k))) (undone_pair (record_of p i k))
+  pairs = pairs_by_edits p (edits p i k) (parallel_rows_joined M i k q) (undone_pair (record_of p i k)) sp allowed joined
+      (subst (λ (u : Undo). ReducesPairs Min M (parallel_rows_joined M i k q) (undone_pair u)) record_is
+      (parallel_rows_pair M i k q us are_parallel (row_entries-ascend p k sp) (λ z j. sym (in_row k j f.second_live) z)))
+
   -- ---- what the record names
   rows_on : All (λ r. is_on (lives p.matrix.rows) r ≡ true) (i ∷ k ∷ [])
   rows_on = All-cons (λ r. is_on (lives p.matrix.rows) r ≡ true) i (k ∷ [])
@@ -150,6 +171,7 @@ module _ (p : Sparse) (sp : IsSparse p) (i k : ℕ) (f : SaidAt p i k) where
     allowed = allowed;
     ordered = tt;
     reduces = reduces;
+    pairs = λ continuous. pairs;
     sided = λ numbers h. two_sided (SetSides k (joined_lower p i k) (joined_upper p i k)) (DeleteRow i)
         (met_sided numbers (sides_at p k).lower (sides_at p k).upper (lower_over q (sides_at p i).lower (sides_at p i).upper) (upper_over q (sides_at p i).lower (sides_at p i).upper) (h.rows k f.second_live)) tt;
     sound = ((row_inside p i f.first_live, row_inside p k f.second_live, f.differ), factor_some, row_entries-ascend p k sp);

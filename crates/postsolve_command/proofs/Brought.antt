@@ -5,20 +5,18 @@ use Rattle.rational.specs.Number.{Number}
 use Rattle.file_ports.specs.Ports.{Moment}
 use Rattle.command_line.specs.Line.{PostsolveNames}
 use Rattle.lp_model.specs.ProgramData.{ProgramData}
-use Rattle.lp_model.specs.Names.{names_of_columns}
 use Rattle.mps_profile.specs.Reading.{first_fault}
-use Rattle.point_text.specs.Reading as solutions
 use Rattle.record_reader.specs.Reading as record_texts
 use Rattle.undo_records.specs.Postsolve.{Postsolve}
 use Rattle.endings.specs.Moments.{Finds, IsThere, Reads}
 use Rattle.endings.specs.ProgramTexts.{IsProgramOf}
-use Rattle.endings.specs.SolutionTexts.{IsPointOf, SaysSolutionFault}
+use Rattle.endings.specs.SolutionTexts.{IsPairOf, SaysPairFault, fault_of}
 use Rattle.endings.specs.declared.reads.TheConstants.{SOLUTION_LIMIT}
 use Rattle.endings.proofs.Earlier.{finds_there, given_reads}
 use Rattle.postsolve_command.specs.RecordTexts.{AreRecordsOf, SaysRecordFault}
 use Rattle.postsolve_command.specs.Lifted.{GivesTexts}
-use Rattle.postsolve_command.specs.Given.{FaultsMatch, FaultsProgram, FaultsRecords, FaultsSolution, GivesPoint, GivesProgram, GivesRecords, IfFound, reduced_dialect}
-use Rattle.postsolve_command.specs.Postsolved.{AreFound, AreMatched, AreRecordsIn, IsBrought, IsPointIn, IsProgramIn, RefusesProgram}
+use Rattle.postsolve_command.specs.Given.{FaultsDuals, FaultsMatch, FaultsProgram, FaultsRecords, FaultsSolution, GivesPair, GivesProgram, GivesRecords, IfFound, reduced_dialect}
+use Rattle.postsolve_command.specs.Postsolved.{AreFound, AreGiven, AreMatched, AreRead, AreRecordsIn, IsBrought, IsPairIn, IsProgramIn, RefusesProgram}
 use Rattle.postsolve_command.specs.declared.given.TheConstants.{PROGRAM_LIMIT, RECORDS_LIMIT}
 use Rattle.postsolve_command.specs.declared.given.Found.{Found}
 use Rattle.postsolve_command.specs.declared.lifted.Texts.{Texts}
@@ -39,9 +37,9 @@ pub records_given : (names : PostsolveNames) (before now : Moment) (found : Opti
     → Finds RECORDS_LIMIT names.records before now found → IfFound found (λ text. AreRecordsOf text records) → AreRecordsIn names before records
 records_given names before now found records finds has = found_reads RECORDS_LIMIT names.records before now found (λ text. AreRecordsOf text records) finds has
 
-pub point_given : (names : PostsolveNames) (before now : Moment) (found : Option (List ℕ)) (program : ProgramData) (point : List Number)
-    → Finds SOLUTION_LIMIT names.solution before now found → IfFound found (λ text. IsPointOf program text point) → IsPointIn names before program point
-point_given names before now found program point finds has = found_reads SOLUTION_LIMIT names.solution before now found (λ text. IsPointOf program text point) finds has
+pub pair_given : (names : PostsolveNames) (before now : Moment) (found : Option (List ℕ)) (program : ProgramData) (point : List Number) (duals : Option (List Number))
+    → Finds SOLUTION_LIMIT names.solution before now found → IfFound found (λ text. IsPairOf program text point duals) → IsPairIn names before program point duals
+pair_given names before now found program point duals finds has = found_reads SOLUTION_LIMIT names.solution before now found (λ text. IsPairOf program text point duals) finds has
 
 program_line : (names : PostsolveNames) (before now : Moment) (found : Option (List ℕ)) (said : List ℕ)
     → Finds PROGRAM_LIMIT names.program before now found → FaultsProgram found said → RefusesProgram names said before now
@@ -71,7 +69,7 @@ pub records_refused : (names : PostsolveNames) (before now : Moment) (found : Op
     → Finds RECORDS_LIMIT names.records before now found
     → IsProgramIn names before program → GivesRecords found (Err refusal) → IsBrought names (Err refusal) before now
 records_refused names before now found program (Program line) finds read gives = absurd gives
-records_refused names before now found program (Records line) finds read gives = (program, read, inl (records_line names before now found line.items finds gives))
+records_refused names before now found program (Records line) finds read gives = inl (program, read, inl (records_line names before now found line.items finds gives))
 records_refused names before now found program (Solution line) finds read gives = absurd gives
 records_refused names before now found program (Stopped line) finds read gives = absurd gives
 records_refused names before now found program NoMemory finds read gives = tt
@@ -80,41 +78,49 @@ pub match_refused : (names : PostsolveNames) (before now : Moment) (program : Pr
     → IsProgramIn names before program → AreRecordsIn names before records
     → FaultsMatch records program refusal → IsBrought names (Err refusal) before now
 match_refused names before now program records (Program line) read held gives = absurd gives
-match_refused names before now program records (Records line) read held gives = (program, read, inr (records, held, gives.0, gives.1))
+match_refused names before now program records (Records line) read held gives = inl (program, read, inr (records, held, gives.0, gives.1))
 match_refused names before now program records (Solution line) read held gives = absurd gives
 match_refused names before now program records (Stopped line) read held gives = absurd gives
 match_refused names before now program records NoMemory read held gives = tt
 
-point_line : (names : PostsolveNames) (before now : Moment) (found : Option (List ℕ)) (program : ProgramData) (said : List ℕ)
+pair_line : (names : PostsolveNames) (before now : Moment) (found : Option (List ℕ)) (program : ProgramData) (said : List ℕ)
     → Finds SOLUTION_LIMIT names.solution before now found
     → FaultsSolution program found said
-    → SaysSolutionFault program names.solution said before now
-point_line names before now None program said finds says = inr (finds, says)
-point_line names before now (Some text) program said finds says =
+    → SaysPairFault program names.solution said before now
+pair_line names before now None program said finds says = inr (finds, says)
+pair_line names before now (Some text) program said finds says =
     let fault = says.0 in
-    inl (fault, given_reads SOLUTION_LIMIT (before.told names.solution) text (λ t. solutions.first_fault (names_of_columns program.columns) t ≡ Some (fault.kind, fault.line)) finds.0 finds.1 says.1, says.2)
+    inl (fault, given_reads SOLUTION_LIMIT (before.told names.solution) text (λ t. fault_of program t ≡ Some (fault.kind, fault.line)) finds.0 finds.1 says.1, says.2)
 
-pub point_refused : (names : PostsolveNames) (before now : Moment) (found : Option (List ℕ)) (program : ProgramData) (records : Postsolve) (refusal : Refusal)
+pub pair_refused : (names : PostsolveNames) (before now : Moment) (found : Option (List ℕ)) (program : ProgramData) (records : Postsolve) (refusal : Refusal)
     → Finds SOLUTION_LIMIT names.solution before now found
-    → AreMatched names before program records → GivesPoint program found (Err refusal) → IsBrought names (Err refusal) before now
-point_refused names before now found program records (Program line) finds read gives = absurd gives
-point_refused names before now found program records (Records line) finds read gives = absurd gives
-point_refused names before now found program records (Solution line) finds read gives =
-    (program, records, read, point_line names before now found program line.items finds gives)
-point_refused names before now found program records (Stopped line) finds read gives = absurd gives
-point_refused names before now found program records NoMemory finds read gives = tt
+    → AreMatched names before program records → GivesPair program found (Err refusal) → IsBrought names (Err refusal) before now
+pair_refused names before now found program records (Program line) finds read gives = absurd gives
+pair_refused names before now found program records (Records line) finds read gives = absurd gives
+pair_refused names before now found program records (Solution line) finds read gives =
+    (program, records, read, pair_line names before now found program line.items finds gives)
+pair_refused names before now found program records (Stopped line) finds read gives = absurd gives
+pair_refused names before now found program records NoMemory finds read gives = tt
 
-pub brought : (names : PostsolveNames) (before now : Moment) (program : ProgramData) (records : Postsolve) (point : List Number) (result : Result Texts Refusal)
-    → AreMatched names before program records → IsPointIn names before program point
-    → GivesTexts records point result → IsBrought names result before now
-brought names before now program records point (Ok texts) read held gives =
-    record { records = records; point = point; given = record { program = program; read = read; point_text = held }; texts = gives }
-brought names before now program records point (Err (Program line)) read held gives = absurd gives
-brought names before now program records point (Err (Records line)) read held gives = absurd gives
-brought names before now program records point (Err (Solution line)) read held gives = absurd gives
-brought names before now program records point (Err (Stopped line)) read held gives =
-    record { records = records; point = point; given = record { program = program; read = read; point_text = held }; stops = gives }
-brought names before now program records point (Err NoMemory) read held gives = tt
+pub duals_refused : (names : PostsolveNames) (before now : Moment) (program : ProgramData) (records : Postsolve) (point : List Number) (duals : Option (List Number)) (refusal : Refusal)
+    → AreRead names before program records point duals → FaultsDuals records duals refusal → IsBrought names (Err refusal) before now
+duals_refused names before now program records point duals (Program line) read gives = absurd gives
+duals_refused names before now program records point duals (Records line) read gives =
+    inr (record { program = program; records = records; point = point; duals = duals; read = read; leaves = gives.0; says = gives.1 })
+duals_refused names before now program records point duals (Solution line) read gives = absurd gives
+duals_refused names before now program records point duals (Stopped line) read gives = absurd gives
+duals_refused names before now program records point duals NoMemory read gives = tt
+
+pub brought : (names : PostsolveNames) (before now : Moment) (program : ProgramData) (records : Postsolve) (point : List Number) (duals : Option (List Number)) (result : Result Texts Refusal)
+    → AreGiven names before program records point duals → GivesTexts records program point duals result → IsBrought names result before now
+brought names before now program records point duals (Ok texts) given gives =
+    record { program = program; records = records; point = point; duals = duals; given = given; texts = gives }
+brought names before now program records point duals (Err (Program line)) given gives = absurd gives
+brought names before now program records point duals (Err (Records line)) given gives = absurd gives
+brought names before now program records point duals (Err (Solution line)) given gives = absurd gives
+brought names before now program records point duals (Err (Stopped line)) given gives =
+    record { program = program; records = records; point = point; duals = duals; given = given; stops = gives }
+brought names before now program records point duals (Err NoMemory) given gives = tt
 
 -- an error that was handed on is that error
 pub handed_on : (names : PostsolveNames) (before now : Moment) (result : Result Texts Refusal) (given refusal : Refusal) → result ≡ Err given → given ≡ refusal

@@ -1,21 +1,20 @@
 -- What the bytes that reads found give, by text; none where they are more than is read.
-use Rattle.std.specs.Prelude.{◌≡◌, ℕ, List, [], ◌∷◌, ◌++◌, codes, Option, Some, None, Result, Ok, Err}
+use Rattle.std.specs.Prelude.{◌≡◌, ℕ, true, false, List, [], ◌∷◌, ◌++◌, codes, Option, Some, None, Result, Ok, Err}
 use Rattle.rational.specs.Number.{Number}
 use Rattle.fractions.specs.declared.Numbers.TheVariants.{Fractions}
 use Rattle.lp_model.specs.ProgramData.{ProgramData}
-use Rattle.lp_model.specs.Names.{names_of_columns}
+use Rattle.lp_model.specs.declared.point.Pair.{Pair}
 use Rattle.mps_profile.specs.Reading.{first_fault}
 use Rattle.mps_profile.specs.declared.dialect.Dialect.{Dialect}
 use Rattle.mps_profile.specs.declared.dialect.Format.TheVariants.{Free}
 use Rattle.mps_reader.specs.declared.faults.MpsFault.{MpsFault}
-use Rattle.point_text.specs.Reading as solutions
 use Rattle.point_text.specs.declared.faults.SolFault.{SolFault}
 use Rattle.record_reader.specs.Reading as record_texts
 use Rattle.record_reader.specs.declared.faults.RecordFault.{RecordFault}
 use Rattle.record_reader.specs.Matching.{Matches}
 use Rattle.undo_records.specs.Postsolve.{Postsolve}
 use Rattle.endings.specs.ProgramTexts.{IsProgramOf, fault_text}
-use Rattle.endings.specs.SolutionTexts.{IsPointOf, solution_fault_text}
+use Rattle.endings.specs.SolutionTexts.{IsPairOf, fault_of, solution_fault_text}
 use Rattle.postsolve_command.specs.RecordTexts.{AreRecordsOf, record_fault_text}
 use Rattle.postsolve_command.specs.declared.refusal.Refusal.{Refusal}
 use Rattle.postsolve_command.specs.declared.refusal.Refusal.TheVariants.{Program, Records, Solution, NoMemory}
@@ -65,11 +64,32 @@ Fitting records program (Err refusal) = FaultsMatch records program refusal
 abbrev pub FaultsSolution : ProgramData → Option (List ℕ) → List ℕ → Type 0
 FaultsSolution program None said = said ≡ codes "error S6" ++ 10 ∷ []
 FaultsSolution program (Some text) said =
-    (fault : SolFault) × (solutions.first_fault (names_of_columns program.columns) text ≡ Some (fault.kind, fault.line)) × (said ≡ solution_fault_text fault)
+    (fault : SolFault) × (fault_of program text ≡ Some (fault.kind, fault.line)) × (said ≡ solution_fault_text fault)
 
--- the point, or the line that refuses the solution
-abbrev pub GivesPoint : ProgramData → Option (List ℕ) → Result (List Number) Refusal → Type 0
-GivesPoint program found (Ok point) = IfFound found (λ text. IsPointOf program text point)
-GivesPoint program found (Err (Solution line)) = FaultsSolution program found line.items
-GivesPoint program found (Err NoMemory) = Unit {0}
-GivesPoint program found (Err other) = ⊥
+-- the point and the duals, or the line that refuses the solution
+abbrev pub GivesPair : ProgramData → Option (List ℕ) → Result Pair Refusal → Type 0
+GivesPair program found (Ok pair) = IfFound found (λ text. IsPairOf program text pair.point pair.duals)
+GivesPair program found (Err (Solution line)) = FaultsSolution program found line.items
+GivesPair program found (Err NoMemory) = Unit {0}
+GivesPair program found (Err other) = ⊥
+
+-- the records undo duals, where there are any
+abbrev pub UndoesThem : Postsolve → Option (List Number) → Type 0
+UndoesThem records None = Unit {0}
+UndoesThem records (Some duals) = records.duals ≡ true
+
+-- there are duals that the records don't undo
+abbrev pub LeavesThem : Postsolve → Option (List Number) → Type 0
+LeavesThem records None = ⊥
+LeavesThem records (Some duals) = records.duals ≡ false
+
+-- the line that refuses duals that the records don't undo
+abbrev pub FaultsDuals : Postsolve → Option (List Number) → Refusal → Type 0
+FaultsDuals records duals (Records line) = LeavesThem records duals × (line.items ≡ codes "error F7" ++ 10 ∷ [])
+FaultsDuals records duals NoMemory = Unit {0}
+FaultsDuals records duals other = ⊥
+
+-- the records undo duals, where there are any, or the line that refuses them
+abbrev pub Undoing : {T : Type 0} → Postsolve → Option (List Number) → Result T Refusal → Type 0
+Undoing records duals (Ok done) = UndoesThem records duals
+Undoing records duals (Err refusal) = FaultsDuals records duals refusal

@@ -1,5 +1,5 @@
 -- What an ending of a postsolve says of the files before and after it.
-use Rattle.std.specs.Prelude.{◌≡◌, ◌≢◌, ◌⊎◌, ◌==◌, ℕ, List, [], ◌∷◌, ◌++◌, codes, option_map, Result, Ok, Err}
+use Rattle.std.specs.Prelude.{◌≡◌, ◌≢◌, ◌⊎◌, ◌==◌, ℕ, List, [], ◌∷◌, ◌++◌, codes, Option, option_map, Result, Ok, Err}
 use Rattle.rational.specs.Number.{Number}
 use Rattle.file_ports.specs.Ports.{Moment, Unsettled, KeepsOthers, Written}
 use Rattle.command_line.specs.Line.{PostsolveNames}
@@ -9,11 +9,11 @@ use Rattle.record_reader.specs.Matching.{Matches}
 use Rattle.endings.specs.Ending.{When, no_memory_line, read_fault_line, write_fault_line}
 use Rattle.endings.specs.Moments.{FailsToRead, FailsToWrite, Finds, IsQuiet, IsThere, Reads}
 use Rattle.endings.specs.ProgramTexts.{IsProgramOf, SaysFaultOf}
-use Rattle.endings.specs.SolutionTexts.{IsPointOf, SaysSolutionFault}
+use Rattle.endings.specs.SolutionTexts.{IsPairOf, SaysPairFault}
 use Rattle.endings.specs.declared.reads.TheConstants.{SOLUTION_LIMIT}
 use Rattle.postsolve_command.specs.RecordTexts.{AreRecordsOf, SaysRecordFault}
 use Rattle.postsolve_command.specs.Lifted.{AreTexts, Stops}
-use Rattle.postsolve_command.specs.Given.{reduced_dialect}
+use Rattle.postsolve_command.specs.Given.{LeavesThem, UndoesThem, reduced_dialect}
 use Rattle.postsolve_command.specs.declared.given.TheConstants.{PROGRAM_LIMIT, RECORDS_LIMIT}
 use Rattle.postsolve_command.specs.declared.given.Found.{Found}
 use Rattle.postsolve_command.specs.declared.lifted.Texts.{Texts}
@@ -34,9 +34,9 @@ IsProgramIn names before program = Reads PROGRAM_LIMIT (before.told names.progra
 abbrev pub AreRecordsIn : PostsolveNames → Moment → Postsolve → Type 0
 AreRecordsIn names before records = Reads RECORDS_LIMIT (before.told names.records) (λ text. AreRecordsOf text records)
 
--- SOL has no fault, and this is its point for a program
-abbrev pub IsPointIn : PostsolveNames → Moment → ProgramData → List Number → Type 0
-IsPointIn names before program point = Reads SOLUTION_LIMIT (before.told names.solution) (λ text. IsPointOf program text point)
+-- SOL has no fault, and this is its point for a program, with these duals, if it has duals
+abbrev pub IsPairIn : PostsolveNames → Moment → ProgramData → List Number → Option (List Number) → Type 0
+IsPairIn names before program point duals = Reads SOLUTION_LIMIT (before.told names.solution) (λ text. IsPairOf program text point duals)
 
 -- OUT and REC have no fault, and the records are those of the program
 pub record AreMatched (names : PostsolveNames) (before : Moment) (program : ProgramData) (records : Postsolve) : Type 0 where
@@ -44,51 +44,74 @@ pub record AreMatched (names : PostsolveNames) (before : Moment) (program : Prog
   pub records_text : AreRecordsIn names before records
   pub matched : Matches records program
 
--- neither has SOL, and these are the records and the point
-pub record AreGiven (names : PostsolveNames) (before : Moment) (records : Postsolve) (point : List Number) : Type 0 where
-  pub program : ProgramData
-  pub read : AreMatched names before program records
-  pub point_text : IsPointIn names before program point
+-- neither has SOL, and this is its point, with these duals, if it has duals
+pub record AreRead (names : PostsolveNames) (before : Moment) (program : ProgramData) (records : Postsolve) (point : List Number) (duals : Option (List Number)) : Type 0 where
+  pub matched : AreMatched names before program records
+  pub pair_text : IsPairIn names before program point duals
 
--- the texts of the point that SOL's point is brought back to
+-- so it is, and the records undo the duals
+pub record AreGiven (names : PostsolveNames) (before : Moment) (program : ProgramData) (records : Postsolve) (point : List Number) (duals : Option (List Number)) : Type 0 where
+  pub read : AreRead names before program records point duals
+  pub undoes : UndoesThem records duals
+
+-- the texts of what SOL's point, with its duals, is brought back to
 pub record AreLifted (names : PostsolveNames) (result printed : List ℕ) (before : Moment) : Type 0 where
+  pub program : ProgramData
   pub records : Postsolve
   pub point : List Number
-  pub given : AreGiven names before records point
-  pub texts : AreTexts records point result printed
+  pub duals : Option (List Number)
+  pub given : AreGiven names before program records point duals
+  pub texts : AreTexts records program point duals result printed
 
--- SOL's point can't be brought back, and the record at which the lift stops is named
+-- SOL's point, with its duals, can't be brought back, and the record at which the lift stops is named, or the column whose reduced
+-- cost has no room
 pub record IsStopped (names : PostsolveNames) (said : List ℕ) (before : Moment) : Type 0 where
+  pub program : ProgramData
   pub records : Postsolve
   pub point : List Number
-  pub given : AreGiven names before records point
-  pub stops : Stops records point said
+  pub duals : Option (List Number)
+  pub given : AreGiven names before program records point duals
+  pub stops : Stops records program point duals said
 
 -- this is said of OUT's text
 abbrev pub RefusesProgram : PostsolveNames → List ℕ → Moment → Moment → Type 0
 RefusesProgram names said before now = SaysFaultOf PROGRAM_LIMIT reduced_dialect names.program said before now
 
 -- OUT has no fault, and this is said of REC's text: its fault, or that the records are not those of the program
-abbrev pub RefusesRecords : PostsolveNames → List ℕ → Moment → Moment → Type 0
-RefusesRecords names said before now = (program : ProgramData) × IsProgramIn names before program
+abbrev pub RefusesTexts : PostsolveNames → List ℕ → Moment → Moment → Type 0
+RefusesTexts names said before now = (program : ProgramData) × IsProgramIn names before program
     × (SaysRecordFault names.records said before now
     ⊎ ((records : Postsolve) × AreRecordsIn names before records × (Matches records program → ⊥) × (said ≡ codes "error F5" ++ 10 ∷ [])))
+
+-- none of the three texts has a fault, and SOL has duals that the records don't undo
+pub record RefusesDuals (names : PostsolveNames) (said : List ℕ) (before : Moment) : Type 0 where
+  pub program : ProgramData
+  pub records : Postsolve
+  pub point : List Number
+  pub duals : Option (List Number)
+  pub read : AreRead names before program records point duals
+  pub leaves : LeavesThem records duals
+  pub says : said ≡ codes "error F7" ++ 10 ∷ []
+
+-- what is said of the records
+abbrev pub RefusesRecords : PostsolveNames → List ℕ → Moment → Moment → Type 0
+RefusesRecords names said before now = RefusesTexts names said before now ⊎ RefusesDuals names said before
 
 -- OUT and REC have no fault and go together, and this is said of SOL's text
 abbrev pub RefusesPoint : PostsolveNames → List ℕ → Moment → Moment → Type 0
 RefusesPoint names said before now = (program : ProgramData) × (records : Postsolve) × AreMatched names before program records
-    × SaysSolutionFault program names.solution said before now
+    × SaysPairFault program names.solution said before now
 
 -- what is made of the three texts
 abbrev pub IsBrought : PostsolveNames → Result Texts Refusal → Moment → Moment → Type 0
-IsBrought names (Ok texts) before now = AreLifted names texts.result.items texts.line.items before
+IsBrought names (Ok texts) before now = AreLifted names texts.result.items texts.printed.items before
 IsBrought names (Err (Program line)) before now = RefusesProgram names line.items before now
 IsBrought names (Err (Records line)) before now = RefusesRecords names line.items before now
 IsBrought names (Err (Solution line)) before now = RefusesPoint names line.items before now
 IsBrought names (Err (Stopped line)) before now = IsStopped names line.items before
 IsBrought names (Err NoMemory) before now = Unit {0}
 
--- RESULT holds the text of the point that SOL's point is brought back to; all other names tell what they told
+-- RESULT holds the text of what SOL's point, with its duals, is brought back to; all other names tell what they told
 pub record IsPostsolved (names : PostsolveNames) (printed : List ℕ) (before now : Moment) : Type 0 where
   pub result : List ℕ
   pub lifted : AreLifted names result printed before

@@ -11,7 +11,7 @@ ghost use Rattle.postsolve_command.specs.declared.given.TheConstants.{PROGRAM_LI
 ghost use Rattle.postsolve_command.specs.Postsolved.{AreFound, EndsPostsolve, IsBrought, IsUnread};
 
 use crate::given::{
-    Found, PROGRAM_LIMIT, RECORDS_LIMIT, point_of, program_of, records_of, see_match,
+    Found, PROGRAM_LIMIT, RECORDS_LIMIT, pair_of, program_of, records_of, see_duals, see_match,
 };
 use crate::lifted::{Texts, lifted_texts};
 use crate::refusal::Refusal;
@@ -59,8 +59,9 @@ fn bring_back(alloc: Global, found: Found) -> Result<Texts, Refusal>
     let program = program_of(alloc, program)?;
     let records = records_of(alloc, records)?;
     see_match(alloc, &records, &program)?;
-    let point = point_of(alloc, &program, solution)?;
-    lifted_texts(alloc, &program, &records, &point)
+    let pair = pair_of(alloc, &program, solution)?;
+    see_duals(alloc, &records, &pair)?;
+    lifted_texts(alloc, &program, &records, &pair)
 }
 
 /// Reads a reduced program, its records and a solution, and writes what the solution is brought back to. All that is written and
@@ -87,7 +88,7 @@ pub fn postsolve<F: Files>(
         Err(Refusal::NoMemory) => return Err(AllocError),
     };
     match files.write(words.result, &texts.result) {
-        Ok(()) => Ok(Ending::Done(texts.line)),
+        Ok(()) => Ok(Ending::Done(texts.printed)),
         Err(Failed) => Ok(Ending::WriteFault),
     }
 }

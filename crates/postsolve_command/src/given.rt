@@ -1,15 +1,16 @@
 //! What the texts of OUT, REC and SOL give.
 
 ghost use Rattle.std.specs.Prelude.{◌≡◌, ◌≤◌, length, option_map, IfOk, IfSome};
-ghost use Rattle.postsolve_command.specs.Given.{Fitting, GivesPoint, GivesProgram, GivesRecords};
+ghost use Rattle.lp_model.specs.Writable.{EntriesAscend};
+ghost use Rattle.postsolve_command.specs.Given.{Fitting, GivesPair, GivesProgram, GivesRecords, Undoing};
 ghost use Rattle.postsolve_command.specs.RecordTexts.{record_fault_text};
 
 use crate::refusal::Refusal;
 use endings::{fault_line, solution_fault_line};
 use fractions::Numbers;
-use lp_model::{Point, Program};
+use lp_model::{Pair, Program};
 use mps_reader::{Dialect, Format, MpsError, read_mps};
-use point_text::{SolError, read_solution};
+use point_text::{SolError, read_pair};
 use record_reader::{RecordError, RecordFault, matches, read_records};
 use std::alloc::{AllocError, Global};
 use undo_records::Records;
@@ -31,7 +32,8 @@ pub struct Found {
 /// The program of OUT's text, which is in the free format and has fractions.
 pub fn program_of(alloc: Global, found: Option<Vec<u8>>) -> Result<Program, Refusal>
     requires { IfSome found (λ text. length text.items ≤ PROGRAM_LIMIT) }
-    ensures { GivesProgram (option_map (λ text. text.items) found) result }
+    ensures program { GivesProgram (option_map (λ text. text.items) found) result }
+    ensures ascends { IfOk result (λ program. EntriesAscend program) }
 {
     let Some(text) = found else {
         return Err(Refusal::Program(Vec::from_slice(alloc, b"error M17\n")?));
@@ -82,16 +84,30 @@ pub fn see_match(alloc: Global, records: &Records, program: &Program) -> Result<
     Err(Refusal::Records(Vec::from_slice(alloc, b"error F5\n")?))
 }
 
-/// The point of SOL's text, by the program's column names.
-pub fn point_of(alloc: Global, program: &Program, found: Option<Vec<u8>>) -> Result<Point, Refusal>
-    ensures { GivesPoint program.now (option_map (λ text. text.items) found) result }
+/// The point of SOL's text, and its duals if it has duals, by the program's names.
+pub fn pair_of(alloc: Global, program: &Program, found: Option<Vec<u8>>) -> Result<Pair, Refusal>
+    ensures pair { GivesPair program.now (option_map (λ text. text.items) found) result }
+    ensures each { IfOk result (λ pair. IfSome pair.duals (λ duals. length duals ≡ length program.now.rows)) }
 {
     let Some(text) = found else {
         return Err(Refusal::Solution(Vec::from_slice(alloc, b"error S6\n")?));
     };
-    match read_solution(alloc, &text, program) {
-        Ok(point) => Ok(point),
+    match read_pair(alloc, &text, program) {
+        Ok(pair) => Ok(pair),
         Err(SolError::Fault(fault)) => Err(Refusal::Solution(solution_fault_line(alloc, fault)?)),
         Err(SolError::NoMemory) => Err(Refusal::NoMemory),
     }
+}
+
+/// Whether the records undo duals, where there are any.
+pub fn see_duals(alloc: Global, records: &Records, pair: &Pair) -> Result<(), Refusal>
+    ensures { Undoing records.now pair.now.duals result }
+{
+    let Some(_duals) = &pair.duals else {
+        return Ok(());
+    };
+    if records.undoes_duals() {
+        return Ok(());
+    }
+    Err(Refusal::Records(Vec::from_slice(alloc, b"error F7\n")?))
 }

@@ -1,16 +1,19 @@
-//! The lift of a point, and its texts.
+//! The lift of a point, alone or with duals, and its texts.
 
-ghost use Rattle.std.specs.Prelude.{◌≡◌, ◌++◌, [], ◌∷◌, codes, length, All, IfOk};
-ghost use Rattle.std.specs.Fmt.{decimal};
+ghost use Rattle.std.specs.Prelude.{◌≡◌, ◌<◌, Some, None, length, All, IfOk, IfSome};
 ghost use Rattle.rational.specs.Lowest.{Fits};
-ghost use Rattle.point_text.specs.SolutionText.{solution_text};
+ghost use Rattle.lp_model.specs.Writable.{EntriesAscend};
+ghost use Rattle.point_text.specs.PairText.{pair_text};
+ghost use Rattle.postsolve_dual.specs.LiftPair.{lift_pair as lift_pair_of};
+ghost use Rattle.postsolve_dual.specs.Numbers.{IsSized, priced_of};
 ghost use Rattle.record_reader.specs.Matching.{Matches};
-ghost use Rattle.postsolve_command.specs.Lifted.{GivesTexts, Lifts, column_names, columns_text};
+ghost use Rattle.postsolve_command.specs.Lifted.{GivesTexts, Lifts, Starts, column_names, columns_text, counts_text, row_names, rows_text, stop_text, unpriced_text};
 
 use crate::refusal::Refusal;
 use fractions::frac::Frac;
-use lp_model::{Labels, Point, Program};
-use point_text::write_solution;
+use lp_model::{Duals, Labels, Pair, Point, Program};
+use point_text::write_pair;
+use postsolve_dual::{PairBuf, lift_pair};
 use postsolve_primal::{PointBuf, lift};
 use std::alloc::{AllocError, Global};
 use undo_records::Records;
@@ -19,15 +22,26 @@ use undo_records::Records;
 #[derive(Drop)]
 pub struct Texts {
     pub result: Vec<u8>,
-    pub line: Vec<u8>,
+    pub printed: Vec<u8>,
 }
 
 /// The line that names the record at which a lift stops.
 fn stop_line(alloc: Global, at: usize) -> Result<Vec<u8>, AllocError>
-    ensures { IfOk result (λ line. line.items ≡ codes "past record " ++ (decimal at ++ 10 ∷ [])) }
+    ensures { IfOk result (λ line. line.items ≡ stop_text at) }
 {
     let text = format!(in alloc; "past record {at}\n")?;
     Vec::from_slice(alloc, text.as_bytes())
+}
+
+/// The line that names the column whose reduced cost has no room.
+fn unpriced_line(alloc: Global, program: &Program, column: usize) -> Result<Vec<u8>, AllocError>
+    requires { column < length program.now.columns }
+    ensures { IfOk result (λ line. line.items ≡ unpriced_text program.now column) }
+{
+    let mut line = Vec::from_slice(alloc, b"past column ")?;
+    line.extend_from_slice(program.column_name(column).as_bytes())?;
+    line.extend_from_slice(b"\n")?;
+    Ok(line)
 }
 
 /// A number has room. Says so, and does nothing.
@@ -47,16 +61,84 @@ fn numbers_fit(numbers: &[Frac])
 }
 
 /// The original point that the records make of a reduced one.
-fn lifted(alloc: Global, records: &Records, point: &Point) -> Result<PointBuf, Refusal>
-    ensures { Lifts records.now point.now result }
+fn lifted_point(
+    alloc: Global,
+    program: &Program,
+    records: &Records,
+    point: &Point,
+) -> Result<Pair, Refusal>
+    ensures { Lifts records.now program.now point.now None result }
 {
     let mut buffer = PointBuf::new(alloc, records, point)?;
     match lift(records, &mut buffer) {
         Ok(()) => {
             numbers_fit(buffer.as_slice());
-            Ok(buffer)
+            Ok(Pair {
+                point: buffer.into_point(),
+                duals: None,
+            })
         }
         Err(stop) => Err(Refusal::Stopped(stop_line(alloc, stop.at)?)),
+    }
+}
+
+/// A reduced point with duals at the original ids.
+fn started_pair(
+    alloc: Global,
+    program: &Program,
+    records: &Records,
+    point: &Point,
+    duals: &Duals,
+) -> Result<PairBuf, Refusal>
+    requires each { length duals.now ≡ length program.now.rows }
+    requires ascends { EntriesAscend program.now }
+    ensures { Starts records.now program.now point.now duals.now result }
+{
+    match PairBuf::new(alloc, records, program, point, duals)? {
+        Ok(pair) => Ok(pair),
+        Err(unpriced) => {
+            let line = unpriced_line(alloc, program, unpriced.column)?;
+            Err(Refusal::Stopped(line))
+        }
+    }
+}
+
+/// The original point with duals that the records make of a reduced one.
+fn lifted_pair(
+    alloc: Global,
+    program: &Program,
+    records: &Records,
+    point: &Point,
+    duals: &Duals,
+) -> Result<Pair, Refusal>
+    requires each { length duals.now ≡ length program.now.rows }
+    requires ascends { EntriesAscend program.now }
+    ensures { Lifts records.now program.now point.now (Some duals.now) result }
+{
+    let mut buffer = started_pair(alloc, program, records, point, duals)?;
+    match lift_pair(records, &mut buffer) {
+        Ok(()) => {
+            let (point, duals) = buffer.into_parts(records.sense());
+            numbers_fit(point.as_slice());
+            numbers_fit(duals.as_slice());
+            Ok(Pair {
+                point,
+                duals: Some(duals),
+            })
+        }
+        Err(stop) => Err(Refusal::Stopped(stop_line(alloc, stop.at)?)),
+    }
+}
+
+/// What the records make of a reduced point, with its duals if it has duals.
+fn lifted(alloc: Global, program: &Program, records: &Records, pair: &Pair) -> Result<Pair, Refusal>
+    requires each { IfSome pair.now.duals (λ duals. length duals ≡ length program.now.rows) }
+    requires ascends { EntriesAscend program.now }
+    ensures { Lifts records.now program.now pair.now.point pair.now.duals result }
+{
+    match &pair.duals {
+        Some(duals) => lifted_pair(alloc, program, records, &pair.point, duals),
+        None => lifted_point(alloc, program, records, &pair.point),
     }
 }
 
@@ -71,27 +153,60 @@ fn columns_line(alloc: Global, program: &Program, records: &Records) -> Result<V
     Vec::from_slice(alloc, text.as_bytes())
 }
 
-/// The text of an original point by its names.
-#[tactic(auto, using(crate::proofs::Columns::names_counted))]
-fn result_text(alloc: Global, records: &Records, point: &[Frac]) -> Result<Vec<u8>, AllocError>
-    requires { length point.now ≡ length records.now.columns }
-    ensures { IfOk result (λ text. text.items ≡ solution_text (column_names records.now) point.now) }
+/// The line that counts the rows of the reduced program and of the original one.
+fn rows_line(alloc: Global, program: &Program, records: &Records) -> Result<Vec<u8>, AllocError>
+    requires { Matches records.now program.now }
+    ensures { IfOk result (λ line. line.items ≡ rows_text records.now) }
 {
-    write_solution(alloc, records, point)
+    let reduced = program.row_count();
+    let all = records.rows().len();
+    let text = format!(in alloc; "rows {reduced} -> {all}\n")?;
+    Vec::from_slice(alloc, text.as_bytes())
 }
 
-/// Brings a reduced point back, and makes the texts of it.
+/// The lines that count columns, and with duals rows.
+fn counts(
+    alloc: Global,
+    program: &Program,
+    records: &Records,
+    pair: &Pair,
+) -> Result<Vec<u8>, AllocError>
+    requires { Matches records.now program.now }
+    ensures { IfOk result (λ text. text.items ≡ counts_text records.now pair.now.duals) }
+{
+    let mut text = columns_line(alloc, program, records)?;
+    let Some(_duals) = &pair.duals else {
+        return Ok(text);
+    };
+    let rows = rows_line(alloc, program, records)?;
+    text.extend_from_slice(rows.as_slice())?;
+    Ok(text)
+}
+
+/// The text of an original point by its names, with its duals if it has duals.
+#[tactic(auto, using(crate::proofs::Columns::names_counted))]
+fn result_text(alloc: Global, records: &Records, pair: &Pair) -> Result<Vec<u8>, AllocError>
+    requires point { length pair.now.point ≡ length records.now.columns }
+    requires duals { IfSome pair.now.duals (λ duals. length duals ≡ length records.now.rows) }
+    ensures { IfOk result (λ text. text.items ≡ pair_text (column_names records.now) (row_names records.now) pair.now.point pair.now.duals) }
+{
+    write_pair(alloc, records, pair)
+}
+
+/// Brings a reduced point back, with its duals if it has duals, and makes the texts of it.
 pub fn lifted_texts(
     alloc: Global,
     program: &Program,
     records: &Records,
-    point: &Point,
+    pair: &Pair,
 ) -> Result<Texts, Refusal>
-    requires { Matches records.now program.now }
-    ensures { GivesTexts records.now point.now result }
+    requires matches { Matches records.now program.now }
+    requires each { IfSome pair.now.duals (λ duals. length duals ≡ length program.now.rows) }
+    requires ascends { EntriesAscend program.now }
+    ensures { GivesTexts records.now program.now pair.now.point pair.now.duals result }
 {
-    let lifted = lifted(alloc, records, point)?;
-    let result = result_text(alloc, records, lifted.as_slice())?;
-    let line = columns_line(alloc, program, records)?;
-    Ok(Texts { result, line })
+    let lifted = lifted(alloc, program, records, pair)?;
+    let result = result_text(alloc, records, &lifted)?;
+    let printed = counts(alloc, program, records, pair)?;
+    Ok(Texts { result, printed })
 }

@@ -1,8 +1,10 @@
 -- What is made of a text's program is made of the text.
-use Rattle.std.proofs.Common.{◌≡◌, ◌≤◌, ℕ, List, length, Result, Ok, Err, ◌∙◌, sym, subst}
+use Rattle.std.proofs.Common.{◌≡◌, ◌≤◌, ℕ, List, length, Result, Ok, Err, Vec, Global, ◌∙◌, sym, subst}
 use Rattle.file_ports.specs.Ports.{Told, Gives}
 use Rattle.lp_model.specs.ProgramData.{ProgramData}
+use Rattle.command_line.specs.declared.reading.PresolveOptions.{PresolveOptions}
 use Rattle.mps_profile.specs.declared.dialect.Dialect.{Dialect}
+use Rattle.endings.specs.Dialects.{dialect_of}
 use Rattle.endings.specs.Moments.{Reads}
 use Rattle.endings.specs.ProgramTexts.{IsProgramOf}
 use Rattle.endings.proofs.Earlier.{given_reads}
@@ -17,27 +19,44 @@ use Rattle.presolve_rounds.specs.declared.outcome.DecidedProgram.{DecidedProgram
 use Rattle.presolve_rounds.specs.declared.outcome.ReducedProgram.{ReducedProgram}
 use Rattle.presolve_command.specs.declared.reduce.Texts.{Texts}
 use Rattle.presolve_command.specs.declared.reduce.NotReduced.{NotReduced}
-use Rattle.presolve_command.specs.declared.reduce.NotReduced.TheVariants.{Fault, Infeasible, UnboundedOrInfeasible, NoMemory}
-use Rattle.presolve_command.specs.Texts.{IsConcluded, IsMade, IsReduced, Outcome, options_for, ProgramIsInfeasible, ProgramIsUnboundedOrInfeasible, TextIsInfeasible, TextIsUnboundedOrInfeasible}
+use Rattle.presolve_command.specs.declared.reduce.NotReduced.TheVariants.{Fault, NotContinuous, Infeasible, UnboundedOrInfeasible, NoMemory}
+use Rattle.presolve_command.specs.Texts.{IsMade, IsNotTaken, IsReduced, IsTaken, options_for, ProgramIsInfeasible, ProgramIsUnboundedOrInfeasible, TextIsInfeasible, TextIsNotTaken, TextIsUnboundedOrInfeasible}
 
-pub made_reduced : (dialect : Dialect) (limit : ℕ) (text : List ℕ) (program : ProgramData) (r : Result Texts NotReduced)
-    → IsProgramOf dialect text program → IsMade (options_for dialect limit) program r → IsReduced dialect limit text r
-made_reduced dialect limit text program (Ok texts) read made = (made.0, (read.0, made.1 ∙ read.1), made.2)
-made_reduced dialect limit text program (Err (Fault fault)) read made = absurd made
-made_reduced dialect limit text program (Err Infeasible) read made = (read.0, subst (ProgramIsInfeasible (options_for dialect limit)) read.1 made)
-made_reduced dialect limit text program (Err UnboundedOrInfeasible) read made = (read.0, subst (ProgramIsUnboundedOrInfeasible (options_for dialect limit)) read.1 made)
-made_reduced dialect limit text program (Err NoMemory) read made = tt
+reduced_so : (options : PresolveOptions) (text : List ℕ) (program : ProgramData) (r : Result Texts NotReduced)
+    → IsProgramOf (dialect_of options) text program → IsMade (options_for options) program r → IsReduced options text r
+reduced_so options text program (Ok texts) read made = (made.0, (read.0, made.1 ∙ read.1), made.2)
+reduced_so options text program (Err (Fault fault)) read made = absurd made
+reduced_so options text program (Err (NotContinuous line)) read made =
+    (read.0, subst (λ (x : ProgramData). IsNotTaken (options_for options) x line.items) read.1 made)
+reduced_so options text program (Err Infeasible) read made = (read.0, subst (ProgramIsInfeasible (options_for options)) read.1 made)
+reduced_so options text program (Err UnboundedOrInfeasible) read made = (read.0, subst (ProgramIsUnboundedOrInfeasible (options_for options)) read.1 made)
+reduced_so options text program (Err NoMemory) read made = tt
 
--- what is said of what a read gave, as one dialect says, is said of what is told, as the same dialect says
-pub said_read : (Said : Dialect → List ℕ → Type 0) (limit : ℕ) (told : Told) (d e : Dialect) (held text : List ℕ) → Gives told held → length held ≤ limit → d ≡ e → text ≡ held → Said d text
-    → Reads limit told (Said e)
-said_read Said limit told d e held text gives most same is h =
-    given_reads limit told held (Said e) gives most (subst (Said e) is (subst (λ (x : Dialect). Said x text) same h))
+-- what is told of the numbers of the dialect
+abbrev told_by : PresolveOptions → Dialect → Options
+told_by options dialect = record { numbers = dialect.numbers; limit = options.limit; dual = options.dual }
 
--- what was concluded as one dialect says was concluded as the same dialect says
-pub concluded_so : (o : Outcome) (limit : ℕ) (program records printed : List ℕ) {d e : Dialect} → d ≡ e → IsConcluded (options_for d limit) o program records printed
-    → IsConcluded (options_for e limit) o program records printed
-concluded_so o limit program records printed same h = subst (λ (x : Dialect). IsConcluded (options_for x limit) o program records printed) same h
+pub made_reduced : (options : PresolveOptions) (dialect : Dialect) (text : List ℕ) (program : ProgramData) (r : Result Texts NotReduced) → dialect ≡ dialect_of options
+    → IsProgramOf dialect text program → IsMade (told_by options dialect) program r → IsReduced options text r
+made_reduced options dialect text program r same =
+    subst (λ (d : Dialect). IsProgramOf d text program → IsMade (told_by options d) program r → IsReduced options text r) (sym same) (reduced_so options text program r)
+
+-- what is said of what a read gave is said of what is told
+pub said_read : (Said : List ℕ → Type 0) (limit : ℕ) (told : Told) (held text : List ℕ) → Gives told held → length held ≤ limit → text ≡ held → Said text → Reads limit told Said
+said_read Said limit told held text gives most is h = given_reads limit told held Said gives most (subst Said is h)
+
+-- what is said of a text where it is not reduced since a column has to be whole
+pub not_taken_said : (options : PresolveOptions) (text : List ℕ) (n : NotReduced) (line : Vec ℕ Global) → n ≡ NotContinuous line → IsReduced options text (Err n)
+    → TextIsNotTaken options text line.items
+not_taken_said options text n line is h = subst (λ (x : NotReduced). IsReduced options text (Err x)) is h
+
+-- the same for want of a feasible point
+pub infeasible_said : (options : PresolveOptions) (text : List ℕ) (n : NotReduced) → n ≡ Infeasible → IsReduced options text (Err n) → TextIsInfeasible options text
+infeasible_said options text n is h = subst (λ (x : NotReduced). IsReduced options text (Err x)) is h
+
+-- the same for want of a feasible point, or of one of least cost
+pub unbounded_said : (options : PresolveOptions) (text : List ℕ) (n : NotReduced) → n ≡ UnboundedOrInfeasible → IsReduced options text (Err n) → TextIsUnboundedOrInfeasible options text
+unbounded_said options text n is h = subst (λ (x : NotReduced). IsReduced options text (Err x)) is h
 
 -- what presolve says where it gives a reduced program
 pub concluded_of : (options : Options) (program : ProgramData) (p : Presolved) (made : ReducedProgram) → p ≡ Reduced made → Concludes options program p
@@ -49,19 +68,13 @@ pub concluded_with : (options : Options) (program : ProgramData) (made : Reduced
     → Concluded options program made.program made.records ended
 concluded_with options program made ended same h = subst (λ (x : End). Concluded options program made.program made.records x) (sym same) h
 
--- what is said of a text where it is not reduced for want of a feasible point
-pub infeasible_said : (dialect : Dialect) (limit : ℕ) (text : List ℕ) (n : NotReduced) → n ≡ Infeasible → IsReduced dialect limit text (Err n) → TextIsInfeasible dialect limit text
-infeasible_said dialect limit text n is h = subst (λ (x : NotReduced). IsReduced dialect limit text (Err x)) is h
-
--- the same for want of a feasible point, or of one of least cost
-pub unbounded_said : (dialect : Dialect) (limit : ℕ) (text : List ℕ) (n : NotReduced) → n ≡ UnboundedOrInfeasible → IsReduced dialect limit text (Err n) → TextIsUnboundedOrInfeasible dialect limit text
-unbounded_said dialect limit text n is h = subst (λ (x : NotReduced). IsReduced dialect limit text (Err x)) is h
-
 -- what presolve says where it gives a decided program
-pub infeasible_of : (options : Options) (program : ProgramData) (p : Presolved) (made : DecidedProgram) → p ≡ presolved.Infeasible made → Concludes options program p → ProgramIsInfeasible options program
-infeasible_of options program p made is h = let k = subst (λ (x : Presolved). Concludes options program x) is h in
-    record { history = made.history.items; verdict = made.verdict; decided = k.0; says = k.1; no_point = k.2 }
+pub infeasible_of : (options : Options) (program : ProgramData) (p : Presolved) (made : DecidedProgram) → p ≡ presolved.Infeasible made → IsTaken options program
+    → Concludes options program p → ProgramIsInfeasible options program
+infeasible_of options program p made is taken h = let k = subst (λ (x : Presolved). Concludes options program x) is h in
+    record { taken = taken; history = made.history.items; verdict = made.verdict; decided = k.0; says = k.1; no_point = k.2 }
 
-pub unbounded_of : (options : Options) (program : ProgramData) (p : Presolved) (made : DecidedProgram) → p ≡ presolved.UnboundedOrInfeasible made → Concludes options program p → ProgramIsUnboundedOrInfeasible options program
-unbounded_of options program p made is h = let k = subst (λ (x : Presolved). Concludes options program x) is h in
-    record { history = made.history.items; verdict = made.verdict; decided = k.0; says = k.1; endless = k.2 }
+pub unbounded_of : (options : Options) (program : ProgramData) (p : Presolved) (made : DecidedProgram) → p ≡ presolved.UnboundedOrInfeasible made → IsTaken options program
+    → Concludes options program p → ProgramIsUnboundedOrInfeasible options program
+unbounded_of options program p made is taken h = let k = subst (λ (x : Presolved). Concludes options program x) is h in
+    record { taken = taken; history = made.history.items; verdict = made.verdict; decided = k.0; says = k.1; endless = k.2 }

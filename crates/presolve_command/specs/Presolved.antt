@@ -7,18 +7,13 @@ use Rattle.endings.specs.Ending.{When, infeasible_line, no_memory_line, read_fau
 use Rattle.endings.specs.Moments.{FailsToRead, FailsToWrite, IsQuiet, IsThere, KeepsAllBut, Reads}
 use Rattle.endings.specs.ProgramTexts.{IsProgramOf, SaysFaultOf}
 use Rattle.endings.specs.declared.reads.TheConstants.{INPUT_LIMIT}
-use Rattle.presolve_model.specs.declared.conclusion.Options.{Options}
-use Rattle.presolve_command.specs.Texts.{Outcome, IsConcluded, options_for, TextIsInfeasible, TextIsUnboundedOrInfeasible}
-
--- what presolve is told by the words
-abbrev pub options_in : PresolveNames → Options
-options_in names = options_for (dialect_of names.options) names.options.limit
+use Rattle.presolve_command.specs.Texts.{Outcome, IsConcluded, options_for, TextIsInfeasible, TextIsNotTaken, TextIsUnboundedOrInfeasible}
 
 -- IN's text has no fault; presolve concluded some outcome of its program, with these texts
 pub record IsMadeOf (names : PresolveNames) (program records printed : List ℕ) (before : Moment) : Type 0 where
   pub outcome : Outcome
   pub source : Reads INPUT_LIMIT (before.told names.input) (λ text. IsProgramOf (dialect_of names.options) text outcome.source)
-  pub concluded : IsConcluded (options_in names) outcome program records printed
+  pub concluded : IsConcluded (options_for names.options) outcome program records printed
 
 -- both texts were written, and the report goes with them; no other name changed
 pub record IsPresolved (names : PresolveNames) (printed : List ℕ) (before now : Moment) : Type 0 where
@@ -33,14 +28,21 @@ pub record IsPresolved (names : PresolveNames) (printed : List ℕ) (before now 
 abbrev pub SaysFault : PresolveNames → List ℕ → Moment → Moment → Type 0
 SaysFault names said before now = SaysFaultOf INPUT_LIMIT (dialect_of names.options) names.input said before now
 
+-- `--dual` was given, IN's text has no fault, and this line names the first column of its program that has to be whole
+abbrev pub SaysNotTaken : PresolveNames → List ℕ → Moment → Type 0
+SaysNotTaken names said before = Reads INPUT_LIMIT (before.told names.input) (λ text. TextIsNotTaken names.options text said)
+
+-- this is said of IN's text, or of a column that has to be whole
+abbrev pub RefusesProgram : PresolveNames → List ℕ → Moment → Moment → Type 0
+RefusesProgram names said before now = SaysFault names said before now ⊎ SaysNotTaken names said before
+
 -- IN's text has no fault, and its program is decided: it has no feasible point
 abbrev pub IsInfeasible : PresolveNames → Moment → Type 0
-IsInfeasible names before = Reads INPUT_LIMIT (before.told names.input) (λ text. TextIsInfeasible (dialect_of names.options) names.options.limit text)
+IsInfeasible names before = Reads INPUT_LIMIT (before.told names.input) (λ text. TextIsInfeasible names.options text)
 
 -- the same, and it has no feasible point, or none of least cost
 abbrev pub IsUnboundedOrInfeasible : PresolveNames → Moment → Type 0
-IsUnboundedOrInfeasible names before =
-    Reads INPUT_LIMIT (before.told names.input) (λ text. TextIsUnboundedOrInfeasible (dialect_of names.options) names.options.limit text)
+IsUnboundedOrInfeasible names before = Reads INPUT_LIMIT (before.told names.input) (λ text. TextIsUnboundedOrInfeasible names.options text)
 
 -- a write of a name failed: what it tells is not told, or as before
 abbrev pub FailsAt : List ℕ → Moment → Moment → Type 0
@@ -61,7 +63,7 @@ IsUnwritten names before now = (program records printed : List ℕ) × IsMadeOf 
 abbrev pub SaysPresolve : PresolveNames → ℕ → List ℕ → Moment → Moment → Type 0
 SaysPresolve names status printed before now =
     When (status == 0) (IsPresolved names printed before now)
-    (When (status == 2) (SaysFault names printed before now × IsQuiet before now)
+    (When (status == 2) (RefusesProgram names printed before now × IsQuiet before now)
     (When (status == 3) (FailsToRead names.input before now × IsQuiet before now × (printed ≡ read_fault_line))
     (When (status == 4) (IsUnwritten names before now × (printed ≡ write_fault_line))
     (When (status == 5) (IsQuiet before now × (printed ≡ no_memory_line))

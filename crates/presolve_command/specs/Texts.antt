@@ -3,15 +3,17 @@ use Rattle.std.specs.Prelude.{◌≡◌, ℕ, ◌-◌, ◌^◌, true, false, Lis
 use Rattle.std.specs.List.{sum_by}
 use Rattle.lp_model.specs.ProgramData.{ProgramData}
 use Rattle.lp_model.specs.Meaning.{meaning}
+use Rattle.lp_model.specs.Optimality.{Continuous}
 use Rattle.lp_model.specs.Verdicts.{NoPoint, NoPointOrEndless}
 use Rattle.fractions.specs.declared.Numbers.{Numbers}
 use Rattle.mps_profile.specs.Reading.{first_fault}
 use Rattle.mps_profile.specs.Program.{program_of}
 use Rattle.mps_written_lines.specs.Formats.{free_format}
 use Rattle.mps_round_trip.specs.Plain.{Plain}
-use Rattle.mps_profile.specs.declared.dialect.Dialect.{Dialect}
+use Rattle.command_line.specs.declared.reading.PresolveOptions.{PresolveOptions}
 use Rattle.presolve_model.specs.declared.instance.Reduction.{Reduction}
 use Rattle.presolve_model.specs.declared.instance.Verdict.{Verdict}
+use Rattle.presolve_model.specs.Accounts.{ReducesPairsTo}
 use Rattle.presolve_model.specs.Conclusions.{Concluded, Decided}
 use Rattle.presolve_model.specs.Meanings.{says_no_point}
 use Rattle.presolve_model.specs.declared.conclusion.Options.{Options}
@@ -20,11 +22,13 @@ use Rattle.record_file.specs.RecordText.{record_text}
 use Rattle.undo_records.specs.Postsolve.{Postsolve}
 use Rattle.record_round_trip.specs.Ranges.{HasRange}
 use Rattle.whole_way.specs.Texts.{TextsFit}
+use Rattle.endings.specs.Continuity.{NamesFirstWhole}
+use Rattle.endings.specs.Dialects.{dialect_of, numbers_of}
 use Rattle.endings.specs.ProgramTexts.{IsProgramOf}
 use Rattle.presolve_command.specs.declared.report.Report.{Report}
 use Rattle.presolve_command.specs.declared.reduce.Texts.{Texts}
 use Rattle.presolve_command.specs.declared.reduce.NotReduced.{NotReduced}
-use Rattle.presolve_command.specs.declared.reduce.NotReduced.TheVariants.{Fault, Infeasible, UnboundedOrInfeasible, NoMemory}
+use Rattle.presolve_command.specs.declared.reduce.NotReduced.TheVariants.{Fault, NotContinuous, Infeasible, UnboundedOrInfeasible, NoMemory}
 use Rattle.presolve_command.specs.Report.{report_text}
 
 -- a program, what is left of it, the records of how that came about, and the report
@@ -69,9 +73,20 @@ ReadsBack numbers outcome text = Plain outcome.source → TextReads numbers text
 abbrev pub ComesBack : Outcome → List ℕ → List ℕ → Type 0
 ComesBack outcome program records = Plain outcome.source → TextsFit outcome.program outcome.records program records
 
--- presolve, told this, concludes this outcome of its program, and these are its texts, which read back; the records' numbers have room
+-- where duals are asked for, no column of the program has to be whole
+abbrev pub IsTaken : Options → ProgramData → Type 0
+IsTaken options program = options.dual ≡ true → Continuous (meaning program)
+
+-- duals are asked for, and this line names the first column of the program that has to be whole
+abbrev pub IsNotTaken : Options → ProgramData → List ℕ → Type 0
+IsNotTaken options program said = (options.dual ≡ true) × NamesFirstWhole program said
+
+-- presolve, told this, concludes this outcome of its program, and these are its texts, which read back; the records' numbers have room.
+-- Where duals are asked for, the records bring back what meets the optimality conditions of what is left
 pub record IsConcluded (options : Options) (outcome : Outcome) (program records printed : List ℕ) : Type 0 where
+  pub taken : IsTaken options outcome.source
   pub concluded : Concluded options outcome.source outcome.program outcome.records outcome.report.end
+  pub pairs : options.dual ≡ true → ReducesPairsTo outcome.source outcome.program outcome.records
   pub range : HasRange outcome.records
   pub texts : AreTexts outcome program records printed
   pub reads_back : ReadsBack options.numbers outcome program
@@ -79,6 +94,7 @@ pub record IsConcluded (options : Options) (outcome : Outcome) (program records 
 
 -- presolve, told this, decides the program by a verdict that says that no point is feasible: none is
 pub record ProgramIsInfeasible (options : Options) (program : ProgramData) : Type 0 where
+  pub taken : IsTaken options program
   pub history : List Reduction
   pub verdict : Verdict
   pub decided : Decided options program history verdict
@@ -87,40 +103,50 @@ pub record ProgramIsInfeasible (options : Options) (program : ProgramData) : Typ
 
 -- presolve, told this, decides the program by a verdict of the other kind: each feasible point, if there is one, gives others of any cost
 pub record ProgramIsUnboundedOrInfeasible (options : Options) (program : ProgramData) : Type 0 where
+  pub taken : IsTaken options program
   pub history : List Reduction
   pub verdict : Verdict
   pub decided : Decided options program history verdict
   pub says : says_no_point verdict ≡ false
   pub endless : NoPointOrEndless program.sense (meaning program)
 
--- what is made of a program: the texts of an outcome of it, or that it is decided, in one way or the other
+-- what is made of a program: the texts of an outcome of it, or that it is not taken, or decided, in one way or the other
 abbrev pub IsMade : Options → ProgramData → Result Texts NotReduced → Type 0
 IsMade options program (Ok texts) =
     (outcome : Outcome) × (outcome.source ≡ program) × IsConcluded options outcome texts.program.items texts.records.items texts.report.items
 IsMade options program (Err (Fault fault)) = ⊥
+IsMade options program (Err (NotContinuous line)) = IsNotTaken options program line.items
 IsMade options program (Err Infeasible) = ProgramIsInfeasible options program
 IsMade options program (Err UnboundedOrInfeasible) = ProgramIsUnboundedOrInfeasible options program
 IsMade options program (Err NoMemory) = Unit {0}
 
--- what presolve is told of a text that is read so
-abbrev pub options_for : Dialect → ℕ → Options
-options_for dialect limit = record { numbers = dialect.numbers; limit = limit }
+-- what presolve is told by the words
+abbrev pub options_for : PresolveOptions → Options
+options_for options = record { numbers = numbers_of options; limit = options.limit; dual = options.dual }
+
+-- a text has no fault, and its program is not taken: this line names its first column that has to be whole
+abbrev pub TextIsNotTaken : PresolveOptions → List ℕ → List ℕ → Type 0
+TextIsNotTaken options text said =
+    (first_fault (dialect_of options) text ≡ None) × IsNotTaken (options_for options) (program_of (dialect_of options) text) said
 
 -- a text has no fault, and its program is found to have no feasible point
-abbrev pub TextIsInfeasible : Dialect → ℕ → List ℕ → Type 0
-TextIsInfeasible dialect limit text = (first_fault dialect text ≡ None) × ProgramIsInfeasible (options_for dialect limit) (program_of dialect text)
+abbrev pub TextIsInfeasible : PresolveOptions → List ℕ → Type 0
+TextIsInfeasible options text =
+    (first_fault (dialect_of options) text ≡ None) × ProgramIsInfeasible (options_for options) (program_of (dialect_of options) text)
 
 -- a text has no fault, and its program is found to have no feasible point, or none of least cost
-abbrev pub TextIsUnboundedOrInfeasible : Dialect → ℕ → List ℕ → Type 0
-TextIsUnboundedOrInfeasible dialect limit text =
-    (first_fault dialect text ≡ None) × ProgramIsUnboundedOrInfeasible (options_for dialect limit) (program_of dialect text)
+abbrev pub TextIsUnboundedOrInfeasible : PresolveOptions → List ℕ → Type 0
+TextIsUnboundedOrInfeasible options text =
+    (first_fault (dialect_of options) text ≡ None) × ProgramIsUnboundedOrInfeasible (options_for options) (program_of (dialect_of options) text)
 
--- what is made of a text: the texts of an outcome of its program, that this is decided, in one way or the other, or the text's first fault
-abbrev pub IsReduced : Dialect → ℕ → List ℕ → Result Texts NotReduced → Type 0
-IsReduced dialect limit text (Ok texts) =
-    (outcome : Outcome) × IsProgramOf dialect text outcome.source
-    × IsConcluded (options_for dialect limit) outcome texts.program.items texts.records.items texts.report.items
-IsReduced dialect limit text (Err (Fault fault)) = first_fault dialect text ≡ Some (fault.kind, fault.line)
-IsReduced dialect limit text (Err Infeasible) = TextIsInfeasible dialect limit text
-IsReduced dialect limit text (Err UnboundedOrInfeasible) = TextIsUnboundedOrInfeasible dialect limit text
-IsReduced dialect limit text (Err NoMemory) = Unit {0}
+-- what is made of a text: the texts of an outcome of its program, that this is not taken, or decided, in one way or the other, or the
+-- text's first fault
+abbrev pub IsReduced : PresolveOptions → List ℕ → Result Texts NotReduced → Type 0
+IsReduced options text (Ok texts) =
+    (outcome : Outcome) × IsProgramOf (dialect_of options) text outcome.source
+    × IsConcluded (options_for options) outcome texts.program.items texts.records.items texts.report.items
+IsReduced options text (Err (Fault fault)) = first_fault (dialect_of options) text ≡ Some (fault.kind, fault.line)
+IsReduced options text (Err (NotContinuous line)) = TextIsNotTaken options text line.items
+IsReduced options text (Err Infeasible) = TextIsInfeasible options text
+IsReduced options text (Err UnboundedOrInfeasible) = TextIsUnboundedOrInfeasible options text
+IsReduced options text (Err NoMemory) = Unit {0}

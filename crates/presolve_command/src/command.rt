@@ -1,4 +1,4 @@
-//! The command `presolve IN OUT REC [--fractions] [--fixed] [--limit N]`.
+//! The command `presolve IN OUT REC [--limit N] [--dual] [--fractions] [--fixed]`.
 
 ghost use Rattle.std.specs.Prelude.{◌≡◌, ◌≢◌, IfOk, OnOk, OnErr};
 ghost use Rattle.file_ports.specs.Ports.{Written};
@@ -9,7 +9,7 @@ ghost use Rattle.presolve_command.specs.Presolved.{EndsPresolve, FailsBetween};
 
 use crate::reduce::{NotReduced, Texts, reduce};
 use command_line::PresolveWords;
-use endings::{Ending, INPUT_LIMIT, dialect_of, fault_line};
+use endings::{Ending, INPUT_LIMIT, fault_line};
 use file_ports::{Failed, Files, ReadErr};
 use std::alloc::{AllocError, Global};
 
@@ -30,7 +30,8 @@ fn write_both<F: Files>(
     files.write(records, &texts.records)
 }
 
-/// Reads a program, writes the reduced one and its records; nothing where it has no feasible point, or none of least cost. All that is written and printed is made before the first write.
+/// Reads a program, writes the reduced one and its records; nothing where it has no feasible point, or none of least cost, or duals are
+/// asked for and a column has to be whole. All that is written and printed is made before the first write.
 pub fn presolve<F: Files>(
     alloc: Global,
     words: &PresolveWords<'_>,
@@ -48,9 +49,10 @@ pub fn presolve<F: Files>(
         }
         Err(ReadErr::NoMemory) => return Err(AllocError),
     };
-    let texts = match reduce(alloc, &text, dialect_of(words.options), words.options.limit) {
+    let texts = match reduce(alloc, &text, words.options) {
         Ok(texts) => texts,
         Err(NotReduced::Fault(fault)) => return Ok(Ending::Refused(fault_line(alloc, fault)?)),
+        Err(NotReduced::NotContinuous(line)) => return Ok(Ending::Refused(line)),
         Err(NotReduced::Infeasible) => return Ok(Ending::Infeasible),
         Err(NotReduced::UnboundedOrInfeasible) => return Ok(Ending::UnboundedOrInfeasible),
         Err(NotReduced::NoMemory) => return Err(AllocError),

@@ -1,15 +1,20 @@
 //! What a presolve makes of a text.
 
-ghost use Rattle.std.specs.Prelude.{◌≡◌, ◌<◌, ◌≤◌, ◌^◌, ◌-◌, length, min, IfOk};
+ghost use Rattle.std.specs.Prelude.{◌≡◌, ◌<◌, ◌≤◌, ◌^◌, ◌-◌, true, length, min, IfOk, MatchOption};
 ghost use Rattle.std.specs.List.{sum_by};
+ghost use Rattle.lp_model.specs.Meaning.{meaning};
 ghost use Rattle.lp_model.specs.ProgramData.{ProgramData};
-ghost use Rattle.presolve_command.specs.Texts.{AreTexts, IsMade, IsReduced, Tells, entries_of};
+ghost use Rattle.lp_check.specs.FirstWhole.{IsFirstWhole};
+ghost use Rattle.presolve_command.specs.Texts.{AreTexts, IsMade, IsReduced, IsTaken, Tells, entries_of};
 ghost use Rattle.lp_model.specs.Writable.{EntriesAscend, Writable};
 ghost use Rattle.mps_writer.specs.MpsText.{mps_text, WidthsFit};
 
 use crate::report::{Change, Report, report_of};
+use command_line::PresolveOptions;
+use endings::{dialect_of, not_continuous_text};
+use lp_check::first_whole_column;
 use lp_model::{ColumnDef, Program};
-use mps_reader::{Dialect, MpsError, MpsFault, read_mps};
+use mps_reader::{MpsError, MpsFault, read_mps};
 use mps_writer::{WriteError, write_mps};
 use presolve_model::Options;
 use presolve_rounds::{Presolved, ReducedProgram, presolve};
@@ -27,10 +32,12 @@ pub struct Texts {
 }
 
 /// Why a text was not presolved.
-#[derive(Clone, Copy)]
+#[derive(Drop)]
 pub enum NotReduced {
     /// The text's first fault.
     Fault(MpsFault),
+    /// Duals are asked for, and a column has to be whole: the line that names the first one.
+    NotContinuous(Vec<u8>),
     /// The text's program has no feasible point.
     Infeasible,
     /// The text's program has no feasible point, or none of least cost.
@@ -136,12 +143,25 @@ fn texts_of(alloc: Global, made: &ReducedProgram, report: &Report) -> Result<Tex
     })
 }
 
+// The first column that has to be whole, where duals are asked for.
+fn column_in_the_way(program: &Program, options: &Options) -> Option<u32>
+    requires { length program.now.columns < 2 ^ 32 }
+    ensures { MatchOption result (IsTaken options.now program.now) (λ j. (options.now.dual ≡ true) × IsFirstWhole (meaning program.now) j) }
+{
+    if options.dual {
+        first_whole_column(program)
+    } else {
+        None
+    }
+}
+
 // Reduces a program, and makes the texts of what is left.
 fn reduce_program(alloc: Global, program: Program, options: &Options) -> Result<Texts, NotReduced>
     requires few_rows { length program.rows < 2 ^ 32 }
     requires few_columns { length program.columns < 2 ^ 32 }
     requires ascends { EntriesAscend program }
     requires writable { Writable options.now.numbers program }
+    requires taken { IsTaken options.now program }
     ensures { IsMade options.now program result }
 {
     let before = size_of(&program);
@@ -159,20 +179,40 @@ fn reduce_program(alloc: Global, program: Program, options: &Options) -> Result<
     }
 }
 
+// Reduces a program that is taken: where duals are asked for, no column may have to be whole.
+fn reduce_taken(alloc: Global, program: Program, options: &Options) -> Result<Texts, NotReduced>
+    requires few_rows { length program.rows < 2 ^ 32 }
+    requires few_columns { length program.columns < 2 ^ 32 }
+    requires ascends { EntriesAscend program }
+    requires writable { Writable options.now.numbers program }
+    ensures { IsMade options.now program result }
+{
+    match column_in_the_way(&program, options) {
+        Some(column) => {
+            let line = not_continuous_text(alloc, &program, column)?;
+            Err(NotReduced::NotContinuous(line))
+        }
+        None => reduce_program(alloc, program, options),
+    }
+}
+
 /// Reads a program, reduces it by as many reductions as the limit allows, and makes the texts of what is left.
 ///
 /// # Errors
-/// The first fault of the text, that the program has no feasible point, that it has none or none of least cost, or want of memory.
-pub fn reduce(alloc: Global, text: &[u8], dialect: Dialect, limit: u64) -> Result<Texts, NotReduced>
+/// The first fault of the text, the first column that has to be whole where duals are asked for, that the program has no feasible point,
+/// that it has none or none of least cost, or want of memory.
+pub fn reduce(alloc: Global, text: &[u8], options: PresolveOptions) -> Result<Texts, NotReduced>
     requires { length text.now < 2 ^ 32 }
-    ensures { IsReduced dialect limit text.now result }
+    ensures { IsReduced options text.now result }
 {
-    let options = Options {
+    let dialect = dialect_of(options);
+    let told = Options {
         numbers: dialect.numbers,
-        limit,
+        limit: options.limit,
+        dual: options.dual,
     };
     match read_mps(alloc, text, dialect) {
-        Ok(program) => reduce_program(alloc, program, &options),
+        Ok(program) => reduce_taken(alloc, program, &told),
         Err(MpsError::Fault(fault)) => Err(NotReduced::Fault(fault)),
         Err(MpsError::NoMemory) => Err(NotReduced::NoMemory),
     }

@@ -4,10 +4,12 @@ use Rattle.std.proofs.lemmas.Simd.{map-map}
 use Rattle.rational.specs.Number.{◌+ℚ◌}
 use Rattle.fractions.specs.declared.Numbers.{Numbers}
 use Rattle.lp_model.specs.declared.program.Sense.TheVariants.{Min}
-use Rattle.lp_model.specs.Reductions.{Reduces}
+use Rattle.lp_model.specs.Optimality.{Continuous}
+use Rattle.lp_model.specs.Reductions.{Reduces, ReducesPairs}
 use Rattle.undo_records.specs.Lift.{undone}
 use Rattle.undo_records.specs.Sound.{IsSound}
 use Rattle.undo_records.specs.Walk.{NamesLive, after}
+use Rattle.postsolve_dual.specs.LiftPair.{undone_pair}
 use Rattle.problem_model.specs.declared.part.Contents.{Contents}
 use Rattle.problem_model.specs.declared.part.Part.{Part}
 use Rattle.problem_model.specs.declared.part.Read.{Read}
@@ -22,6 +24,7 @@ use Rattle.edit_laws.specs.Telling.{IsCounted}
 use Rattle.edit_laws.specs.Sizes.{SameSize}
 use Rattle.edit_laws.proofs.Committed.{offset_committed, flags_committed, size_committed, writable_committed}
 use Rattle.edit_laws.proofs.Raising.{committed_sparse, counted_committed}
+use Rattle.edit_laws.proofs.Reducing.{continuous_committed}
 use Rattle.rule_words.specs.Owed.{Owes}
 use Rattle.presolve_model.specs.declared.instance.Reduction.{Reduction}
 use Rattle.presolve_model.specs.declared.instance.Instance.{Instance}
@@ -47,6 +50,12 @@ module _ (p : Sparse) (r : Reduction) where
 
     pub reduces_changed : Reduces Min (shown p) (shown (changed r p)) (undone (record_of r p)) (added r p)
     reduces_changed = owed.reduces
+
+    pub pairs_changed : Continuous (shown p) → ReducesPairs Min (shown p) (shown (changed r p)) (undone_pair (record_of r p))
+    pairs_changed = owed.pairs
+
+    pub continuous_changed : Continuous (shown p) → Continuous (shown (changed r p))
+    continuous_changed = continuous_committed p (edits r p) s owed.allowed
 
     pub sound_changed : IsSparse (changed r p)
     sound_changed = committed_sparse p (edits r p) s owed.allowed

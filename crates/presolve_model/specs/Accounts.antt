@@ -3,13 +3,14 @@ use Rattle.std.specs.Prelude.{◌≡◌, ℕ, ◌+◌, List, [], ◌∷◌, map,
 use Rattle.fractions.specs.declared.Numbers.{Numbers}
 use Rattle.lp_model.specs.ProgramData.{ProgramData}
 use Rattle.lp_model.specs.Meaning.{meaning}
-use Rattle.lp_model.specs.Reductions.{Reduces}
+use Rattle.lp_model.specs.Reductions.{Priced, Reduces, ReducesPairs}
 use Rattle.lp_model.specs.Vectors.{Vector}
-use Rattle.lp_model.specs.Turning.{signed}
-use Rattle.lp_passages.specs.Renumbering.{spread}
+use Rattle.lp_model.specs.Turning.{in_sense, signed}
+use Rattle.lp_passages.specs.Renumbering.{spread, spread_pair}
 use Rattle.undo_records.specs.Postsolve.{Postsolve}
 use Rattle.undo_records.specs.Lift.{lift}
 use Rattle.undo_records.specs.declared.label.Label.{Label}
+use Rattle.postsolve_dual.specs.LiftPair.{lift_pair}
 use Rattle.presolve_model.specs.declared.instance.Reduction.{Reduction}
 use Rattle.problem_model.specs.Programs.{IsProblemOf, written_program}
 use Rattle.presolve_model.specs.Replay.{replay, records, Replays}
@@ -42,3 +43,15 @@ postsolved told x = lift told.undos (spread (live_labels_from 0 told.columns) x)
 -- original point there is a reduced one no worse
 abbrev pub ReducesTo : ProgramData → ProgramData → Postsolve → Type 0
 ReducesTo program reduced told = Reduces program.sense (meaning program) (meaning reduced) (postsolved told) told.offset
+
+-- a pair of the reduced program, in the file's sense, at the original rows and columns
+abbrev pub at_original_ids : Postsolve → Priced → Priced
+at_original_ids told p = spread_pair (live_labels_from 0 told.rows) (live_labels_from 0 told.columns) p
+
+-- and with the records undone, last first
+abbrev pub postsolved_pair : Postsolve → Priced → Priced
+postsolved_pair told p = in_sense told.sense (lift_pair told.undos) (at_original_ids told p)
+
+-- what meets the optimality conditions of the reduced program postsolves to what meets those of the program, with z = c - yA before and after
+abbrev pub ReducesPairsTo : ProgramData → ProgramData → Postsolve → Type 0
+ReducesPairsTo program reduced told = ReducesPairs program.sense (meaning program) (meaning reduced) (postsolved_pair told)

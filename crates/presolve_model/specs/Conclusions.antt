@@ -2,6 +2,7 @@
 use Rattle.std.specs.Prelude.{◌≡◌, ℕ, ◌<◌, ◌≤◌, true, List, [], ◌∷◌, length, Some, None, if◌then◌else◌}
 use Rattle.lp_model.specs.Meaning.{meaning}
 use Rattle.lp_model.specs.Names.{names_of_rows, names_of_columns, WellNamed}
+use Rattle.lp_model.specs.Optimality.{Continuous}
 use Rattle.lp_model.specs.ProgramData.{ProgramData}
 use Rattle.lp_model.specs.Writable.{EntriesAscend, Writable}
 use Rattle.undo_records.specs.declared.label.Label.{Label}
@@ -16,7 +17,7 @@ use Rattle.presolve_model.specs.declared.conclusion.Options.{Options}
 use Rattle.presolve_model.specs.declared.instance.Instance.TheVariants as at
 use Rattle.presolve_model.specs.declared.instance.Reduction.{Reduction}
 use Rattle.presolve_model.specs.declared.instance.Verdict.{Verdict}
-use Rattle.presolve_model.specs.Accounts.{ReducesTo, Walked}
+use Rattle.presolve_model.specs.Accounts.{ReducesPairsTo, ReducesTo, Walked}
 use Rattle.presolve_model.specs.Enabled.{enabled_on}
 use Rattle.presolve_model.specs.Meanings.{Meant}
 use Rattle.presolve_model.specs.Replay.{replay, Replays}
@@ -57,11 +58,13 @@ pub record HaveNames (program reduced : ProgramData) (told : Postsolve) : Type 0
   pub left : WellNamed reduced.objective reduced.rows reduced.columns
   pub records : AreNamed told
 
--- A program was reduced: the records walk from it to the reduced one, which they reduce it to, and the end is told of what was left; all of
--- that as the ordered run has it. The reduced program can be written.
+-- A program was reduced: the records walk from it to the reduced one, which they reduce it to, with duals too where no column has to be
+-- whole, and the end is told of what was left; all of that as the ordered run has it. The reduced program can be written.
 pub record Concluded (options : Options) (program reduced : ProgramData) (told : Postsolve) (ended : End) : Type 0 where
   pub walked : Walked options.numbers program reduced told
   pub reduces : ReducesTo program reduced told
+  pub pairs : Continuous (meaning program) → ReducesPairsTo program reduced told
+  pub dual : told.duals ≡ options.dual
   pub end : TellsEnd ended options told.undos (replay walked.start walked.history)
   pub names : CarriesNames program reduced told
   pub named : HaveNames program reduced told

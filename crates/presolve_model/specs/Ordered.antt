@@ -1,5 +1,5 @@
 -- The ordered run: what one worker makes of a book, in rounds.
-use Rattle.std.specs.Prelude.{◌≡◌, ◌≢◌, ◌⊎◌, ℕ, zero, suc, ◌<◌, ◌≤◌, List, [], ◌∷◌, ◌++◌, length, Option, Some, None}
+use Rattle.std.specs.Prelude.{◌≡◌, ◌≢◌, ◌⊎◌, Bool, ℕ, zero, suc, ◌<◌, ◌≤◌, List, [], ◌∷◌, ◌++◌, length, Option, Some, None}
 use Rattle.std.specs.List.{filter}
 use Rattle.lp_model.specs.ProgramData.{ProgramData}
 use Rattle.undo_records.specs.Postsolve.{Postsolve}
@@ -78,6 +78,10 @@ Ordered b ended c = (n : ℕ) × StopsAfter n b ended c
 abbrev pub new_book : Options → Sparse → Ledger
 new_book options p = record { start = p; problem = p; history = []; verdict = None; records = []; tally = no_counts (length p.matrix.columns); numbers = options.numbers; limit = options.limit }
 
+-- the options that a book was opened with, and whether duals are asked for
+abbrev pub options_of : Bool → Ledger → Options
+options_of dual b = record { numbers = b.numbers; limit = b.limit; dual = dual }
+
 -- the run of the program's problem ends so, with this book
 pub record RunsTo (options : Options) (program : ProgramData) (ended : Option End) (b : Ledger) : Type 0 where
   pub start : Sparse
@@ -89,4 +93,4 @@ pub record IsMadeInOrder (options : Options) (program reduced : ProgramData) (to
   pub book : Ledger
   pub runs : RunsTo options program (Some ended) book
   pub written : reduced ≡ written_program program book.problem
-  pub tells : IsToldOf program book told
+  pub tells : IsToldOf options.dual program book told

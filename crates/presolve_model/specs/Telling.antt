@@ -17,9 +17,11 @@ names_in labels = map (λ label. label.name) labels
 abbrev pub are_live : List Line → List Bool
 are_live lines = map (λ line. line.live) lines
 
--- the records of a book of a program's problem: the program's sense and names, what is live, what was added to the cost in the file's sense
-pub record IsToldOf (program : ProgramData) (b : Ledger) (told : Postsolve) : Type 0 where
+-- the records of a book of a program's problem: the program's sense and names, whether duals are asked for, what is live, what was added to
+-- the cost in the file's sense
+pub record IsToldOf (dual : Bool) (program : ProgramData) (b : Ledger) (told : Postsolve) : Type 0 where
   pub sense : told.sense ≡ program.sense
+  pub duals : told.duals ≡ dual
   pub undos : told.undos ≡ b.records
   pub offset : told.offset ≡ signed program.sense b.problem.offset
   pub row_names : names_in told.rows ≡ names_of_rows program.rows

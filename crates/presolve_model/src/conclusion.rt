@@ -9,6 +9,8 @@ pub struct Options {
     pub numbers: Numbers,
     /// How many reductions may be applied.
     pub limit: u64,
+    /// The records undo duals too. That is of use where no column of the program has to be whole.
+    pub dual: bool,
 }
 
 /// How a run ended that reduced its program.

@@ -7,13 +7,15 @@ ghost use Rattle.fractions.specs.declared.Numbers.{Numbers};
 ghost use Rattle.lp_model.specs.declared.program.Sense.{Sense};
 ghost use Rattle.lp_model.specs.declared.program.Sense.TheVariants.{Min};
 ghost use Rattle.lp_model.specs.LinearProgram.{LinearProgram};
-ghost use Rattle.lp_model.specs.Reductions.{Reduces};
+ghost use Rattle.lp_model.specs.Optimality.{Continuous};
+ghost use Rattle.lp_model.specs.Reductions.{Reduces, ReducesPairs};
 ghost use Rattle.lp_model.specs.Vectors.{Vector};
 ghost use Rattle.lp_model.specs.Turning.{minimizing};
 ghost use Rattle.undo_records.specs.declared.undo.Undo.{Undo};
 ghost use Rattle.undo_records.specs.Lift.{undone};
 ghost use Rattle.undo_records.specs.Sound.{IsSound};
 ghost use Rattle.undo_records.specs.Walk.{NamesLive, after};
+ghost use Rattle.postsolve_dual.specs.LiftPair.{undone_pair};
 ghost use Rattle.problem_model.specs.declared.part.Part.{Part};
 ghost use Rattle.problem_model.specs.declared.part.Read.{Read};
 ghost use Rattle.problem_model.specs.Flags.{flags_of};
@@ -47,6 +49,13 @@ ghost use Rattle.presolve_model.specs.Tallies.{AreCountsOf, Counts, IsTally, no_
 pub fn reductions_reduce()
     ensures shows { (p : Sparse) (r : Reduction) → IsSparse p → enabled_on p (at.Reduction r) ≡ true → Reduces Min (shown p) (shown (changed r p)) (undone (record_of r p)) (added r p) }
     ensures offset { (p : Sparse) (r : Reduction) → (changed r p).offset ≡ p.offset +ℚ added r p }
+{}
+
+/// Where no column is whole, each reduction that is enabled keeps it so, and its record undoes what meets the optimality conditions after it to
+/// what meets them before.
+pub fn reductions_keep_pairs()
+    ensures pairs { (p : Sparse) (r : Reduction) → IsSparse p → enabled_on p (at.Reduction r) ≡ true → Continuous (shown p) → ReducesPairs Min (shown p) (shown (changed r p)) (undone_pair (record_of r p)) }
+    ensures continuous { (p : Sparse) (r : Reduction) → IsSparse p → enabled_on p (at.Reduction r) ≡ true → Continuous (shown p) → Continuous (shown (changed r p)) }
 {}
 
 /// Each reduction that is enabled keeps what is asked of a problem; and that it can be written, where its numbers have room and can be.

@@ -25,7 +25,7 @@ use Rattle.program_laws.specs.Chosen.{names_at}
 use Rattle.program_laws.proofs.Writing.{written_column_names, written_row_names}
 use Rattle.history_laws.proofs.Keeping.{sparse_replay}
 use Rattle.program_laws.specs.Shapes.{IsOf}
-use Rattle.history_laws.proofs.Walks.{walked_reduces}
+use Rattle.history_laws.proofs.Walks.{walked_pairs, walked_reduces}
 use Rattle.presolve_model.specs.Telling.{are_live, IsToldOf}
 use Rattle.round_laws.specs.Passing.{IsSameBook}
 use Rattle.round_laws.proofs.Numbers.{never_changed}
@@ -35,7 +35,7 @@ use Rattle.presolve_model.specs.declared.conclusion.End.TheVariants.{Fixpoint, L
 use Rattle.presolve_model.specs.declared.conclusion.Options.{Options}
 use Rattle.presolve_model.specs.Conclusions.{Concluded, HaveNames, live_names, TellsEnd}
 use Rattle.presolve_model.specs.Telling.{names_in}
-use Rattle.presolve_model.specs.Ordered.{Ordered, new_book, RunsTo}
+use Rattle.presolve_model.specs.Ordered.{Ordered, new_book, options_of, RunsTo}
 use Rattle.presolve_rounds.specs.Running.{EndsWith}
 
 -- ---- names
@@ -57,33 +57,31 @@ records_long : (p : Sparse) (rs : List Reduction) → length (records p rs) ≡ 
 records_long p [] = refl
 records_long p (r ∷ rs) = let more = records_long (changed r p) rs in omega (arith, more)
 
--- the options that a book was opened with
-abbrev options_of : Ledger → Options
-options_of b = record { numbers = b.numbers; limit = b.limit }
-
-end_told : (e : End) (b : Ledger) (us : List Undo) (q : Sparse) → us ≡ b.records → length us ≡ length b.history → open_on b.tally ≡ open_by b.records → q ≡ b.problem → EndsWith (Some e) b → TellsEnd e (options_of b) us q
-end_told (Fixpoint n) b us q is long opens same h = let free : open_on b.tally ≡ open_by us = opens ∙ ap open_by (sym is) in (
+end_told : (dual : Bool) (e : End) (b : Ledger) (us : List Undo) (q : Sparse) → us ≡ b.records → length us ≡ length b.history → open_on b.tally ≡ open_by b.records → q ≡ b.problem → EndsWith (Some e) b → TellsEnd e (options_of dual b) us q
+end_told dual (Fixpoint n) b us q is long opens same h = let free : open_on b.tally ≡ open_by us = opens ∙ ap open_by (sym is) in (
   omega (arith, long, h.0),
   subst (λ (p : Sparse). Stuck b.numbers (open_by us) p) (sym same) (subst (λ (o : Open). Stuck b.numbers o b.problem) free h.1),
   h.2 ∙ ap₂ skipped_on free (sym same),
 )
-end_told LimitReached b us q is long opens same h = (long ∙ h.0, subst IsUndecided (sym same) h.1)
+end_told dual LimitReached b us q is long opens same h = (long ∙ h.0, subst IsUndecided (sym same) h.1)
 
 undecided_at : (e : End) (b : Ledger) → EndsWith (Some e) b → IsUndecided b.problem
 undecided_at (Fixpoint n) b h = h.1.undecided
 undecided_at LimitReached b h = h.1
 
 -- ---- all of it
-pub concluded : (program : ProgramData) (b : Ledger) (told : Postsolve) (e : End) → EntriesAscend program → Writable b.numbers program → IsProblemOf program b.start → Stands b → EndsWith (Some e) b → IsToldOf program b told
-    → HaveNames program (written_program program b.problem) told → RunsTo (record { numbers = b.numbers; limit = b.limit }) program (Some e) b
-    → Concluded (record { numbers = b.numbers; limit = b.limit }) program (written_program program b.problem) told e
-concluded program b told e ascends writes o s h t named runs =
+pub concluded : (dual : Bool) (program : ProgramData) (b : Ledger) (told : Postsolve) (e : End) → EntriesAscend program → Writable b.numbers program → IsProblemOf program b.start → Stands b → EndsWith (Some e) b → IsToldOf dual program b told
+    → HaveNames program (written_program program b.problem) told → RunsTo (options_of dual b) program (Some e) b
+    → Concluded (options_of dual b) program (written_program program b.problem) told e
+concluded dual program b told e ascends writes o s h t named runs =
     let is : IsOf program b.problem = problem_is_of program b o s in
     let sparse : IsSparse b.problem = subst IsSparse (sym s.problem) (sparse_replay b.numbers b.start b.history s.sound s.replays) in
     record {
-      walked = walked program b told o s t;
-      reduces = walked_reduces b.numbers program (written_program program b.problem) told ascends (walked program b told o s t);
-      end = end_told e b told.undos (replay b.start b.history) t.undos (ap length (t.undos ∙ s.records) ∙ records_long b.start b.history) (open_same b.tally b.records s.tally) (sym s.problem) h;
+      walked = walked dual program b told o s t;
+      reduces = walked_reduces b.numbers program (written_program program b.problem) told ascends (walked dual program b told o s t);
+      pairs = walked_pairs b.numbers program (written_program program b.problem) told (walked dual program b told o s t) t.sense;
+      dual = t.duals;
+      end = end_told dual e b told.undos (replay b.start b.history) t.undos (ap length (t.undos ∙ s.records) ∙ records_long b.start b.history) (open_same b.tally b.records s.tally) (sym s.problem) h;
       names = record {
         sense = t.sense;
         objective = refl;
@@ -99,20 +97,20 @@ concluded program b told e ascends writes o s h t named runs =
     }
 
 -- options with these numbers and this limit
-abbrev pub options_with : Numbers → ℕ → Options
-options_with numbers limit = record { numbers = numbers; limit = limit }
+abbrev options_with : Bool → Numbers → ℕ → Options
+options_with dual numbers limit = record { numbers = numbers; limit = limit; dual = dual }
 
 -- ---- the run of a program's problem
 pub counted_new : (program : ProgramData) (options : Options) (b : Ledger) → IsProblemOf program b.start → b ≡ new_book options b.start → (a : Part) → changes_of b.problem a ≤ length b.history
 counted_new program options b o e a = let n : changes_of b.problem a ≡ 0 = ap (λ (x : Ledger). changes_of x.problem a) e ∙ never_changed program b.start o a in omega (arith, n)
 
-pub runs_to : (program : ProgramData) (options : Options) (b c : Ledger) (o p : Option End) → IsProblemOf program b.start → b ≡ new_book options b.start → IsSameBook b c → o ≡ p → Ordered b o c → RunsTo (options_with c.numbers c.limit) program p c
+pub runs_to : (program : ProgramData) (options : Options) (b c : Ledger) (o p : Option End) → IsProblemOf program b.start → b ≡ new_book options b.start → IsSameBook b c → o ≡ p → Ordered b o c → RunsTo (options_of options.dual c) program p c
 runs_to program options b c o p h e same f k = record {
   start = b.start;
   opened = h;
-  run = subst (λ (x : Options). Ordered (new_book x b.start) p c) (ap₂ options_with (sym (same.numbers ∙ ap (λ (x : Ledger). x.numbers) e)) (sym (same.limit ∙ ap (λ (x : Ledger). x.limit) e)))
+  run = subst (λ (x : Options). Ordered (new_book x b.start) p c) (ap₂ (options_with options.dual) (sym (same.numbers ∙ ap (λ (x : Ledger). x.numbers) e)) (sym (same.limit ∙ ap (λ (x : Ledger). x.limit) e)))
       (subst (λ (x : Ledger). Ordered x p c) e (subst (λ (x : Option End). Ordered b x c) f k));
 }
 
-pub same_options : (options : Options) (b c : Ledger) → b ≡ new_book options b.start → IsSameBook b c → options_with c.numbers c.limit ≡ options
-same_options options b c e same = ap₂ options_with (same.numbers ∙ ap (λ (x : Ledger). x.numbers) e) (same.limit ∙ ap (λ (x : Ledger). x.limit) e)
+pub same_options : (options : Options) (b c : Ledger) → b ≡ new_book options b.start → IsSameBook b c → options_of options.dual c ≡ options
+same_options options b c e same = ap₂ (options_with options.dual) (same.numbers ∙ ap (λ (x : Ledger). x.numbers) e) (same.limit ∙ ap (λ (x : Ledger). x.limit) e)

@@ -50,10 +50,15 @@ fn column_labels(
     Ok(labels)
 }
 
-/// The records of a book that was opened with a program's problem.
-pub fn records_of(alloc: Global, program: &Program, book: Book) -> Result<Records, AllocError>
+/// The records of a book that was opened with a program's problem, which undo duals too where that is asked for.
+pub fn records_of(
+    alloc: Global,
+    program: &Program,
+    dual: bool,
+    book: Book,
+) -> Result<Records, AllocError>
     requires { IsProblemOf program.now book.start }
-    ensures { IfOk result (IsToldOf program.now book) }
+    ensures { IfOk result (IsToldOf dual program.now book) }
 {
     book.stands();
     let _name = program.objective();
@@ -61,5 +66,5 @@ pub fn records_of(alloc: Global, program: &Program, book: Book) -> Result<Record
     let columns = column_labels(alloc, program.columns(), book.problem().columns())?;
     let offset = in_sense(program.sense(), &book.problem().offset());
     let ended = book.close();
-    Ok(Records::new(program.sense(), columns, rows, offset, ended.records))
+    Ok(Records::new(program.sense(), dual, columns, rows, offset, ended.records))
 }

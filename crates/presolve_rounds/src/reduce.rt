@@ -4,7 +4,7 @@ ghost use Rattle.std.specs.Prelude.{◌≡◌, ◌≢◌, ◌<◌, ◌^◌, leng
 ghost use Rattle.lp_model.specs.Writable.{EntriesAscend, Writable};
 ghost use Rattle.problem_model.specs.Programs.{IsProblemOf};
 ghost use Rattle.presolve_model.specs.Conclusions.{Concluded, Decided};
-ghost use Rattle.presolve_model.specs.Ordered.{new_book, RunsTo};
+ghost use Rattle.presolve_model.specs.Ordered.{new_book, options_of, RunsTo};
 ghost use Rattle.presolve_rounds.specs.Conclusions.{Concludes};
 ghost use Rattle.presolve_rounds.specs.Running.{EndsWith};
 
@@ -37,6 +37,7 @@ pub fn opened(alloc: Global, program: &Program, options: &Options) -> Result<Boo
 fn reduced(
     alloc: Global,
     program: &Program,
+    dual: bool,
     book: Book,
     end: End,
 ) -> Result<ReducedProgram, AllocError>
@@ -44,12 +45,12 @@ fn reduced(
     requires writable { Writable book.numbers program.now }
     requires start { IsProblemOf program.now book.start }
     requires end { EndsWith (Some end) book }
-    requires runs { RunsTo (record { numbers = book.numbers; limit = book.limit }) program.now (Some end) book }
-    ensures { IfOk result (λ made. Concluded (record { numbers = book.numbers; limit = book.limit }) program.now made.program made.records made.end) }
+    requires runs { RunsTo (options_of dual book) program.now (Some end) book }
+    ensures { IfOk result (λ made. Concluded (options_of dual book) program.now made.program made.records made.end) }
 {
     book.stands();
     let reduced = book.problem().to_program(alloc, program)?;
-    let records = records_of(alloc, program, book)?;
+    let records = records_of(alloc, program, dual, book)?;
     let _name = program.objective();
     let _left = reduced.objective();
     records.is_named();
@@ -61,13 +62,14 @@ fn reduced(
 }
 
 /// How a program was decided.
-fn decided(program: &Program, book: Book) -> DecidedProgram
+fn decided(program: &Program, dual: bool, book: Book) -> DecidedProgram
     requires start { IsProblemOf program.now book.start }
     requires decided { book.verdict ≢ None }
-    requires runs { RunsTo (record { numbers = book.numbers; limit = book.limit }) program.now None book }
-    ensures { Decided (record { numbers = book.numbers; limit = book.limit }) program.now result.history.items result.verdict }
+    requires runs { RunsTo (options_of dual book) program.now None book }
+    ensures { Decided (options_of dual book) program.now result.history.items result.verdict }
 {
     let _ = program;
+    let _ = dual;
     book.stands();
     let ended = book.close();
     match ended.verdict {
@@ -107,7 +109,13 @@ pub fn presolve(alloc: Global, program: Program, options: &Options) -> Result<Pr
     let mut book = opened(alloc, &program, options)?;
     let end = run(alloc, &mut book, &mut NoOnlooker)?;
     match end {
-        Some(end) => Ok(Presolved::Reduced(reduced(alloc, &program, book, end)?)),
-        None => Ok(concluded(&program, options, decided(&program, book))),
+        Some(end) => {
+            let made = reduced(alloc, &program, options.dual, book, end)?;
+            Ok(Presolved::Reduced(made))
+        }
+        None => {
+            let made = decided(&program, options.dual, book);
+            Ok(concluded(&program, options, made))
+        }
     }
 }

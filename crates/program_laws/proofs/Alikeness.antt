@@ -1,13 +1,15 @@
--- Programs that are alike have the same points at the same costs.
+-- Programs that are alike have the same points at the same costs, and the same pairs.
 use Rattle.std.proofs.Common.{◌≡◌, ℕ, ◌<◌, Bool, IsTrue, sym, refl, ap, ap₂, ◌∙◌, subst, arith, Option}
-use Rattle.rational.specs.Number.{Number, zero_ℚ, ◌+ℚ◌, ◌*ℚ◌}
+use Rattle.rational.specs.Number.{Number, zero_ℚ, ◌+ℚ◌, ◌-ℚ◌, ◌*ℚ◌}
 use Rattle.rational.specs.Ends.{Between}
 use Rattle.rational.specs.Total.{total}
 use Rattle.rational.proofs.Totals.{total_same}
 use Rattle.lp_model.specs.declared.program.Sense.{Sense}
 use Rattle.lp_model.specs.Vectors.{Vector}
 use Rattle.lp_model.specs.LinearProgram.{LinearProgram, value_at, cost_at, Feasible}
-use Rattle.lp_model.specs.Reductions.{Reduces}
+use Rattle.lp_model.specs.Optimality.{reduced_cost, Meets}
+use Rattle.lp_model.specs.Reductions.{Reduces, ReducesPairs}
+use Rattle.lp_model.specs.Senses.{Sits}
 use Rattle.lp_theory.proofs.Steps.{same_points}
 use Rattle.program_laws.specs.Alike.{AreAlike}
 
@@ -48,3 +50,31 @@ module _ (M R : LinearProgram) (h : AreAlike M R) where
 
 pub alike_reduces : (d : Sense) (M R : LinearProgram) → AreAlike M R → Reduces d M R (λ x. x) zero_ℚ
 alike_reduces d M R h = same_points d M R (cost_same M R h) (feasible_alike R M (alike_back M R h)) (feasible_alike M R h)
+
+-- ---- pairs
+same_sits : (d : Sense) (l m u w : Option Number) (v x a b : Number) → l ≡ m → u ≡ w → v ≡ x → a ≡ b → Sits d l u v a → Sits d m w x b
+same_sits d l m u w v x a b e f g k s = rw (sym e, sym f, sym g, sym k) s
+
+module _ (d : Sense) (M R : LinearProgram) (h : AreAlike M R) where
+  price_same : (y : Vector) (j : ℕ) → j < M.columns → reduced_cost M y j ≡ reduced_cost R y j
+  price_same y j l = ap₂ ◌-ℚ◌ (h.costs j l)
+      (total_same M.rows (λ i. y i *ℚ M.coefficient i j) (λ i. y i *ℚ R.coefficient i j) (λ i m. ap (λ (c : Number). y i *ℚ c) (h.coefficient i j m l))
+      ∙ ap (λ (n : ℕ). total n (λ i. y i *ℚ R.coefficient i j)) h.rows)
+
+  meets_alike : (x y : Vector) → Meets d M x y → Meets d R x y
+  meets_alike x y meets = record {
+    continuous = λ j l. let m : j < M.columns = omega (arith, l, h.columns) in sym (h.whole j m) ∙ meets.continuous j m;
+    feasible = feasible_alike M R h x meets.feasible;
+    rows = λ i l. let m : i < M.rows = omega (arith, l, h.rows) in
+        same_sits d (M.lower_side i) (R.lower_side i) (M.upper_side i) (R.upper_side i) (value_at M i x) (value_at R i x) (y i) (y i)
+        (h.lower_side i m) (h.upper_side i m) (value_same M R h i x m) refl (meets.rows i m);
+    columns = λ j l. let m : j < M.columns = omega (arith, l, h.columns) in
+        same_sits d (M.lower_bound j) (R.lower_bound j) (M.upper_bound j) (R.upper_bound j) (x j) (x j) (reduced_cost M y j) (reduced_cost R y j)
+        (h.lower_bound j m) (h.upper_bound j m) refl (price_same y j m) (meets.columns j m);
+  }
+
+pub alike_pairs : (d : Sense) (M R : LinearProgram) → AreAlike M R → ReducesPairs d M R (λ p. p)
+alike_pairs d M R h = record {
+  priced = λ p priced meets j l. priced j (omega (arith, l, h.columns)) ∙ sym (price_same d M R h p.y j l);
+  meets = λ p priced meets. meets_alike d R M (alike_back M R h) p.x p.y meets;
+}

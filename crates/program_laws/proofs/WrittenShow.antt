@@ -10,13 +10,13 @@ use Rattle.lp_model.specs.declared.program.ColumnDef.{ColumnDef}
 use Rattle.lp_model.specs.LinearProgram.{LinearProgram}
 use Rattle.lp_model.specs.Meaning.{no_row, no_column, meaning}
 use Rattle.lp_model.specs.ProgramData.{ProgramData}
-use Rattle.lp_model.specs.Reductions.{Reduces}
+use Rattle.lp_model.specs.Reductions.{Reduces, ReducesPairs}
 use Rattle.lp_model.specs.Sparse.{Ascends, dense}
 use Rattle.lp_model.specs.Writable.{EntriesAscend}
-use Rattle.lp_passages.specs.Renumbering.{IsRest, gathered, spread, written}
+use Rattle.lp_passages.specs.Renumbering.{IsRest, gathered, spread, spread_pair, written}
 use Rattle.lp_model.specs.Turning.{signed, minimizing}
-use Rattle.lp_passages.proofs.Renumbered.{reduces_to_written, written_reduces_to}
-use Rattle.lp_theory.proofs.Steps.{compose}
+use Rattle.lp_passages.proofs.Renumbered.{pairs_to_written, reduces_to_written, written_reduces_to}
+use Rattle.lp_theory.proofs.Steps.{compose, compose_pairs}
 use Rattle.problem_model.specs.declared.line.Sides.{Sides}
 use Rattle.problem_model.specs.Problems.{row_at, column_at, sides_at, bounds_at, cost_at, IsSparse}
 use Rattle.problem_model.specs.Programs.{renumbered, written_program, live_ids}
@@ -31,7 +31,7 @@ use Rattle.program_laws.proofs.Choosing.{chosen-all}
 use Rattle.program_laws.proofs.Negating.{signed_twice, with_signs, minimizing_signs}
 use Rattle.program_laws.proofs.Renumbering.{dense-renumbered, ascends-renumbered}
 use Rattle.program_laws.proofs.Making.{made_columns, made_columns-length, made_column-at, written-columns, written_rows-length, written_columns-length, written_row-at, written_column-at}
-use Rattle.program_laws.proofs.Alikeness.{alike_back, alike_reduces}
+use Rattle.program_laws.proofs.Alikeness.{alike_back, alike_pairs, alike_reduces}
 
 -- what is not live has nothing
 pub rest : (p : Sparse) → IsSparse p → IsRest (shown p) (live_ids p.matrix.rows) (live_ids p.matrix.columns)
@@ -119,6 +119,13 @@ module _ (program : ProgramData) (p : Sparse) (s : IsSparse p) (o : IsOf program
       subst (λ (k : Number). Reduces Min (shown p) M (spread (live_ids p.matrix.columns)) k) no_more
       (compose Min (shown p) R M (spread (live_ids p.matrix.columns)) (λ x. x) zero_ℚ zero_ℚ
       (reduces_to_written (shown p) (live_ids p.matrix.rows) (live_ids p.matrix.columns) (rest p s) Min) (alike_reduces Min R M (alike_back M R written_alike)))
+
+  pub written_pairs : ReducesPairs Min (shown p) (minimizing program.sense (meaning (written_program program p))) (spread_pair (live_ids p.matrix.rows) (live_ids p.matrix.columns))
+  written_pairs =
+      let M : LinearProgram = minimizing program.sense (meaning (written_program program p)) in
+      let R : LinearProgram = written (shown p) (live_ids p.matrix.rows) (live_ids p.matrix.columns) in
+      compose_pairs Min (shown p) R M (spread_pair (live_ids p.matrix.rows) (live_ids p.matrix.columns)) (λ x. x)
+      (pairs_to_written (shown p) (live_ids p.matrix.rows) (live_ids p.matrix.columns) (rest p s) Min) (alike_pairs Min R M (alike_back M R written_alike))
 
   pub written_points_back : Reduces Min (minimizing program.sense (meaning (written_program program p))) (shown p) (gathered (live_ids p.matrix.columns)) zero_ℚ
   written_points_back =

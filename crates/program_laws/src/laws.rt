@@ -9,10 +9,10 @@ ghost use Rattle.lp_model.specs.LinearProgram.{LinearProgram};
 ghost use Rattle.lp_model.specs.Meaning.{meaning};
 ghost use Rattle.lp_model.specs.Names.{WellNamed, names_of_columns, names_of_rows};
 ghost use Rattle.lp_model.specs.ProgramData.{ProgramData};
-ghost use Rattle.lp_model.specs.Reductions.{Reduces};
+ghost use Rattle.lp_model.specs.Reductions.{Reduces, ReducesPairs};
 ghost use Rattle.lp_model.specs.Vectors.{vector_of};
 ghost use Rattle.lp_model.specs.Writable.{EntriesAscend, Writable, WritableNumber};
-ghost use Rattle.lp_passages.specs.Renumbering.{IsRest, gathered, spread, written};
+ghost use Rattle.lp_passages.specs.Renumbering.{IsRest, gathered, spread, spread_pair, written};
 ghost use Rattle.lp_model.specs.Turning.{minimizing};
 ghost use Rattle.undo_records.specs.declared.label.Label.{Label};
 ghost use Rattle.undo_records.specs.Lift.{placed};
@@ -31,9 +31,10 @@ pub fn problems_show_programs()
     ensures { (program : ProgramData) (p : Sparse) → EntriesAscend program → IsProblemOf program p → shown p ≡ minimizing program.sense (meaning program) }
 {}
 
-/// Linear programs that are the same at their rows and columns have the same points at the same costs.
+/// Linear programs that are the same at their rows and columns have the same points at the same costs, and the same pairs.
 pub fn programs_alike_reduce()
-    ensures { (d : Sense) (M R : LinearProgram) → AreAlike M R → Reduces d M R (λ x. x) zero_ℚ }
+    ensures points { (d : Sense) (M R : LinearProgram) → AreAlike M R → Reduces d M R (λ x. x) zero_ℚ }
+    ensures pairs { (d : Sense) (M R : LinearProgram) → AreAlike M R → ReducesPairs d M R (λ p. p) }
 {}
 
 /// The program that is written of a problem, as it is minimized, is the shown one without the ids of what was deleted.
@@ -41,6 +42,7 @@ pub fn written_programs_are_shown()
     ensures same { (program : ProgramData) (p : Sparse) → IsSparse p → IsOf program p → AreAlike (minimizing program.sense (meaning (written_program program p))) (written (shown p) (live_ids p.matrix.rows) (live_ids p.matrix.columns)) }
     ensures rest { (p : Sparse) → IsSparse p → IsRest (shown p) (live_ids p.matrix.rows) (live_ids p.matrix.columns) }
     ensures points { (program : ProgramData) (p : Sparse) → IsSparse p → IsOf program p → Reduces Min (shown p) (minimizing program.sense (meaning (written_program program p))) (spread (live_ids p.matrix.columns)) zero_ℚ }
+    ensures pairs { (program : ProgramData) (p : Sparse) → IsSparse p → IsOf program p → ReducesPairs Min (shown p) (minimizing program.sense (meaning (written_program program p))) (spread_pair (live_ids p.matrix.rows) (live_ids p.matrix.columns)) }
     ensures points_back { (program : ProgramData) (p : Sparse) → IsSparse p → IsOf program p → Reduces Min (minimizing program.sense (meaning (written_program program p))) (shown p) (gathered (live_ids p.matrix.columns)) zero_ℚ }
     ensures ascends { (program : ProgramData) (p : Sparse) → IsSparse p → IsOf program p → EntriesAscend (written_program program p) }
 {}

@@ -22,10 +22,10 @@ lines_text_append (l ∷ ls) ms =
     ap (λ x. line_text l ++ x) (lines_text_append ls ms) ∙ sym (append_assoc (line_text l) (lines_text ls) (lines_text ms))
 
 -- the sections one after another are the record text
-pub sections_are : (p : Postsolve) → ((((lines_text (header_lines p.sense) ++ lines_text (label_lines (codes "columns") p.columns)) ++ lines_text (label_lines (codes "rows") p.rows)) ++ line_text (offset_line p.offset)) ++ lines_text (undo_lines p.undos)) ++ codes "end\n" ≡ record_text p
+pub sections_are : (p : Postsolve) → ((((lines_text (header_lines p.sense p.duals) ++ lines_text (label_lines (codes "columns") p.columns)) ++ lines_text (label_lines (codes "rows") p.rows)) ++ line_text (offset_line p.offset)) ++ lines_text (undo_lines p.undos)) ++ codes "end\n" ≡ record_text p
 unfolding record_text
 sections_are p = joined
-    (header_lines p.sense) (label_lines (codes "columns") p.columns) (label_lines (codes "rows") p.rows) (offset_line p.offset) (undo_lines p.undos) end_line
+    (header_lines p.sense p.duals) (label_lines (codes "columns") p.columns) (label_lines (codes "rows") p.rows) (offset_line p.offset) (undo_lines p.undos) end_line
   where
     joined : (hs bs cs : List Line) (d : Line) (es : List Line) (f : Line) → ((((lines_text hs ++ lines_text bs) ++ lines_text cs) ++ line_text d) ++ lines_text es) ++ line_text f ≡ lines_text (hs ++ (bs ++ (cs ++ d ∷ (es ++ f ∷ []))))
     joined hs bs cs d es f = simp (lines_text_append, append_assoc, append-nil)

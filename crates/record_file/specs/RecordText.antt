@@ -1,5 +1,5 @@
 -- The record text: lines of words.
-use Rattle.std.specs.Prelude.{ℕ, List, [], ◌∷◌, ◌++◌, length, map, codes}
+use Rattle.std.specs.Prelude.{ℕ, Bool, List, [], ◌∷◌, ◌++◌, length, map, codes}
 use Rattle.std.specs.Fmt.{decimal}
 use Rattle.number_texts.specs.Written.{written}
 use Rattle.rational.specs.Number.{Number}
@@ -7,7 +7,7 @@ use Rattle.lp_model.specs.declared.program.Sense.{Sense}
 use Rattle.undo_records.specs.Postsolve.{Postsolve}
 use Rattle.undo_records.specs.declared.label.Label.{Label}
 use Rattle.undo_records.specs.declared.undo.Undo.{Undo}
-use Rattle.record_file.specs.Words.{sense_word, live_word}
+use Rattle.record_file.specs.Words.{sense_word, duals_word, live_word}
 use Rattle.record_file.specs.Fields.{rule_word, field_words}
 
 -- a line: its first word, and its other words
@@ -31,8 +31,8 @@ abbrev pub lines_text : List Line → List ℕ
 lines_text [] = []
 lines_text (l ∷ ls) = line_text l ++ lines_text ls
 
-abbrev pub header_lines : Sense → List Line
-header_lines sense = line (codes "papilo-records") (codes "1" ∷ []) ∷ line (codes "sense") (sense_word sense ∷ []) ∷ line (codes "duals") (codes "no" ∷ []) ∷ []
+abbrev pub header_lines : Sense → Bool → List Line
+header_lines sense duals = line (codes "papilo-records") (codes "1" ∷ []) ∷ line (codes "sense") (sense_word sense ∷ []) ∷ line (codes "duals") (duals_word duals ∷ []) ∷ []
 
 abbrev pub label_line : Label → Line
 label_line l = line (live_word l.live) (l.name ∷ [])
@@ -55,7 +55,7 @@ end_line = line (codes "end") []
 
 abbrev pub record_lines : Postsolve → List Line
 record_lines p =
-    header_lines p.sense
+    header_lines p.sense p.duals
     ++ (label_lines (codes "columns") p.columns
     ++ (label_lines (codes "rows") p.rows
     ++ offset_line p.offset ∷ (undo_lines p.undos

@@ -27,6 +27,11 @@ abbrev pub sense_word : Sense → List ℕ
 sense_word Min = codes "min"
 sense_word Max = codes "max"
 
+-- whether the records undo duals too
+abbrev pub duals_word : Bool → List ℕ
+duals_word true = codes "yes"
+duals_word false = codes "no"
+
 -- a side of a row
 abbrev pub letter_word : Side → List ℕ
 letter_word Lower = codes "L"

@@ -10,14 +10,17 @@ use lp_model::Sense;
 use std::alloc::AllocError;
 use undo_records::{Label, Undo};
 
-/// Appends the lines in front of the columns.
-pub fn push_header(out: &mut Vec<u8>, sense: Sense) -> Result<(), AllocError>
-    ensures { OnOk result (out.new.items ≡ out.old.items ++ lines_text (header_lines sense)) }
+/// Appends the lines in front of the columns: the header, the sense, and whether the records undo duals too.
+pub fn push_header(out: &mut Vec<u8>, sense: Sense, duals: bool) -> Result<(), AllocError>
+    ensures { OnOk result (out.new.items ≡ out.old.items ++ lines_text (header_lines sense duals)) }
 {
-    match sense {
-        Sense::Min => out.extend_from_slice(b"papilo-records 1\nsense min\nduals no\n"),
-        Sense::Max => out.extend_from_slice(b"papilo-records 1\nsense max\nduals no\n"),
-    }
+    let lines = match (sense, duals) {
+        (Sense::Min, false) => b"papilo-records 1\nsense min\nduals no\n".as_slice(),
+        (Sense::Min, true) => b"papilo-records 1\nsense min\nduals yes\n".as_slice(),
+        (Sense::Max, false) => b"papilo-records 1\nsense max\nduals no\n".as_slice(),
+        (Sense::Max, true) => b"papilo-records 1\nsense max\nduals yes\n".as_slice(),
+    };
+    out.extend_from_slice(lines)
 }
 
 /// Appends whether a row or a column is live, and its name.

@@ -14,7 +14,7 @@ pub fn write_records(alloc: Global, records: &Records) -> Result<Vec<u8>, AllocE
     ensures { IfOk result (λ text. text.items ≡ record_text records.now) }
 {
     let mut out = Vec::new(alloc);
-    push_header(&mut out, records.sense())?;
+    push_header(&mut out, records.sense(), records.undoes_duals())?;
     push_labels(&mut out, b"columns", records.columns())?;
     push_labels(&mut out, b"rows", records.rows())?;
     push_offset(&mut out, &records.offset())?;

@@ -9,7 +9,7 @@ use Rattle.record_words.specs.Undos.{undo_fault}
 use Rattle.record_words.specs.declared.faults.LineFault.{LineFault}
 use Rattle.record_words.specs.declared.faults.LineFault.TheVariants as line
 use Rattle.record_reader.specs.Labels.{label_of}
-use Rattle.record_reader.specs.Headings.{is_header, sense_of, is_duals, count_of, offset_of, is_end}
+use Rattle.record_reader.specs.Headings.{is_header, sense_of, duals_of, count_of, offset_of, is_end}
 use Rattle.record_reader.specs.Progress.{Progress}
 use Rattle.record_reader.specs.declared.faults.RecordFaultKind.{RecordFaultKind}
 use Rattle.record_reader.specs.declared.faults.RecordFaultKind.TheVariants.{BadHeader, BadLine, BadId, Cut, NumberPast}
@@ -62,7 +62,7 @@ end_fault p line = if is_end line then unless (ends_at p.live p.given) BadId els
 abbrev pub fault_at : Stage → Progress → List ℕ → Option RecordFaultKind
 fault_at Header p line = unless (is_header line) BadHeader
 fault_at SenseLine p line = unless (is_some (sense_of line)) BadLine
-fault_at DualsLine p line = unless (is_duals line) BadLine
+fault_at DualsLine p line = unless (is_some (duals_of line)) BadLine
 fault_at ColumnCount p line = unless (is_some (count_of (codes "columns ") line)) BadLine
 fault_at (Columns n) p line = unless (is_some (label_of line)) BadLine
 fault_at RowCount p line = unless (is_some (count_of (codes "rows ") line)) BadLine

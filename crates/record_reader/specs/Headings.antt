@@ -1,5 +1,5 @@
 -- The lines that aren't labels or records.
-use Rattle.std.specs.Prelude.{ℕ, ◌^◌, ◌-◌, Bool, not, ◌&&◌, List, [], ◌∷◌, length, take, drop, Option, Some, None, Result, Ok, Err, nat_lt, ◌==◌, codes, slice_index_or, if◌then◌else◌}
+use Rattle.std.specs.Prelude.{ℕ, ◌^◌, ◌-◌, Bool, true, false, not, ◌&&◌, List, [], ◌∷◌, length, take, drop, Option, Some, None, Result, Ok, Err, nat_lt, ◌==◌, codes, slice_index_or, if◌then◌else◌}
 use Rattle.std.specs.Str.{bytes_eq}
 use Rattle.rational.specs.Number.{Number}
 use Rattle.fractions.specs.declared.Numbers.TheVariants.{Fractions}
@@ -21,9 +21,9 @@ is_header line = bytes_eq line (codes "papilo-records 1")
 abbrev pub sense_of : List ℕ → Option Sense
 sense_of line = if bytes_eq line (codes "sense min") then Some Min else if bytes_eq line (codes "sense max") then Some Max else None
 
--- records of duals, `duals yes`, aren't read yet
-abbrev pub is_duals : List ℕ → Bool
-is_duals line = bytes_eq line (codes "duals no")
+-- whether the records undo duals too
+abbrev pub duals_of : List ℕ → Option Bool
+duals_of line = if bytes_eq line (codes "duals no") then Some false else if bytes_eq line (codes "duals yes") then Some true else None
 
 -- a heading with its space, and a number behind it; no text has as many lines as 2^64 - 1, which stands for what is more
 abbrev pub counted : List ℕ → ℕ

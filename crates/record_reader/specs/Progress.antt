@@ -1,5 +1,5 @@
 -- What the lines so far have given, and what the next one has to be.
-use Rattle.std.specs.Prelude.{ℕ, zero, suc, pred, List, [], ◌∷◌, ◌++◌, length, Result, Ok, Err, unwrap_or, codes}
+use Rattle.std.specs.Prelude.{ℕ, false, zero, suc, pred, List, [], ◌∷◌, ◌++◌, length, Result, Ok, Err, unwrap_or, codes}
 use Rattle.rational.specs.Number.{Number, zero_ℚ}
 use Rattle.lp_model.specs.declared.program.Sense.TheVariants.{Min}
 use Rattle.undo_records.specs.Postsolve.{Postsolve}
@@ -10,7 +10,7 @@ use Rattle.record_words.specs.Words.{words_of}
 use Rattle.record_words.specs.Undos.{undo_in}
 use Rattle.record_words.specs.declared.faults.LineFault.{LineFault}
 use Rattle.record_reader.specs.Labels.{label_of, with_label}
-use Rattle.record_reader.specs.Headings.{sense_of, count_of, offset_of}
+use Rattle.record_reader.specs.Headings.{sense_of, duals_of, count_of, offset_of}
 use Rattle.record_reader.specs.declared.stages.Stage.{Stage}
 use Rattle.record_reader.specs.declared.stages.Stage.TheVariants.{Header, SenseLine, DualsLine, ColumnCount, Columns, RowCount, Rows, Offset, RecordCount, Undos, End, Over}
 
@@ -21,7 +21,7 @@ pub record Progress : Type 0 where
   pub live : Flags
 
 abbrev pub nothing : Postsolve
-nothing = record { sense = Min; columns = []; rows = []; offset = zero_ℚ; undos = [] }
+nothing = record { sense = Min; duals = false; columns = []; rows = []; offset = zero_ℚ; undos = [] }
 
 abbrev pub start : Progress
 start = record { stage = Header; given = nothing; live = all_live 0 0 }
@@ -56,7 +56,7 @@ with_records p n = record { stage = undos_left n; given = p.given; live = all_li
 abbrev pub moved_at : Stage → Progress → List ℕ → Progress
 moved_at Header p line = record p { stage = SenseLine }
 moved_at SenseLine p line = record p { stage = DualsLine; given = record p.given { sense = unwrap_or (sense_of line) Min } }
-moved_at DualsLine p line = record p { stage = ColumnCount }
+moved_at DualsLine p line = record p { stage = ColumnCount; given = record p.given { duals = unwrap_or (duals_of line) false } }
 moved_at ColumnCount p line = record p { stage = columns_left (unwrap_or (count_of (codes "columns ") line) 0) }
 moved_at (Columns n) p line = record p { stage = columns_left (pred n); given = record p.given { columns = with_label p.given.columns (label_of line) } }
 moved_at RowCount p line = record p { stage = rows_left (unwrap_or (count_of (codes "rows ") line) 0) }

@@ -17,7 +17,7 @@ use Rattle.record_reader.specs.declared.stages.Stage.{Stage}
 
 -- the progress that a draft shows
 abbrev pub seen : Draft → Progress
-seen d = record { stage = d.stage; given = record { sense = d.sense; columns = d.columns.items; rows = d.rows.items; offset = d.offset; undos = d.undos.items }; live = d.walk }
+seen d = record { stage = d.stage; given = record { sense = d.sense; duals = d.duals; columns = d.columns.items; rows = d.rows.items; offset = d.offset; undos = d.undos.items }; live = d.walk }
 
 -- a number, or a fault, as it is to be
 abbrev pub IsNumber : Result Number LineFault → Result Number LineError → Type 0

@@ -8,7 +8,7 @@ ghost use Rattle.record_reader.specs.Results.{seen, TakesAt, Takes};
 ghost use Rattle.record_reader.specs.declared.stages.Stage.TheVariants.{Header, SenseLine, DualsLine, ColumnCount, Columns, RowCount, Rows, Offset, RecordCount, Undos, End, Over};
 
 use crate::faults::{RecordFaultKind, TakeError, kind_of};
-use crate::headings::{count_of, is_duals, is_end, is_header, offset_of, sense_of};
+use crate::headings::{count_of, duals_of, is_end, is_header, offset_of, sense_of};
 use crate::labels::label_of;
 use crate::stages::{Stage, columns_left, rows_left, undos_left};
 use fractions::frac::Frac;
@@ -22,6 +22,7 @@ use undo_records::{Label, Undo, Walk};
 pub struct Draft {
     pub stage: Stage,
     pub sense: Sense,
+    pub duals: bool,
     pub columns: Vec<Label>,
     pub rows: Vec<Label>,
     pub offset: Frac,
@@ -65,6 +66,7 @@ impl Draft {
         Ok(Draft {
             stage: Stage::Header,
             sense: Sense::Min,
+            duals: false,
             columns: Vec::new(alloc),
             rows: Vec::new(alloc),
             offset: Frac::zero(),
@@ -97,9 +99,10 @@ impl Draft {
     fn take_duals(&mut self, line: &[u8]) -> Result<(), TakeError>
         ensures { TakesAt DualsLine (seen self.old) line.now result (seen self.new) }
     {
-        if !is_duals(line) {
+        let Some(duals) = duals_of(line) else {
             return Err(TakeError::Fault(RecordFaultKind::BadLine));
-        }
+        };
+        self.duals = duals;
         self.stage = Stage::ColumnCount;
         Ok(())
     }

@@ -6,7 +6,7 @@ ghost use Rattle.fractions.specs.declared.Numbers.TheVariants.{Fractions};
 ghost use Rattle.number_texts.specs.Form.{cut, is_slash, is_point};
 ghost use Rattle.number_texts.specs.Read.{read_of};
 ghost use Rattle.record_words.specs.Ratios.{is_least, unsigned_part};
-ghost use Rattle.record_reader.specs.Headings.{is_header, sense_of, is_duals, counted, count_of, are_decimals, point_form, slash_form, has_written_form, offset_by, offset_of, is_end};
+ghost use Rattle.record_reader.specs.Headings.{is_header, sense_of, duals_of, counted, count_of, are_decimals, point_form, slash_form, has_written_form, offset_by, offset_of, is_end};
 ghost use Rattle.record_reader.specs.Results.{IsNumber};
 
 use crate::line_parts::{behind, front};
@@ -37,11 +37,17 @@ pub fn sense_of(line: &[u8]) -> Option<Sense>
     None
 }
 
-/// Whether a line says that there are no duals. Records with duals are not read yet.
-pub fn is_duals(line: &[u8]) -> bool
-    ensures { result ≡ is_duals line.now }
+/// Whether the records undo duals too, as a line tells.
+pub fn duals_of(line: &[u8]) -> Option<bool>
+    ensures { result ≡ duals_of line.now }
 {
-    line == b"duals no".as_slice()
+    if line == b"duals no".as_slice() {
+        return Some(false);
+    }
+    if line == b"duals yes".as_slice() {
+        return Some(true);
+    }
+    None
 }
 
 /// Whether a line is the end.

@@ -72,6 +72,7 @@ fn records_in(draft: Draft) -> Records
 {
     Records::new(
         draft.sense,
+        draft.duals,
         draft.columns,
         draft.rows,
         draft.offset,

@@ -11,7 +11,7 @@ pub enum Stage {
     Header,
     /// The sense.
     SenseLine,
-    /// Whether there are duals.
+    /// Whether duals are undone too.
     DualsLine,
     /// The number of columns.
     ColumnCount,

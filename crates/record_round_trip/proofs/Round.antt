@@ -1,5 +1,5 @@
 -- The text of records is read as the records.
-use Rattle.std.proofs.Common.{◌≡◌, ℕ, ◌^◌, ◌<◌, List, [], ◌∷◌, ◌++◌, map, length, None, refl, sym, ap, ◌∙◌, subst, arith}
+use Rattle.std.proofs.Common.{◌≡◌, ℕ, ◌^◌, ◌<◌, Bool, true, false, List, [], ◌∷◌, ◌++◌, map, length, None, refl, sym, ap, ◌∙◌, subst, arith}
 use Rattle.std.specs.Prelude.{All, codes}
 use Rattle.std.specs.Fmt.{decimal}
 use Rattle.std.specs.List.{AllByRecursion, list_all}
@@ -32,9 +32,11 @@ all_on : (xs ys : List Line) → AllByRecursion IsWhole xs → AllByRecursion Is
 all_on [] ys h k = k
 all_on (x ∷ xs) ys h k = (h.0, all_on xs ys h.1 k)
 
-header_whole : (s : Sense) → AllByRecursion IsWhole (header_lines s)
-header_whole Min = ((refl, (refl, tt)), ((refl, (refl, tt)), ((refl, (refl, tt)), tt)))
-header_whole Max = ((refl, (refl, tt)), ((refl, (refl, tt)), ((refl, (refl, tt)), tt)))
+header_whole : (s : Sense) (d : Bool) → AllByRecursion IsWhole (header_lines s d)
+header_whole Min false = ((refl, (refl, tt)), ((refl, (refl, tt)), ((refl, (refl, tt)), tt)))
+header_whole Min true = ((refl, (refl, tt)), ((refl, (refl, tt)), ((refl, (refl, tt)), tt)))
+header_whole Max false = ((refl, (refl, tt)), ((refl, (refl, tt)), ((refl, (refl, tt)), tt)))
+header_whole Max true = ((refl, (refl, tt)), ((refl, (refl, tt)), ((refl, (refl, tt)), tt)))
 
 all_named : (ls : List Label) → All IsName (map (λ (l : Label). l.name) ls) → Named ls
 all_named [] h = refl
@@ -64,7 +66,7 @@ lines_whole p s n r =
     let rows : AllByRecursion IsWhole (label_lines (codes "rows") p.rows) = (count_whole (codes "rows") (length p.rows) refl r.rows, labels_whole p.rows (all_named p.rows n.rows)) in
     let undos : AllByRecursion IsWhole (undo_lines p.undos) = (count_whole (codes "records") (length p.undos) refl r.records, undos_whole (length p.rows) (length p.columns) p.undos s.records r.undos) in
     let behind : AllByRecursion IsWhole (offset_line p.offset ∷ (undo_lines p.undos ++ end_line ∷ [])) = (offset, all_on (undo_lines p.undos) (end_line ∷ []) undos end) in
-    all_on (header_lines p.sense) (label_lines (codes "columns") p.columns ++ (label_lines (codes "rows") p.rows ++ offset_line p.offset ∷ (undo_lines p.undos ++ end_line ∷ []))) (header_whole p.sense)
+    all_on (header_lines p.sense p.duals) (label_lines (codes "columns") p.columns ++ (label_lines (codes "rows") p.rows ++ offset_line p.offset ∷ (undo_lines p.undos ++ end_line ∷ []))) (header_whole p.sense p.duals)
     (all_on (label_lines (codes "columns") p.columns) (label_lines (codes "rows") p.rows ++ offset_line p.offset ∷ (undo_lines p.undos ++ end_line ∷ [])) columns
     (all_on (label_lines (codes "rows") p.rows) (offset_line p.offset ∷ (undo_lines p.undos ++ end_line ∷ [])) rows behind))
 
@@ -81,7 +83,7 @@ all_pass p s n r =
     let f = all_live 0 0 in
     let f1 = all_live (length p.rows) (length p.columns) in
     let over = state Over p (flags_of p) in
-    let g1 : Postsolve = record nothing { sense = p.sense } in
+    let g1 : Postsolve = record nothing { sense = p.sense; duals = p.duals } in
     let g2 : Postsolve = record g1 { columns = p.columns } in
     let g3 : Postsolve = record g2 { rows = p.rows } in
     let g4 : Postsolve = record g3 { offset = p.offset } in
@@ -98,7 +100,7 @@ all_pass p s n r =
     let undos : Passes (state RecordCount g4 f) (map bytes_of (undo_lines p.undos)) (state End p (flags_of p)) =
     passes_on (state RecordCount g4 f) (state (undos_left (length p.undos)) g4 f1) (state End p (flags_of p)) (bytes_of (line (codes "records") (decimal (length p.undos) ∷ [])) ∷ []) (map bytes_of (map undo_line p.undos))
     (records_counted (length p.undos) g4 f r.records) (undos_pass (length p.rows) (length p.columns) g4 f1 (flags_of p) p.undos s.records r.undos s.walk) in
-    parts_on (header_lines p.sense) (label_lines (codes "columns") p.columns ++ behind_columns) start (state ColumnCount g1 f) over (header_passes p.sense)
+    parts_on (header_lines p.sense p.duals) (label_lines (codes "columns") p.columns ++ behind_columns) start (state ColumnCount g1 f) over (header_passes p.sense p.duals)
     (parts_on (label_lines (codes "columns") p.columns) behind_columns (state ColumnCount g1 f) (state RowCount g2 f) over columns
     (parts_on (label_lines (codes "rows") p.rows) behind_rows (state RowCount g2 f) (state Offset g3 f) over rows
     (parts_on (offset_line p.offset ∷ []) behind_offset (state Offset g3 f) (state RecordCount g4 f) over (offset_passes p.offset g3 f r.offset)

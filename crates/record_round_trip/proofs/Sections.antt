@@ -42,10 +42,12 @@ use Rattle.record_round_trip.proofs.Records.{record_again, undo_words, undo_pass
 use Rattle.record_round_trip.proofs.Passing.{Passes, state, passes_line}
 
 -- ---- the header
-pub header_passes : (s : Sense) → Passes start (map bytes_of (header_lines s)) (state ColumnCount (record nothing { sense = s }) (all_live 0 0))
+pub header_passes : (s : Sense) (d : Bool) → Passes start (map bytes_of (header_lines s d)) (state ColumnCount (record nothing { sense = s; duals = d }) (all_live 0 0))
 unfolding line_fault moved
-header_passes Min = (refl, (refl, (refl, refl)))
-header_passes Max = (refl, (refl, (refl, refl)))
+header_passes Min false = (refl, (refl, (refl, refl)))
+header_passes Min true = (refl, (refl, (refl, refl)))
+header_passes Max false = (refl, (refl, (refl, refl)))
+header_passes Max true = (refl, (refl, (refl, refl)))
 
 -- ---- counts
 same_bytes : (w : List ℕ) → bytes_eq w w ≡ true

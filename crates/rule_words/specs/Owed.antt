@@ -3,11 +3,13 @@ use Rattle.std.specs.Prelude.{◌≡◌, ℕ, true, length, List, All, Bool}
 use Rattle.fractions.specs.declared.Numbers.{Numbers}
 use Rattle.lp_model.specs.declared.program.Sense.TheVariants.{Min}
 use Rattle.lp_model.specs.LinearProgram.{LinearProgram}
-use Rattle.lp_model.specs.Reductions.{Reduces}
+use Rattle.lp_model.specs.Optimality.{Continuous}
+use Rattle.lp_model.specs.Reductions.{Reduces, ReducesPairs}
 use Rattle.undo_records.specs.declared.undo.Undo.{Undo}
 use Rattle.undo_records.specs.Lift.{undone}
 use Rattle.undo_records.specs.Sound.{IsSound}
 use Rattle.undo_records.specs.Walk.{NamesLive, after}
+use Rattle.postsolve_dual.specs.LiftPair.{undone_pair}
 use Rattle.problem_model.specs.Flags.{flags_of}
 use Rattle.problem_model.specs.Problems.{IsSparse}
 use Rattle.problem_model.specs.Showing.{shown}
@@ -25,6 +27,8 @@ pub record Owes (p : Sparse) (es : List Edit) (u : Undo) : Type 0 where
   pub allowed : AreAllowed p es
   pub ordered : EntriesFirst es
   pub reduces : Reduces Min (shown p) (shown (committed p es)) (undone u) (added_by es)
+  -- where no column is whole
+  pub pairs : Continuous (shown p) → ReducesPairs Min (shown p) (shown (committed p es)) (undone_pair u)
   pub sided : (numbers : Numbers) → IsWritable numbers p → All EditIsSided es
   pub sound : IsSound (length p.matrix.rows) (length p.matrix.columns) u
   pub names : NamesLive (flags_of p) u

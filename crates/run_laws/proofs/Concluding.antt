@@ -41,14 +41,15 @@ labels_same (x ∷ xs) (y ∷ ys) e f = ap₂ ◌∷◌ (label_same x y (ap (fir
     label_same : (x y : Label) → x.name ≡ y.name → x.live ≡ y.live → x ≡ y
     label_same x y e f = ap₂ (λ (n : List ℕ) (b : Bool). let l : Label = record { name = n; live = b } in l) e f
 
-told_same : (program : ProgramData) (b : Ledger) (t u : Postsolve) → IsToldOf program b t → IsToldOf program b u → t ≡ u
-told_same program b t u x y =
+told_same : (dual : Bool) (program : ProgramData) (b : Ledger) (t u : Postsolve) → IsToldOf dual program b t → IsToldOf dual program b u → t ≡ u
+told_same dual program b t u x y =
     let e1 = x.sense ∙ sym y.sense in
     let e2 = labels_same t.columns u.columns (x.column_names ∙ sym y.column_names) (x.columns ∙ sym y.columns) in
     let e3 = labels_same t.rows u.rows (x.row_names ∙ sym y.row_names) (x.rows ∙ sym y.rows) in
     let e4 = x.offset ∙ sym y.offset in
     let e5 = x.undos ∙ sym y.undos in
-    λ i. record { sense = e1 i; columns = e2 i; rows = e3 i; offset = e4 i; undos = e5 i }
+    let e6 = x.duals ∙ sym y.duals in
+    λ i. record { sense = e1 i; duals = e6 i; columns = e2 i; rows = e3 i; offset = e4 i; undos = e5 i }
 
 some_same : (e f : End) → Some e ≡ Some f → e ≡ f
 some_same e f h = cc
@@ -58,7 +59,7 @@ pub concluded_same : (options : Options) (program r s : ProgramData) (t u : Post
 concluded_same options program r s t u e f x y =
     let k = runs_same options program (Some e) (Some f) x.ordered.book y.ordered.book x.ordered.runs y.ordered.runs in (
       x.ordered.written ∙ ap (λ (b : Ledger). written_program program b.problem) k.1 ∙ sym y.ordered.written,
-      told_same program x.ordered.book t u x.ordered.tells (subst (λ (b : Ledger). IsToldOf program b u) (sym k.1) y.ordered.tells),
+      told_same options.dual program x.ordered.book t u x.ordered.tells (subst (λ (b : Ledger). IsToldOf options.dual program b u) (sym k.1) y.ordered.tells),
       some_same e f k.0,
     )
 

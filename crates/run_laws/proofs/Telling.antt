@@ -24,7 +24,7 @@ use Rattle.lp_model.specs.EndTests.{is_in_order}
 use Rattle.presolve_model.specs.Ledger.{Ledger, Stands}
 use Rattle.problem_model.specs.Problems.{IsSparse, row_at, sides_at}
 use Rattle.problem_model.specs.Programs.{IsProblemOf, written_program}
-use Rattle.presolve_model.specs.Ordered.{RunsTo}
+use Rattle.presolve_model.specs.Ordered.{options_of, RunsTo}
 use Rattle.presolve_model.specs.Replay.{replay}
 use Rattle.problem_model.specs.Sparse.{Sparse}
 use Rattle.presolve_model.specs.Stuck.{IsUndecided}
@@ -39,8 +39,8 @@ use Rattle.history_laws.proofs.Walks.{is_of, walked_sound}
 use Rattle.presolve_model.specs.Telling.{IsToldOf, are_live}
 
 -- ---- the walk
-abbrev pub walked : (program : ProgramData) (b : Ledger) (told : Postsolve) → IsProblemOf program b.start → Stands b → IsToldOf program b told → Walked b.numbers program (written_program program b.problem) told
-walked program b told o s t = record {
+abbrev pub walked : (dual : Bool) (program : ProgramData) (b : Ledger) (told : Postsolve) → IsProblemOf program b.start → Stands b → IsToldOf dual program b told → Walked b.numbers program (written_program program b.problem) told
+walked dual program b told o s t = record {
   start = b.start;
   history = b.history;
   opened = o;
@@ -52,8 +52,8 @@ walked program b told o s t = record {
   columns = t.columns ∙ ap (λ (q : Sparse). are_live q.matrix.columns) s.problem;
 }
 
-pub told_sound : (program : ProgramData) (b : Ledger) (told : Postsolve) → IsProblemOf program b.start → Stands b → IsToldOf program b told → AreSound told
-told_sound program b told o s t = walked_sound b.numbers program (written_program program b.problem) told (walked program b told o s t)
+pub told_sound : (dual : Bool) (program : ProgramData) (b : Ledger) (told : Postsolve) → IsProblemOf program b.start → Stands b → IsToldOf dual program b told → AreSound told
+told_sound dual program b told o s t = walked_sound b.numbers program (written_program program b.problem) told (walked dual program b told o s t)
 
 -- ---- the program that is written
 pub problem_is_of : (program : ProgramData) (b : Ledger) → IsProblemOf program b.start → Stands b → IsOf program b.problem
@@ -92,9 +92,9 @@ verdict_says program b v o s e =
     meant_in v program.sense (meaning program) (subst (Meant v Min) (problem_shows_program program b.start o)
     (verdict_means b.numbers b.start b.history v s.sound s.replays (subst (λ (q : Sparse). enabled_on q (at.Verdict v) ≡ true) s.problem e)))
 
-pub decided : (program : ProgramData) (b : Ledger) (v : Verdict) → IsProblemOf program b.start → Stands b → b.verdict ≡ Some v → RunsTo (record { numbers = b.numbers; limit = b.limit }) program None b
-    → Decided (record { numbers = b.numbers; limit = b.limit }) program b.history v
-decided program b v o s h runs =
+pub decided : (dual : Bool) (program : ProgramData) (b : Ledger) (v : Verdict) → IsProblemOf program b.start → Stands b → b.verdict ≡ Some v → RunsTo (options_of dual b) program None b
+    → Decided (options_of dual b) program b.history v
+decided dual program b v o s h runs =
     let e : enabled_on b.problem (at.Verdict v) ≡ true = subst (λ (x : Option Verdict). IfSome x (λ w. enabled_on b.problem (at.Verdict w) ≡ true)) h s.verdict in
     record {
       start = b.start;

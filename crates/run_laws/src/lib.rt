@@ -2,7 +2,7 @@
 //! nothing when they run: each states laws of the definitions in `presolve_model`, and its check proves them.
 #![tactic(auto)]
 
-ghost use Rattle.std.specs.Prelude.{◌≡◌, ◌<◌, List, length, None, Some, Option};
+ghost use Rattle.std.specs.Prelude.{◌≡◌, ◌<◌, Bool, List, length, None, Some, Option};
 ghost use Rattle.lp_model.specs.ProgramData.{ProgramData};
 ghost use Rattle.lp_model.specs.Writable.{EntriesAscend, Writable};
 ghost use Rattle.undo_records.specs.Postsolve.{Postsolve};
@@ -16,7 +16,7 @@ ghost use Rattle.presolve_model.specs.declared.instance.Verdict.{Verdict};
 ghost use Rattle.presolve_model.specs.Accounts.{Walked};
 ghost use Rattle.presolve_model.specs.Conclusions.{Concluded, Decided};
 ghost use Rattle.presolve_model.specs.Ledger.{Ledger, Stands};
-ghost use Rattle.presolve_model.specs.Ordered.{Ordered, RunsTo};
+ghost use Rattle.presolve_model.specs.Ordered.{options_of, Ordered, RunsTo};
 ghost use Rattle.presolve_model.specs.Stuck.{IsUndecided};
 ghost use Rattle.presolve_model.specs.Telling.{IsToldOf};
 
@@ -37,9 +37,9 @@ pub fn conclusions_are_one()
 /// What a book that was opened with a program's problem says of the program: what is told of it walks, the written program is sparse and
 /// can be written, and with a verdict, where the run ended so, the program is decided.
 pub fn books_tell()
-    ensures walked { (program : ProgramData) (b : Ledger) (told : Postsolve) → IsProblemOf program b.start → Stands b → IsToldOf program b told → Walked b.numbers program (written_program program b.problem) told }
-    ensures sound { (program : ProgramData) (b : Ledger) (told : Postsolve) → IsProblemOf program b.start → Stands b → IsToldOf program b told → AreSound told }
+    ensures walked { (dual : Bool) (program : ProgramData) (b : Ledger) (told : Postsolve) → IsProblemOf program b.start → Stands b → IsToldOf dual program b told → Walked b.numbers program (written_program program b.problem) told }
+    ensures sound { (dual : Bool) (program : ProgramData) (b : Ledger) (told : Postsolve) → IsProblemOf program b.start → Stands b → IsToldOf dual program b told → AreSound told }
     ensures ascends { (program : ProgramData) (b : Ledger) → IsProblemOf program b.start → Stands b → EntriesAscend (written_program program b.problem) }
     ensures writable { (program : ProgramData) (b : Ledger) → Writable b.numbers program → IsProblemOf program b.start → Stands b → IsUndecided b.problem → Writable b.numbers (written_program program b.problem) }
-    ensures decided { (program : ProgramData) (b : Ledger) (v : Verdict) → IsProblemOf program b.start → Stands b → b.verdict ≡ Some v → RunsTo (record { numbers = b.numbers; limit = b.limit }) program None b → Decided (record { numbers = b.numbers; limit = b.limit }) program b.history v }
+    ensures decided { (dual : Bool) (program : ProgramData) (b : Ledger) (v : Verdict) → IsProblemOf program b.start → Stands b → b.verdict ≡ Some v → RunsTo (options_of dual b) program None b → Decided (options_of dual b) program b.history v }
 {}

@@ -3,12 +3,13 @@ use Rattle.std.proofs.Common.{◌≡◌, ℕ, Bool, true, false, List, [], ◌�
 use Rattle.std.specs.Prelude.{if◌then◌else◌}
 use Rattle.std.proofs.lemmas.Bool.{and_parts}
 use Rattle.rational.specs.Number.{Number, zero_ℚ}
-use Rattle.lp_model.specs.declared.program.Sense.TheVariants.{Min}
 use Rattle.lp_model.specs.declared.terms.Term.{Term}
 use Rattle.lp_model.specs.Sparse.{dense}
 use Rattle.lp_model.specs.Edits.{with_bounds}
 use Rattle.lp_columns.specs.EmptyColumn.{IsEmptyColumn, resting_place}
 use Rattle.lp_columns.proofs.EmptyColumn.{empty_column}
+use Rattle.postsolve_dual.specs.LiftPair.{undone_pair}
+use Rattle.pair_laws.proofs.ColumnPairs.{empty_column_pair}
 use Rattle.problem_model.specs.declared.edit.Edit.TheVariants.{SetBounds}
 use Rattle.problem_model.specs.declared.part.Contents.TheVariants as holding
 use Rattle.lp_model.specs.EndTests.{is_apart, is_place}
@@ -20,7 +21,7 @@ use Rattle.rule_words.specs.Owed.{RuleOwes}
 use Rattle.rule_words.proofs.Coefficients.{zero_either, end_live, coefficient_in_column}
 use Rattle.rule_words.proofs.EndTestsSay.{not_true, apart_ends, Finite, finite_end}
 use Rattle.rule_words.proofs.Named.{one_on, none_on, one_sided, nothing}
-use Rattle.edit_laws.proofs.Reducing.{by_edits}
+use Rattle.edit_laws.proofs.Reducing.{by_edits, pairs_by_edits}
 use Rattle.singleton_laws.specs.EmptyColumn.{is_empty_column, enabled, place_of, edits, record_of}
 
 -- what the condition says: a live column without live entries, which costs least at the place o, the finite v
@@ -60,6 +61,8 @@ owes p j s e = let r = said p j e in let v : Number = unwrap_or (place_of p j) z
   ordered = tt;
   reduces = by_edits p (edits p j) (with_bounds (shown p) j (Some v) (Some v)) (λ x. x) zero_ℚ s (r.live, tt)
       (ap (λ (o : Option Number). with_bounds (shown p) j o o) r.place.value) nothing (empty_column (shown p) j v (shows p j s r));
+  pairs = λ continuous. pairs_by_edits p (edits p j) (with_bounds (shown p) j (Some v) (Some v)) (undone_pair (record_of p j)) s (r.live, tt)
+      (ap (λ (o : Option Number). with_bounds (shown p) j o o) r.place.value) (empty_column_pair (shown p) j v (shows p j s r));
   sided = λ numbers w. one_sided (SetBounds j (place_of p j) (place_of p j)) tt;
   sound = column_inside p j r.live;
   names = (none_on p.matrix.rows, one_on p.matrix.columns j r.live);

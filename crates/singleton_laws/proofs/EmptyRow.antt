@@ -9,6 +9,8 @@ use Rattle.lp_model.specs.Sparse.{dense}
 use Rattle.lp_model.specs.Edits.{without_row}
 use Rattle.lp_rows.specs.EmptyRow.{IsEmptyRow}
 use Rattle.lp_rows.proofs.EmptyRow.{empty_row}
+use Rattle.postsolve_dual.specs.LiftPair.{undone_pair}
+use Rattle.pair_laws.proofs.RowPairs.{empty_row_pair}
 use Rattle.problem_model.specs.declared.edit.Edit.TheVariants.{DeleteRow}
 use Rattle.problem_model.specs.declared.part.Contents.TheVariants as holding
 use Rattle.problem_model.specs.Problems.{row_at, sides_at, row_entries}
@@ -19,7 +21,7 @@ use Rattle.rule_words.specs.Owed.{RuleOwes}
 use Rattle.rule_words.proofs.Coefficients.{zero_either, coefficient_in_row}
 use Rattle.rule_words.proofs.EndTestsSay.{not_true, zero_held}
 use Rattle.rule_words.proofs.Named.{one_on, none_on, one_sided, nothing}
-use Rattle.edit_laws.proofs.Reducing.{by_edits}
+use Rattle.edit_laws.proofs.Reducing.{by_edits, pairs_by_edits}
 use Rattle.singleton_laws.specs.EmptyRow.{is_empty_row, enabled, edits, record_of}
 
 -- what the condition says: a live row without live entries, whose sides hold 0
@@ -49,6 +51,7 @@ owes p i s e = let h = said p i e in record {
   allowed = (h.live, tt);
   ordered = tt;
   reduces = by_edits p (edits p i) (without_row (shown p) i) (λ x. x) zero_ℚ s (h.live, tt) refl nothing (empty_row Min (shown p) i (shows p i h));
+  pairs = λ continuous. pairs_by_edits p (edits p i) (without_row (shown p) i) (undone_pair (record_of p i)) s (h.live, tt) refl (empty_row_pair (shown p) i (shows p i h));
   sided = λ numbers w. one_sided (DeleteRow i) tt;
   sound = row_inside p i h.live;
   names = (one_on p.matrix.rows i h.live, none_on p.matrix.columns);

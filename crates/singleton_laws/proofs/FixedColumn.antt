@@ -1,5 +1,5 @@
 -- K3.
-use Rattle.std.proofs.Common.{◌≡◌, ◌⊎◌, inl, inr, ℕ, Bool, true, false, List, [], ◌∷◌, ◌++◌, map, get_or, length, Option, Some, None, unwrap_or, refl, sym, ap, ap₂, ◌∙◌, subst, pos}
+use Rattle.std.proofs.Common.{◌≡◌, ◌⊎◌, inl, inr, ℕ, Bool, true, false, List, [], ◌∷◌, ◌++◌, get_or, Option, Some, None, unwrap_or, refl, sym, ap, ap₂, ◌∙◌, subst, pos}
 use Rattle.std.specs.Prelude.{if◌then◌else◌}
 use Rattle.std.specs.List.{All}
 use Rattle.std.proofs.lemmas.Bool.{and_parts}
@@ -11,12 +11,16 @@ use Rattle.fractions.specs.declared.Numbers.{Numbers}
 use Rattle.lp_model.specs.declared.program.Sense.TheVariants.{Min}
 use Rattle.lp_model.specs.declared.terms.Term.{Term}
 use Rattle.lp_model.specs.LinearProgram.{LinearProgram}
-use Rattle.lp_model.specs.Reductions.{Reduces}
+use Rattle.lp_model.specs.Optimality.{Continuous}
+use Rattle.lp_model.specs.Reductions.{Reduces, ReducesPairs}
 use Rattle.lp_model.specs.Sparse.{dense, has}
 use Rattle.lp_model.specs.Edits.{without_column}
 use Rattle.lp_columns.specs.FixedColumn.{IsFixedColumn, undo_fixed_column}
 use Rattle.lp_columns.proofs.FixedColumn.{fixed_column}
-use Rattle.undo_records.specs.Walk.{after}
+use Rattle.undo_records.specs.declared.undo.Undo.{Undo}
+use Rattle.undo_records.specs.declared.undo.Undo.TheVariants as undo
+use Rattle.postsolve_dual.specs.LiftPair.{undone_pair}
+use Rattle.pair_laws.proofs.ColumnPairs.{fixed_column_pair}
 use Rattle.problem_model.specs.declared.part.Contents.TheVariants as holding
 use Rattle.problem_model.specs.Flags.{flags_of}
 use Rattle.problem_model.specs.Matrices.{line_at}
@@ -41,8 +45,8 @@ use Rattle.problem_model.specs.EditedPrograms.{programs_edited}
 use Rattle.edit_laws.proofs.Lists.{allowed_more, entries_first_none}
 use Rattle.edit_laws.proofs.Sweeps.{sweep, programs_more, added_more, sweep_matrix, sweep_allowed, sweep_added, sweep_flags, sweep_no_entries, sweep_sided, sweep_only, sweep_lower, sweep_upper}
 use Rattle.rule_words.specs.Owed.{RuleOwes}
-use Rattle.singleton_laws.specs.FixedColumn.{is_fixed_column, enabled, value_of, sides_less, column_out, edits, record_of}
-use Rattle.edit_laws.proofs.Reducing.{by_edits}
+use Rattle.singleton_laws.specs.FixedColumn.{is_fixed_column, enabled, value_of, column_out, edits, record_of}
+use Rattle.edit_laws.proofs.Reducing.{by_edits, pairs_by_edits}
 use Rattle.rule_words.proofs.Named.{one_on, ids_on, two_sided}
 
 -- what the condition says: a live column whose bounds are v
@@ -124,10 +128,22 @@ module _ (p : Sparse) (s : IsSparse p) (j : ℕ) (w : Number) (f : Said (column_
     whole = λ h. f.ends.whole (and_parts (column_at p j).live (bounds_at p j).whole h).1;
   }
 
+  cost_live : (shown p).costs j ≡ cost_at p j
+  cost_live = ap (λ (on : Bool). if on then cost_at p j else zero_ℚ) f.live
+
   reduces : Reduces Min (shown p) (shown (committed p all)) (undo_fixed_column j w) (added_by all)
   reduces = by_edits p all (without_column (shown p) j w) (undo_fixed_column j w) (cost_at p j *ℚ w) s allowed shows (sym adds)
-      (subst (λ (c : Number). Reduces Min (shown p) (without_column (shown p) j w) (undo_fixed_column j w) (c *ℚ w)) (ap (λ (on : Bool). if on then cost_at p j else zero_ℚ) f.live)
+      (subst (λ (c : Number). Reduces Min (shown p) (without_column (shown p) j w) (undo_fixed_column j w) (c *ℚ w)) cost_live
       (fixed_column (shown p) j w shows_fixed_column Min))
+
+  -- the record with the cost c
+  abbrev kept : Number → Undo
+  kept c = undo.FixedColumn (record { column = j; value = w; cost = c; entries = ts })
+
+  pairs : Continuous (shown p) → ReducesPairs Min (shown p) (shown (committed p all)) (undone_pair (kept (cost_at p j)))
+  pairs continuous = pairs_by_edits p all (without_column (shown p) j w) (undone_pair (kept (cost_at p j))) s allowed shows
+      (subst (λ (c : Number). ReducesPairs Min (shown p) (without_column (shown p) j w) (undone_pair (kept c))) cost_live
+      (fixed_column_pair (shown p) j w ts continuous shows_fixed_column (column_entries-ascend p j s) (λ t i. column_has i t)))
 
   sided : (numbers : Numbers) → IsWritable numbers p → All EditIsSided all
   sided numbers h = All-append EditIsSided (sweep low high ts) (column_out j (cost_at p j *ℚ w))
@@ -139,6 +155,7 @@ owes p j s e = let f = said p j e in let w = value_of p j in record {
   allowed = allowed p s j w f;
   ordered = entries_first_none (edits p j) (sweep_no_entries (low p s j w f) (high p s j w f) (column_entries p j) (column_out j (cost_at p j *ℚ w)) tt);
   reduces = reduces p s j w f;
+  pairs = pairs p s j w f;
   sided = sided p s j w f;
   sound = (column_inside p j f.live, column_entries-ascend p j s);
   names = (ids_on p.matrix.rows (column_at p j).entries, one_on p.matrix.columns j f.live);

@@ -1,11 +1,13 @@
 -- K4.
-use Rattle.std.proofs.Common.{◌≡◌, ℕ, Bool, true, false, ◌&&◌, List, [], ◌∷◌, Option, refl, sym, ap, ap₂, ◌∙◌, subst}
+use Rattle.std.proofs.Common.{◌≡◌, ℕ, Bool, true, false, ◌&&◌, List, [], ◌∷◌, Option, refl, sym, ap, ap₂, ◌∙◌}
 use Rattle.std.specs.Prelude.{if◌then◌else◌}
 use Rattle.rational.specs.Number.{Number, zero_ℚ}
 use Rattle.lp_model.specs.declared.program.Sense.TheVariants.{Min}
 use Rattle.lp_model.specs.Edits.{with_bounds}
-use Rattle.lp_columns.specs.RoundBounds.{rounded_up, rounded_down, bounds_rounded}
+use Rattle.lp_columns.specs.RoundBounds.{IsWholeColumn, rounded_up, rounded_down, bounds_rounded}
 use Rattle.lp_columns.proofs.RoundBounds.{bounds_rounded_reduce}
+use Rattle.postsolve_dual.specs.LiftPair.{undone_pair}
+use Rattle.pair_laws.proofs.ColumnPairs.{rounded_bounds_pair}
 use Rattle.problem_model.specs.declared.edit.Edit.{Edit}
 use Rattle.problem_model.specs.declared.edit.Edit.TheVariants.{SetBounds}
 use Rattle.problem_model.specs.declared.part.Contents.{Contents}
@@ -20,7 +22,7 @@ use Rattle.problem_laws.proofs.AtIds.{column_inside}
 use Rattle.rule_words.specs.Owed.{RuleOwes}
 use Rattle.rule_words.proofs.EndTestsSay.{not_true}
 use Rattle.rule_words.proofs.Named.{one_on, none_on, one_sided, nothing}
-use Rattle.edit_laws.proofs.Reducing.{by_edits}
+use Rattle.edit_laws.proofs.Reducing.{by_edits, pairs_by_edits}
 use Rattle.singleton_laws.specs.RoundBounds.{is_to_be_rounded, enabled, edits, record_of}
 
 -- what the condition says: a live column that must be whole
@@ -39,12 +41,15 @@ said p j = says (column_at p j).live (bounds_at p j).lower (bounds_at p j).upper
 rounded : (p : Sparse) (j : ℕ) → (column_at p j).live ≡ true → programs_edited (shown p) (edits p j) ≡ bounds_rounded (shown p) j
 rounded p j live = ap (λ (on : Bool). with_bounds (shown p) j (rounded_up (end_if on (bounds_at p j).lower)) (rounded_down (end_if on (bounds_at p j).upper))) (sym live)
 
+shows : (p : Sparse) (j : ℕ) → Said (column_at p j).live (bounds_at p j).whole → IsWholeColumn (shown p) j
+shows p j b = record { column = column_inside p j b.live; whole = ap₂ (λ (x y : Bool). x && y) b.live b.whole }
+
 pub owes : RuleOwes enabled edits record_of
 owes p j s e = let b = said p j e in record {
   allowed = (b.live, tt);
   ordered = tt;
-  reduces = by_edits p (edits p j) (bounds_rounded (shown p) j) (λ x. x) zero_ℚ s (b.live, tt) (rounded p j b.live) nothing
-      (bounds_rounded_reduce Min (shown p) j (record { column = column_inside p j b.live; whole = ap₂ (λ (x y : Bool). x && y) b.live b.whole }));
+  reduces = by_edits p (edits p j) (bounds_rounded (shown p) j) (λ x. x) zero_ℚ s (b.live, tt) (rounded p j b.live) nothing (bounds_rounded_reduce Min (shown p) j (shows p j b));
+  pairs = λ continuous. pairs_by_edits p (edits p j) (bounds_rounded (shown p) j) (undone_pair (record_of p j)) s (b.live, tt) (rounded p j b.live) (rounded_bounds_pair (shown p) j (shows p j b));
   sided = λ numbers w. one_sided (SetBounds j (rounded_up (bounds_at p j).lower) (rounded_down (bounds_at p j).upper)) tt;
   sound = column_inside p j b.live;
   names = (none_on p.matrix.rows, one_on p.matrix.columns j b.live);

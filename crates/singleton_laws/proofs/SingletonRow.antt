@@ -9,26 +9,33 @@ use Rattle.rational.specs.Total.{put}
 use Rattle.rational.proofs.Totals.{put-same, put-other}
 use Rattle.lp_model.specs.declared.program.Sense.TheVariants.{Min}
 use Rattle.lp_model.specs.declared.terms.Term.{Term}
+use Rattle.lp_model.specs.Reductions.{ReducesPairs}
 use Rattle.lp_model.specs.Sparse.{Ascends, dense}
 use Rattle.lp_model.specs.Edits.{without_row, with_bounds}
 use Rattle.lp_theory.specs.MetEnds.{lower_over, upper_over}
 use Rattle.lp_rows.specs.SingletonRow.{IsSingletonRow, singleton_row_met}
 use Rattle.lp_rows.specs.SingletonRow as rule
 use Rattle.lp_rows.proofs.SingletonRow.{singleton_row}
+use Rattle.undo_records.specs.declared.undo.Undo.{Undo}
+use Rattle.undo_records.specs.declared.undo.Undo.TheVariants as undo
+use Rattle.postsolve_dual.specs.LiftPair.{undone_pair}
+use Rattle.pair_laws.specs.Records as kept
+use Rattle.pair_laws.proofs.RowPairs.{singleton_row_pair}
 use Rattle.problem_model.specs.declared.edit.Edit.TheVariants.{SetBounds, DeleteRow}
 use Rattle.problem_model.specs.declared.part.Contents.TheVariants as holding
 use Rattle.problem_model.specs.Allowed.{AreAllowed}
 use Rattle.problem_model.specs.EditedPrograms.{programs_edited}
+use Rattle.problem_model.specs.Raised.{committed}
 use Rattle.problem_model.specs.Problems.{first_of, row_at, column_at, sides_at, bounds_at, row_entries, IsSparse}
 use Rattle.problem_model.specs.Showing.{coefficient_of, end_if, shown}
 use Rattle.problem_model.specs.Sparse.{Sparse}
 use Rattle.problem_laws.proofs.AtIds.{row_inside}
 use Rattle.problem_laws.proofs.Entries.{row_entries-ascend, row_entries-live}
 use Rattle.rule_words.specs.Owed.{RuleOwes}
-use Rattle.rule_words.proofs.Coefficients.{coefficient_in_row}
+use Rattle.rule_words.proofs.Coefficients.{coefficient_in_row, end_live}
 use Rattle.rule_words.proofs.EndTestsSay.{not_true}
 use Rattle.rule_words.proofs.Named.{one_on, nothing_twice, two_sided}
-use Rattle.edit_laws.proofs.Reducing.{by_edits}
+use Rattle.edit_laws.proofs.Reducing.{by_edits, pairs_by_edits}
 use Rattle.singleton_laws.specs.SingletonRow.{is_singleton_row, enabled, sole_entry, met_lower, met_upper, edits, record_of}
 
 -- what the condition says: a live row with one live entry
@@ -89,11 +96,26 @@ module _ (p : Sparse) (s : IsSparse p) (i : ℕ) (o : Said (row_at p i).live (ro
   allowed : AreAllowed p (edits p i)
   allowed = (sole_live p i o, (o.live, tt))
 
+  -- the program's numbers in the record
+  same_record : kept.singleton_row (shown p) i j ≡ record_of p i
+  same_record t = undo.SingletonRow (record {
+    row = i;
+    column = j;
+    value = entry_is t;
+    lower = end_live (column_at p j).live (bounds_at p j).lower (sole_live p i o) t;
+    upper = end_live (column_at p j).live (bounds_at p j).upper (sole_live p i o) t;
+  })
+
+  pairs : ReducesPairs Min (shown p) (shown (committed p (edits p i))) (undone_pair (record_of p i))
+  pairs = pairs_by_edits p (edits p i) (singleton_row_met (shown p) i j) (undone_pair (record_of p i)) s allowed met
+      (subst (λ (u : Undo). ReducesPairs Min (shown p) (singleton_row_met (shown p) i j) (undone_pair u)) same_record (singleton_row_pair (shown p) i j shows))
+
 pub owes : RuleOwes enabled edits record_of
 owes p i s e = let o = said p i e in let t : Term = sole_entry p i in let a = sole_ascends p i s o in record {
   allowed = allowed p s i o;
   ordered = tt;
   reduces = by_edits p (edits p i) (singleton_row_met (shown p) i t.id) (λ x. x) zero_ℚ s (allowed p s i o) (met p s i o) nothing_twice (singleton_row (shown p) i t.id (shows p s i o) Min);
+  pairs = λ continuous. pairs p s i o;
   sided = λ numbers w. two_sided (SetBounds t.id (met_lower p i t) (met_upper p i t)) (DeleteRow i) tt tt;
   sound = (row_inside p i o.live, a.1, a.2);
   names = (one_on p.matrix.rows i o.live, one_on p.matrix.columns t.id (sole_live p i o));

@@ -51,10 +51,10 @@ walks_on f g [] u w n = (subst (λ h. NamesLive h u) w n, ap (after u) w)
 walks_on f g (v ∷ us) u w n = (w.0, walks_on (after v f) g us u w.1 n)
 
 -- a test of parts is a test of the same parts
-pub judged : (s : Sense) (o : Number) (cs rs ds qs : List Label) (us vs : List Undo) (b : Bool) → ds ≡ cs → qs ≡ rs → vs ≡ us
-    → ((t : Sense) (p : Number) → IsTrue b ↔ AreSound (record { sense = t; columns = ds; rows = qs; offset = p; undos = vs }))
-    → IsTrue b ↔ AreSound (record { sense = s; columns = cs; rows = rs; offset = o; undos = us })
-judged s o cs rs ds qs us vs b ec er eu h =
-    subst (λ ws. IsTrue b ↔ AreSound (record { sense = s; columns = cs; rows = rs; offset = o; undos = ws })) eu
-    (subst (λ ps. IsTrue b ↔ AreSound (record { sense = s; columns = cs; rows = ps; offset = o; undos = vs })) er
-    (subst (λ ps. IsTrue b ↔ AreSound (record { sense = s; columns = ps; rows = qs; offset = o; undos = vs })) ec (h s o)))
+pub judged : (s : Sense) (d : Bool) (o : Number) (cs rs ds qs : List Label) (us vs : List Undo) (b : Bool) → ds ≡ cs → qs ≡ rs → vs ≡ us
+    → ((t : Sense) (e : Bool) (p : Number) → IsTrue b ↔ AreSound (record { sense = t; duals = e; columns = ds; rows = qs; offset = p; undos = vs }))
+    → IsTrue b ↔ AreSound (record { sense = s; duals = d; columns = cs; rows = rs; offset = o; undos = us })
+judged s d o cs rs ds qs us vs b ec er eu h =
+    subst (λ ws. IsTrue b ↔ AreSound (record { sense = s; duals = d; columns = cs; rows = rs; offset = o; undos = ws })) eu
+    (subst (λ ps. IsTrue b ↔ AreSound (record { sense = s; duals = d; columns = cs; rows = ps; offset = o; undos = vs })) er
+    (subst (λ ps. IsTrue b ↔ AreSound (record { sense = s; duals = d; columns = ps; rows = qs; offset = o; undos = vs })) ec (h s d o)))

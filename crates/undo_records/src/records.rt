@@ -13,12 +13,13 @@ use lp_model::{Labels, Name, Sense};
 use std::alloc::{AllocError, Global};
 use std::marker::Model;
 
-/// All that presolve wrote down: the original program's names, the offset, and the record of each reduction, first applied first.
+/// All that presolve wrote down: the original program's names, whether duals are undone too, the offset, and the record of each reduction, first applied first.
 /// Each record is sound, names only what is live as it is applied, and all of them leave live what the labels say. All names are some bytes
 /// without a space, a tab or a line feed.
 #[derive(Drop)]
 pub struct Records {
     sense: Sense,
+    duals: bool,
     columns: Vec<Label>,
     rows: Vec<Label>,
     offset: Frac,
@@ -36,26 +37,28 @@ impl Model for Records {
 
     ghost use Rattle.undo_records.specs.Named.{AreRecords};
 
-    ghost view = { λ r. record { sense = r.sense; columns = r.columns.items; rows = r.rows.items; offset = r.offset; undos = r.undos.items } };
+    ghost view = { λ r. record { sense = r.sense; duals = r.duals; columns = r.columns.items; rows = r.rows.items; offset = r.offset; undos = r.undos.items } };
 
-    ghost invariant = { λ r. AreRecords (record { sense = r.sense; columns = r.columns.items; rows = r.rows.items; offset = r.offset; undos = r.undos.items }) };
+    ghost invariant = { λ r. AreRecords (record { sense = r.sense; duals = r.duals; columns = r.columns.items; rows = r.rows.items; offset = r.offset; undos = r.undos.items }) };
 }
 
 impl Records {
-    /// The records of these parts: columns and rows by original id, the offset in the sense of the file, the reductions in the order they were applied.
+    /// The records of these parts: whether they undo duals too, columns and rows by original id, the offset in the sense of the file, the reductions in the order they were applied.
     pub fn new(
         sense: Sense,
+        duals: bool,
         columns: Vec<Label>,
         rows: Vec<Label>,
         offset: Frac,
         undos: Vec<Undo>,
     ) -> Records
-        requires sound { AreSound (record { sense = sense; columns = columns.items; rows = rows.items; offset = offset; undos = undos.items }) }
-        requires named { AreNamed (record { sense = sense; columns = columns.items; rows = rows.items; offset = offset; undos = undos.items }) }
-        ensures { result ≡ record { sense = sense; columns = columns.items; rows = rows.items; offset = offset; undos = undos.items } }
+        requires sound { AreSound (record { sense = sense; duals = duals; columns = columns.items; rows = rows.items; offset = offset; undos = undos.items }) }
+        requires named { AreNamed (record { sense = sense; duals = duals; columns = columns.items; rows = rows.items; offset = offset; undos = undos.items }) }
+        ensures { result ≡ record { sense = sense; duals = duals; columns = columns.items; rows = rows.items; offset = offset; undos = undos.items } }
     {
         Records {
             sense,
+            duals,
             columns,
             rows,
             offset,
@@ -67,20 +70,21 @@ impl Records {
     pub fn checked(
         alloc: Global,
         sense: Sense,
+        duals: bool,
         columns: Vec<Label>,
         rows: Vec<Label>,
         offset: Frac,
         undos: Vec<Undo>,
     ) -> Result<Option<Records>, AllocError>
-        ensures sound { IfOk result (λ found. IsSome found ↔ AreSound (record { sense = sense; columns = columns.items; rows = rows.items; offset = offset; undos = undos.items })) }
-        ensures parts { IfOk result (λ found. IfSome found (λ records. records ≡ record { sense = sense; columns = columns.items; rows = rows.items; offset = offset; undos = undos.items })) }
+        ensures sound { IfOk result (λ found. IsSome found ↔ AreSound (record { sense = sense; duals = duals; columns = columns.items; rows = rows.items; offset = offset; undos = undos.items })) }
+        ensures parts { IfOk result (λ found. IfSome found (λ records. records ≡ record { sense = sense; duals = duals; columns = columns.items; rows = rows.items; offset = offset; undos = undos.items })) }
     {
         if !are_sound(alloc, columns.as_slice(), rows.as_slice(), undos.as_slice())? {
             return Ok(None);
         }
         labels_are_named(columns.as_slice());
         labels_are_named(rows.as_slice());
-        Ok(Some(Records::new(sense, columns, rows, offset, undos)))
+        Ok(Some(Records::new(sense, duals, columns, rows, offset, undos)))
     }
 
     /// Whether the original program is to be minimized or maximized.
@@ -88,6 +92,13 @@ impl Records {
         ensures { result ≡ self.now.sense }
     {
         self.sense
+    }
+
+    /// Whether the duals of rows are brought back too, beside the point.
+    pub fn undoes_duals(&self) -> bool
+        ensures { result ≡ self.now.duals }
+    {
+        self.duals
     }
 
     /// The original columns by id.

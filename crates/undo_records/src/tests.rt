@@ -33,7 +33,7 @@ fn keeps_names_and_records(rt: HostRuntime) -> Result<(), Fail> {
         entries: Terms::new(vec![in alloc; one]?),
     });
     let undos = vec![in alloc; fixed]?;
-    let made = Records::checked(alloc, Sense::Min, columns, rows, Frac::zero(), undos)?;
+    let made = Records::checked(alloc, Sense::Min, true, columns, rows, Frac::zero(), undos)?;
     let records = made.expect(&rt, "sound records");
     assert_eq!(rt; records.column_count(), 1);
     assert!(rt; records.column_name(0).as_bytes() == b"x".as_slice());

@@ -1,6 +1,6 @@
 //! Whether the records of a run are sound.
 
-ghost use Rattle.std.specs.Prelude.{◌≡◌, ◌↔◌, All, IfOk, IsTrue, length};
+ghost use Rattle.std.specs.Prelude.{◌≡◌, ◌↔◌, Bool, All, IfOk, IsTrue, length};
 ghost use Rattle.rational.specs.Number.{Number};
 ghost use Rattle.lp_model.specs.declared.program.Sense.{Sense};
 ghost use Rattle.undo_records.specs.Sound.{IsSound};
@@ -52,7 +52,7 @@ pub fn are_sound(
     rows: &[Label],
     undos: &[Undo],
 ) -> Result<bool, AllocError>
-    ensures { IfOk result (λ sound. (s : Sense) (o : Number) → (IsTrue sound ↔ AreSound (record { sense = s; columns = columns.now; rows = rows.now; offset = o; undos = undos.now }))) }
+    ensures { IfOk result (λ sound. (s : Sense) (d : Bool) (o : Number) → (IsTrue sound ↔ AreSound (record { sense = s; duals = d; columns = columns.now; rows = rows.now; offset = o; undos = undos.now }))) }
 {
     if !are_each_sound(undos, rows.len(), columns.len()) {
         return Ok(false);

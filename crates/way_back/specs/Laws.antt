@@ -3,6 +3,7 @@ use Rattle.std.specs.Prelude.{◌≡◌, List}
 use Rattle.rational.specs.Number.{Number}
 use Rattle.lp_model.specs.LinearProgram.{Feasible}
 use Rattle.lp_model.specs.Meaning.{meaning}
+use Rattle.lp_model.specs.Optimality.{Continuous, Meets}
 use Rattle.lp_model.specs.ProgramData.{ProgramData}
 use Rattle.lp_model.specs.Vectors.{Vector, vector_of}
 use Rattle.lp_passages.specs.Renumbering.{spread}
@@ -13,7 +14,7 @@ use Rattle.presolve_model.specs.Accounts.{live_labels_from}
 use Rattle.presolve_model.specs.Conclusions.{Concluded}
 use Rattle.presolve_model.specs.declared.conclusion.End.{End}
 use Rattle.presolve_model.specs.declared.conclusion.Options.{Options}
-use Rattle.way_back.specs.ComingBack.{ComesBack, IsBest, IsUndone, StandsFor}
+use Rattle.way_back.specs.ComingBack.{ComesBack, IsBest, IsPairUndone, IsUndone, PairComesBack, StandsFor}
 
 -- numbers placed at the labels are the numbers at the ids of the live labels, in their order, and 0 at the others
 abbrev pub PlacedIsSpread : Type 0
@@ -42,3 +43,12 @@ BestComesBack = (options : Options) (program reduced : ProgramData) (told : Post
     → IsBest program.sense (meaning reduced) (vector_of point)
     → IsUndone told point lifted
     → IsBest program.sense (meaning program) (vector_of lifted)
+
+-- what meets the optimality conditions of the reduced program comes back to what meets those of the program, where that has no whole column
+abbrev pub PairsComeBack : Type 0
+PairsComeBack = (options : Options) (program reduced : ProgramData) (told : Postsolve) (ended : End) (point duals lifted prices : List Number)
+    → Concluded options program reduced told ended
+    → Continuous (meaning program)
+    → Meets program.sense (meaning reduced) (vector_of point) (vector_of duals)
+    → IsPairUndone told reduced point duals lifted prices
+    → PairComesBack program reduced told.offset point lifted prices

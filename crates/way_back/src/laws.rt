@@ -1,6 +1,6 @@
 //! What placing, undoing and concluding make of points.
 
-ghost use Rattle.way_back.specs.Laws.{BestComesBack, NoneIsLost, PlacedIsSpread, PointsComeBack};
+ghost use Rattle.way_back.specs.Laws.{BestComesBack, NoneIsLost, PairsComeBack, PlacedIsSpread, PointsComeBack};
 
 /// A point of the reduced program is placed at the original columns as its numbers are spread over the ids of the live labels.
 pub fn placed_points_are_spread()
@@ -14,4 +14,10 @@ pub fn points_come_back()
     ensures comes_back { PointsComeBack }
     ensures none_lost { NoneIsLost }
     ensures best { BestComesBack }
+{}
+
+/// Where no column of the program has to be whole, a pair that meets the optimality conditions of the reduced program comes back to one that
+/// meets those of the program, at the cost with the offset; and so to a proof that no feasible point is better.
+pub fn pairs_come_back()
+    ensures { PairsComeBack }
 {}

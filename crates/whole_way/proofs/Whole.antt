@@ -1,41 +1,47 @@
 -- The whole way.
-use Rattle.std.proofs.Common.{◌≡◌, ℕ, List, length, None, sym, ap, ◌∙◌, subst}
+use Rattle.std.proofs.Common.{◌≡◌, ℕ, true, List, [], ◌∷◌, ◌++◌, length, append-nil, Option, Some, None, IfSome, sym, refl, ap, ap₂, ◌∙◌, subst}
 use Rattle.std.specs.List.{All}
 use Rattle.std.proofs.lemmas.List.{length-map}
+use Rattle.std.proofs.lemmas.List.Elements.{All-tail}
 use Rattle.rational.specs.Number.{Number}
 use Rattle.rational.specs.Lowest.{Fits}
 use Rattle.lp_model.specs.declared.program.Sense.{Sense}
 use Rattle.lp_model.specs.declared.program.ColumnDef.{ColumnDef}
+use Rattle.lp_model.specs.declared.program.RowDef.{RowDef}
 use Rattle.lp_model.specs.Meaning.{meaning}
-use Rattle.lp_model.specs.Names.{Differ, names_of_columns, WellNamed}
+use Rattle.lp_model.specs.Name.{IsName}
+use Rattle.lp_model.specs.Names.{Differ, names_of_columns, names_of_rows, WellNamed}
+use Rattle.lp_model.specs.Optimality.{Continuous, Meets}
+use Rattle.lp_model.proofs.Differing.{differ_tail}
 use Rattle.lp_model.specs.ProgramData.{ProgramData}
 use Rattle.lp_model.specs.Vectors.{vector_of}
 use Rattle.undo_records.specs.Postsolve.{Postsolve}
 use Rattle.mps_writer.specs.MpsText.{mps_text}
 use Rattle.mps_round_trip.specs.Plain.{Plain}
-use Rattle.mps_round_trip.proofs.Naming.{words_of}
-use Rattle.point_text.specs.PlainNames as solutions
-use Rattle.point_text.specs.Reading as solutions_read
+use Rattle.mps_round_trip.proofs.Naming.{row_names_of, words_of}
+use Rattle.mps_written_lines.specs.Words.{IsWord}
+use Rattle.point_text.specs.PairText.{pair_duals, pair_fault, pair_point, pair_text}
 use Rattle.point_text.specs.SolutionText.{solution_text}
+use Rattle.point_text.specs.WrittenNames.{AreNumbered}
 use Rattle.presolve_model.specs.Telling.{names_in}
 use Rattle.presolve_model.specs.Conclusions.{Concluded}
 use Rattle.presolve_model.specs.declared.conclusion.End.{End}
 use Rattle.presolve_model.specs.declared.conclusion.Options.{Options}
 use Rattle.way_back.specs.ComingBack.{IsBest}
 use Rattle.way_back.proofs.Back.{best_back, point_back}
-use Rattle.whole_way.specs.Texts.{IsProgramText, IsRecordText, IsSolutionText, IsUnmarked, PostsolveWrites, PresolveWrites, TextsFit}
-use Rattle.whole_way.specs.Laws.{BestComesBackWhole, ComesBackWhole}
+use Rattle.way_back.proofs.PairsBack.{pairs_back}
+use Rattle.whole_way.specs.Texts.{IsProgramText, IsRecordText, IsSolutionText, IsUnmarked, PostsolveWrites, PostsolveWritesPair, PresolveWrites, TextsFit}
+use Rattle.whole_way.specs.Laws.{BestComesBackWhole, ComesBackWhole, PairsComeBackWhole}
 use Rattle.whole_way.proofs.Words.{plain_names}
 use Rattle.whole_way.proofs.Fitting.{texts_fit}
 
--- what a solution's text has to say when it is read again
-abbrev pub NoFaultAgain : Type 0
-NoFaultAgain = (names : List (List ℕ)) (values : List Number) → All solutions.Plain names → Differ names → length values ≡ length names → All Fits values
-    → solutions_read.first_fault names (solution_text names values) ≡ None
-
-abbrev pub PointAgain : Type 0
-PointAgain = (names : List (List ℕ)) (values : List Number) → All solutions.Plain names → Differ names → length values ≡ length names → All Fits values
-    → solutions_read.point_of names (solution_text names values) ≡ values
+-- what the text of a pair has to say when it is read again
+pub record PairsAgain : Type 0 where
+  pub fault : (columns rows : List (List ℕ)) (point : List Number) (duals : Option (List Number)) → AreNumbered columns point → IfSome duals (λ d. AreNumbered rows d)
+      → pair_fault columns rows (pair_text columns rows point duals) ≡ None
+  pub point : (columns rows : List (List ℕ)) (point : List Number) (duals : Option (List Number)) → AreNumbered columns point → pair_point columns (pair_text columns rows point duals) ≡ point
+  pub duals : (columns rows : List (List ℕ)) (point : List Number) (duals : Option (List Number)) → AreNumbered columns point → IfSome duals (λ d. AreNumbered rows d)
+      → pair_duals rows (pair_text columns rows point duals) ≡ duals
 
 -- presolve concluded with what its texts are read as
 concluded_with : (options : Options) (program read : ProgramData) (told : Postsolve) (out undoing : List ℕ)
@@ -47,39 +53,81 @@ concluded_with options program read told out undoing w p r =
     subst (λ (q : ProgramData). Concluded options program q told w.ended) (sym fit.program_text.same ∙ p.same)
     (subst (λ (t : Postsolve). Concluded options program w.reduced t w.ended) (sym fit.records_text.same ∙ r.same) w.concluded)
 
--- what is written by the names of a program's columns is read again
-read_again : NoFaultAgain → PointAgain → (program : ProgramData) (names : List (List ℕ)) (lifted : List Number) (result : List ℕ)
-    → WellNamed program.objective program.rows program.columns → Plain program → All IsUnmarked (names_of_columns program.columns) → names ≡ names_of_columns program.columns
-    → length lifted ≡ length program.columns → All Fits lifted → result ≡ solution_text names lifted → IsSolutionText program result lifted
-read_again no_fault_again point_again program names lifted result named plain unmarked same size fits text =
+-- a number for each of a program's columns, and for each of its rows
+columns_numbered : (program : ProgramData) (lifted : List Number) → WellNamed program.objective program.rows program.columns → Plain program → All IsUnmarked (names_of_columns program.columns)
+    → length lifted ≡ length program.columns → All Fits lifted → AreNumbered (names_of_columns program.columns) lifted
+columns_numbered program lifted named plain unmarked size fits =
     let own : List (List ℕ) = names_of_columns program.columns in
-    let are : All solutions.Plain own = plain_names own (words_of own named.column_names plain.columns) unmarked in
-    let as_many : length lifted ≡ length own = size ∙ sym (length-map program.columns (λ (c : ColumnDef). c.name)) in
-    let written : result ≡ solution_text own lifted = text ∙ ap (λ (ns : List (List ℕ)). solution_text ns lifted) same in
     record {
-      sound = ap (solutions_read.first_fault own) written ∙ no_fault_again own lifted are named.columns as_many fits;
-      same = ap (solutions_read.point_of own) written ∙ point_again own lifted are named.columns as_many fits;
+      plain = plain_names own (words_of own named.column_names plain.columns) unmarked;
+      differ = named.columns;
+      long = size ∙ sym (length-map program.columns (λ (c : ColumnDef). c.name));
+      fits = fits;
+    }
+
+rows_numbered : (program : ProgramData) (prices : List Number) → WellNamed program.objective program.rows program.columns → Plain program → All IsUnmarked (names_of_rows program.rows)
+    → length prices ≡ length program.rows → All Fits prices → AreNumbered (names_of_rows program.rows) prices
+rows_numbered program prices named plain unmarked size fits =
+    let own : List (List ℕ) = names_of_rows program.rows in
+    let are : All IsName own = All-tail IsName program.objective own named.row_names in
+    let words : All IsWord own = λ k d l. (row_names_of own are plain.rows k d l).word in
+    record {
+      plain = plain_names own words unmarked;
+      differ = differ_tail program.objective own named.rows;
+      long = size ∙ sym (length-map program.rows (λ (r : RowDef). r.name));
+      fits = fits;
+    }
+
+-- what is written by the names of a program's columns and rows is read again
+read_again : PairsAgain → (program : ProgramData) (columns rows : List (List ℕ)) (lifted : List Number) (prices : Option (List Number)) (result : List ℕ)
+    → AreNumbered (names_of_columns program.columns) lifted → IfSome prices (λ d. AreNumbered (names_of_rows program.rows) d)
+    → columns ≡ names_of_columns program.columns → rows ≡ names_of_rows program.rows
+    → result ≡ pair_text columns rows lifted prices → IsSolutionText program result lifted prices
+read_again again program columns rows lifted prices result numbered priced same same_rows text =
+    let own : List (List ℕ) = names_of_columns program.columns in
+    let own_rows : List (List ℕ) = names_of_rows program.rows in
+    let written : result ≡ pair_text own own_rows lifted prices = text ∙ ap₂ (λ (cs rs : List (List ℕ)). pair_text cs rs lifted prices) same same_rows in
+    record {
+      sound = ap (pair_fault own own_rows) written ∙ again.fault own own_rows lifted prices numbered priced;
+      same = ap (pair_point own) written ∙ again.point own own_rows lifted prices numbered;
+      same_duals = ap (pair_duals own_rows) written ∙ again.duals own own_rows lifted prices numbered priced;
     }
 
 same_sense : (options : Options) (program read : ProgramData) (told : Postsolve) (ended : End) → Concluded options program read told ended → read.sense ≡ program.sense
 same_sense options program read told ended c = ap (λ (p : ProgramData). p.sense) c.walked.written
 
-module _ (sound_law : NoFaultAgain) (same_law : PointAgain) (options : Options) (program read : ProgramData) (told : Postsolve) (point : List Number) (out undoing result : List ℕ)
+module _ (again : PairsAgain) (options : Options) (program read : ProgramData) (told : Postsolve) (point : List Number) (out undoing result : List ℕ)
     (w : PresolveWrites options program out undoing) (p : IsProgramText out read) (r : IsRecordText undoing told) (u : PostsolveWrites told point result) where
   c : Concluded options program read told w.ended
   c = concluded_with options program read told out undoing w p r
 
-  result_read : length u.lifted ≡ length program.columns → IsSolutionText program result u.lifted
-  result_read size = read_again sound_law same_law program (names_in told.columns) u.lifted result c.named.given w.plain w.unmarked c.names.columns size u.fits u.text
+  result_read : length u.lifted ≡ length program.columns → IsSolutionText program result u.lifted None
+  result_read size = read_again again program (names_in told.columns) (names_in told.rows) u.lifted None result
+      (columns_numbered program u.lifted c.named.given w.plain w.unmarked size u.fits) tt c.names.columns c.names.rows
+      (u.text ∙ sym (append-nil (solution_text (names_in told.columns) u.lifted)))
 
-pub whole : NoFaultAgain → PointAgain → ComesBackWhole
-whole sound_law same_law options program read told point out undoing solution result w p r s f u =
-    let back = point_back options program read told w.ended point u.lifted (c sound_law same_law options program read told point out undoing result w p r u) f u.undone in
-    (u.lifted, result_read sound_law same_law options program read told point out undoing result w p r u back.size, back)
+pub whole : PairsAgain → ComesBackWhole
+whole again options program read told point out undoing solution result w p r s f u =
+    let back = point_back options program read told w.ended point u.lifted (c again options program read told point out undoing result w p r u) f u.undone in
+    (u.lifted, result_read again options program read told point out undoing result w p r u back.size, back)
 
-pub best_whole : NoFaultAgain → PointAgain → BestComesBackWhole
-best_whole sound_law same_law options program read told point out undoing solution result w p r s b u =
-    let held = c sound_law same_law options program read told point out undoing result w p r u in
+pub best_whole : PairsAgain → BestComesBackWhole
+best_whole again options program read told point out undoing solution result w p r s b u =
+    let held = c again options program read told point out undoing result w p r u in
     let back = point_back options program read told w.ended point u.lifted held b.feasible u.undone in
     let best = subst (λ (sense : Sense). IsBest sense (meaning read) (vector_of point)) (same_sense options program read told w.ended held) b in
-    (u.lifted, result_read sound_law same_law options program read told point out undoing result w p r u back.size, best_back options program read told w.ended point u.lifted held best u.undone)
+    (u.lifted, result_read again options program read told point out undoing result w p r u back.size, best_back options program read told w.ended point u.lifted held best u.undone)
+
+pub pairs_whole : PairsAgain → PairsComeBackWhole
+pairs_whole again options program read told point duals out undoing solution result w taken unmarked p r s m u =
+    let held : Concluded options program read told w.ended = concluded_with options program read told out undoing w p r in
+    let met : Meets program.sense (meaning read) (vector_of point) (vector_of duals) =
+    subst (λ (sense : Sense). Meets sense (meaning read) (vector_of point) (vector_of duals)) (same_sense options program read told w.ended held) m in
+    let back = pairs_back options program read told w.ended point duals u.lifted u.prices held (taken (sym held.dual ∙ u.asked)) met u.undone in (
+      u.lifted,
+      u.prices,
+      read_again again program (names_in told.columns) (names_in told.rows) u.lifted (Some u.prices) result
+          (columns_numbered program u.lifted held.named.given w.plain w.unmarked back.comes_back.size u.fits)
+          (rows_numbered program u.prices held.named.given w.plain unmarked back.rows u.prices_fit) held.names.columns held.names.rows u.text,
+      back,
+    )

@@ -1,8 +1,10 @@
 -- The laws of the whole way.
-use Rattle.std.specs.Prelude.{ℕ, List, length, slice_index}
+use Rattle.std.specs.Prelude.{◌≡◌, ℕ, true, List, length, slice_index, Some, None, All}
 use Rattle.rational.specs.Number.{Number}
 use Rattle.lp_model.specs.LinearProgram.{Feasible}
 use Rattle.lp_model.specs.Meaning.{meaning}
+use Rattle.lp_model.specs.Names.{names_of_rows}
+use Rattle.lp_model.specs.Optimality.{Continuous, Meets}
 use Rattle.lp_model.specs.ProgramData.{ProgramData}
 use Rattle.lp_model.specs.Turning.{signed}
 use Rattle.lp_model.specs.Vectors.{vector_of}
@@ -19,8 +21,8 @@ use Rattle.presolve_model.specs.Conclusions.{Concluded, TellsEndBy}
 use Rattle.presolve_model.specs.declared.conclusion.End.{End}
 use Rattle.presolve_model.specs.declared.conclusion.Options.{Options}
 use Rattle.presolve_model.specs.Tallies.{Open, open_by}
-use Rattle.way_back.specs.ComingBack.{ComesBack, IsBest}
-use Rattle.whole_way.specs.Texts.{IsProgramText, IsRecordText, IsSolutionText, PostsolveWrites, PresolveWrites, TextsFit}
+use Rattle.way_back.specs.ComingBack.{ComesBack, IsBest, PairComesBack}
+use Rattle.whole_way.specs.Texts.{IsProgramText, IsRecordText, IsSolutionText, IsUnmarked, PostsolveWrites, PostsolveWritesPair, PresolveWrites, TextsFit}
 
 -- what presolve writes of its reduced program and its records is read as these
 abbrev pub TextsComeBack : Type 0
@@ -56,10 +58,10 @@ ComesBackWhole = (options : Options) (program read : ProgramData) (told : Postso
     → PresolveWrites options program out undoing
     → IsProgramText out read
     → IsRecordText undoing told
-    → IsSolutionText read solution point
+    → IsSolutionText read solution point None
     → Feasible (meaning read) (vector_of point)
     → PostsolveWrites told point result
-    → (back : List Number) × IsSolutionText program result back × ComesBack program read told.offset point back
+    → (back : List Number) × IsSolutionText program result back None × ComesBack program read told.offset point back
 
 -- the same of a best point: if the solution is a best point of the reduced program, the result is one of the program
 abbrev pub BestComesBackWhole : Type 0
@@ -67,7 +69,22 @@ BestComesBackWhole = (options : Options) (program read : ProgramData) (told : Po
     → PresolveWrites options program out undoing
     → IsProgramText out read
     → IsRecordText undoing told
-    → IsSolutionText read solution point
+    → IsSolutionText read solution point None
     → IsBest read.sense (meaning read) (vector_of point)
     → PostsolveWrites told point result
-    → (back : List Number) × IsSolutionText program result back × IsBest program.sense (meaning program) (vector_of back)
+    → (back : List Number) × IsSolutionText program result back None × IsBest program.sense (meaning program) (vector_of back)
+
+-- The same with duals. Where presolve was asked for records that undo duals, it took only a program without whole columns; and the rows' names
+-- can be written in a solution's text too. If what `solution` gives meets the optimality conditions of the program that was read, then what
+-- `result` gives meets those of the program that presolve began with; and so it proves that no feasible point costs better.
+abbrev pub PairsComeBackWhole : Type 0
+PairsComeBackWhole = (options : Options) (program read : ProgramData) (told : Postsolve) (point duals : List Number) (out undoing solution result : List ℕ)
+    → PresolveWrites options program out undoing
+    → (options.dual ≡ true → Continuous (meaning program))
+    → All IsUnmarked (names_of_rows program.rows)
+    → IsProgramText out read
+    → IsRecordText undoing told
+    → IsSolutionText read solution point (Some duals)
+    → Meets read.sense (meaning read) (vector_of point) (vector_of duals)
+    → PostsolveWritesPair told read point duals result
+    → (back prices : List Number) × IsSolutionText program result back (Some prices) × PairComesBack program read told.offset point back prices

@@ -1,9 +1,9 @@
 -- The texts that pass from a presolve to a solver and to a postsolve.
-use Rattle.std.specs.Prelude.{◌≡◌, ◌≢◌, ℕ, List, codes, None, All}
+use Rattle.std.specs.Prelude.{◌≡◌, ◌≢◌, ℕ, true, List, codes, Option, Some, None, All}
 use Rattle.rational.specs.Number.{Number}
 use Rattle.rational.specs.Lowest.{Fits}
 use Rattle.fractions.specs.declared.Numbers.TheVariants.{Fractions}
-use Rattle.lp_model.specs.Names.{names_of_columns}
+use Rattle.lp_model.specs.Names.{names_of_columns, names_of_rows}
 use Rattle.lp_model.specs.ProgramData.{ProgramData}
 use Rattle.undo_records.specs.Postsolve.{Postsolve}
 use Rattle.mps_profile.specs.Reading as programs
@@ -11,7 +11,7 @@ use Rattle.mps_profile.specs.Program.{program_of}
 use Rattle.mps_writer.specs.MpsText.{mps_text}
 use Rattle.mps_written_lines.specs.Formats.{free_format}
 use Rattle.mps_round_trip.specs.Plain.{Plain}
-use Rattle.point_text.specs.Reading as solutions
+use Rattle.point_text.specs.PairText.{pair_duals, pair_fault, pair_point, pair_text}
 use Rattle.point_text.specs.SolutionText.{solution_text}
 use Rattle.record_file.specs.RecordText as files
 use Rattle.record_reader.specs.Matching.{Matches}
@@ -21,7 +21,7 @@ use Rattle.presolve_model.specs.Telling.{names_in}
 use Rattle.presolve_model.specs.Conclusions.{Concluded}
 use Rattle.presolve_model.specs.declared.conclusion.End.{End}
 use Rattle.presolve_model.specs.declared.conclusion.Options.{Options}
-use Rattle.way_back.specs.ComingBack.{IsUndone}
+use Rattle.way_back.specs.ComingBack.{IsPairUndone, IsUndone}
 
 -- ---- what texts give
 -- a text in free format, read with fractions, has no fault, and is that of this program
@@ -34,10 +34,12 @@ pub record IsRecordText (text : List ℕ) (told : Postsolve) : Type 0 where
   pub sound : records.first_fault text ≡ None
   pub same : records.records_of text ≡ told
 
--- a text of a solution has no fault for the program's columns, and gives them these numbers
-pub record IsSolutionText (program : ProgramData) (text : List ℕ) (point : List Number) : Type 0 where
-  pub sound : solutions.first_fault (names_of_columns program.columns) text ≡ None
-  pub same : solutions.point_of (names_of_columns program.columns) text ≡ point
+-- a text of a solution has no fault for the program's columns and rows, and gives the columns these numbers, and the rows these duals, if it
+-- gives duals
+pub record IsSolutionText (program : ProgramData) (text : List ℕ) (point : List Number) (duals : Option (List Number)) : Type 0 where
+  pub sound : pair_fault (names_of_columns program.columns) (names_of_rows program.rows) text ≡ None
+  pub same : pair_point (names_of_columns program.columns) text ≡ point
+  pub same_duals : pair_duals (names_of_rows program.rows) text ≡ duals
 
 -- ---- what is written
 -- not one of the words that a solution's text has for the objective's value and for duals
@@ -64,6 +66,16 @@ pub record PostsolveWrites (told : Postsolve) (point : List Number) (result : Li
   pub undone : IsUndone told point lifted
   pub fits : All Fits lifted
   pub text : result ≡ solution_text (names_in told.columns) lifted
+
+-- The same of a pair, by records that undo duals too: the lifted point and the duals by the names of the original columns and rows.
+pub record PostsolveWritesPair (told : Postsolve) (reduced : ProgramData) (point duals : List Number) (result : List ℕ) : Type 0 where
+  pub lifted : List Number
+  pub prices : List Number
+  pub asked : told.duals ≡ true
+  pub undone : IsPairUndone told reduced point duals lifted prices
+  pub fits : All Fits lifted
+  pub prices_fit : All Fits prices
+  pub text : result ≡ pair_text (names_in told.columns) (names_in told.rows) lifted (Some prices)
 
 -- the texts are read as this program and these records, and the records are those of the program
 pub record TextsFit (reduced : ProgramData) (told : Postsolve) (out undoing : List ℕ) : Type 0 where

@@ -1,8 +1,8 @@
 //! What the texts of a presolve and a postsolve say together.
 
-ghost use Rattle.whole_way.specs.Laws.{BestComesBackWhole, ComesBackWhole, EndsAreToldOfTexts, TextsComeBack};
+ghost use Rattle.whole_way.specs.Laws.{BestComesBackWhole, ComesBackWhole, EndsAreToldOfTexts, PairsComeBackWhole, TextsComeBack};
 
-use point_text::written_solution_is_read;
+use point_text::written_pair_is_read;
 
 /// The texts that presolve writes, read as a postsolve reads them, have no fault. They give the reduced program and the records that
 /// presolve concluded with, and these go together: so a postsolve refuses neither text, and undoes these very records.
@@ -18,10 +18,12 @@ pub fn ends_are_told_of_texts()
 {}
 
 /// A solution of the reduced program's text that is undone by the text of records comes back: the text that is written of it has no fault,
-/// and gives the program a feasible point that costs the offset more; and a best point, if the solution was a best one.
+/// and gives the program a feasible point that costs the offset more; and a best point, if the solution was a best one. With duals, what meets the
+/// optimality conditions comes back to what meets them, and so proves that no feasible point costs better.
 pub fn solutions_come_back()
     ensures comes_back { ComesBackWhole }
     ensures best { BestComesBackWhole }
+    ensures pairs { PairsComeBackWhole }
 {
-    written_solution_is_read();
+    written_pair_is_read();
 }

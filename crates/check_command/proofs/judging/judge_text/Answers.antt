@@ -1,4 +1,4 @@
-use Rattle.check_command.specs.PairTexts.{IsPairOf}
+use Rattle.endings.specs.SolutionTexts.{IsPairOf}
 use Rattle.endings.specs.declared.reads.TheConstants.{SOLUTION_LIMIT}
 use Rattle.endings.proofs.Earlier.{given_reads}
 use Rattle.check_command.proofs.judging.judge_text.Goals as goal

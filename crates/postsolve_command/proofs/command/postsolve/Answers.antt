@@ -77,7 +77,7 @@ returns-in-Err-clause-ends g c =
       says = (
         record {
           result = texts.result.items;
-          printed = texts.line.items;
+          printed = texts.printed.items;
           lifted = c.in-Ok-bring_back.ensures names before between found;
           fails = rose_since before.writes between.writes now.writes names.result c.read_all.ensures.writes_stay c.in-Err.ensures.failed;
           unsettled = unsettled_since before.told between.told now.told names.result c.read_all.ensures.kept c.in-Err.ensures.unsettled;

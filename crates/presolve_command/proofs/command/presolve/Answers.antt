@@ -1,11 +1,11 @@
-use Rattle.std.proofs.Common.{Some, refl}
+use Rattle.std.proofs.Common.{Some, refl, inr}
 use Rattle.command_line.specs.Seen.{names_of}
 use Rattle.endings.specs.declared.reads.TheConstants.{INPUT_LIMIT}
 use Rattle.endings.proofs.Earlier.{finds_there, program_read}
 use Rattle.presolve_command.specs.Presolved.{IsMadeOf}
-use Rattle.presolve_command.specs.Texts.{TextIsInfeasible, TextIsUnboundedOrInfeasible}
+use Rattle.presolve_command.specs.Texts.{TextIsInfeasible, TextIsNotTaken, TextIsUnboundedOrInfeasible}
 use Rattle.presolve_command.proofs.Before.{fails_earlier, others_earlier, written_earlier}
-use Rattle.presolve_command.proofs.Made.{concluded_so, infeasible_said, said_read, unbounded_said}
+use Rattle.presolve_command.proofs.Made.{infeasible_said, not_taken_said, said_read, unbounded_said}
 use Rattle.presolve_command.proofs.command.presolve.Goals as goal
 
 pub returns-in-Ok-write_both-clause-ends : goal.returns-in-Ok-write_both-clause-ends
@@ -18,8 +18,8 @@ returns-in-Ok-write_both-clause-ends g c =
     let texts = c.in-Ok-reduce.texts in
     let made : IsMadeOf names texts.program.items texts.records.items texts.report.items before = record {
       outcome = reduced.0;
-      source = program_read INPUT_LIMIT (before.told names.input) _ _ c.in-Ok.text.items _ reduced.0.source c.in-Ok.ensures.bytes c.in-Ok.ensures.most c.dialect_of.ensures c.deref.ensures.value reduced.1;
-      concluded = concluded_so reduced.0 names.options.limit _ _ _ c.dialect_of.ensures reduced.2;
+      source = program_read INPUT_LIMIT (before.told names.input) _ _ c.in-Ok.text.items _ reduced.0.source c.in-Ok.ensures.bytes c.in-Ok.ensures.most refl c.deref.ensures.value reduced.1;
+      concluded = reduced.2;
     } in
     record {
       says = record {
@@ -43,8 +43,8 @@ returns-clause-ends g c =
     let texts = c.in-Ok-reduce.texts in
     let made : IsMadeOf names texts.program.items texts.records.items texts.report.items before = record {
       outcome = reduced.0;
-      source = program_read INPUT_LIMIT (before.told names.input) _ _ c.in-Ok.text.items _ reduced.0.source c.in-Ok.ensures.bytes c.in-Ok.ensures.most c.dialect_of.ensures c.deref.ensures.value reduced.1;
-      concluded = concluded_so reduced.0 names.options.limit _ _ _ c.dialect_of.ensures reduced.2;
+      source = program_read INPUT_LIMIT (before.told names.input) _ _ c.in-Ok.text.items _ reduced.0.source c.in-Ok.ensures.bytes c.in-Ok.ensures.most refl c.deref.ensures.value reduced.1;
+      concluded = reduced.2;
     } in
     record {
       says = ((texts.program.items, texts.records.items, texts.report.items, made, fails_earlier names.output _ names.records before between now c.read.ensures.kept c.read.ensures.writes_stay c.in-Err.ensures.failed), refl);
@@ -55,11 +55,10 @@ pub returns-in-Err-Infeasible-clause-ends : goal.returns-in-Err-Infeasible-claus
 returns-in-Err-Infeasible-clause-ends g c =
     let names = names_of c.args.words.now in
     let before = g.F.Files.moment c.args.files.now in
-    let limit = names.options.limit in
     record {
       says = (
-        said_read (λ d t. TextIsInfeasible d limit t) INPUT_LIMIT (before.told names.input) _ _ c.in-Ok.text.items _ c.in-Ok.ensures.bytes c.in-Ok.ensures.most c.dialect_of.ensures c.deref.ensures.value
-            (infeasible_said c.dialect_of.result c.args.words.now.options.limit c.deref.result.now c.in-Err-Infeasible.field-0 c.in-Err-Infeasible.field-0-is c.in-Err-Infeasible.ensures),
+        said_read (λ t. TextIsInfeasible names.options t) INPUT_LIMIT (before.told names.input) c.in-Ok.text.items _ c.in-Ok.ensures.bytes c.in-Ok.ensures.most c.deref.ensures.value
+            (infeasible_said c.args.words.now.options c.deref.result.now c.in-Err-Infeasible.field-0 c.in-Err-Infeasible.field-0-is c.in-Err-Infeasible.ensures),
         c.read.ensures.kept,
         refl,
       );
@@ -70,13 +69,26 @@ pub returns-in-Err-UnboundedOrInfeasible-clause-ends : goal.returns-in-Err-Unbou
 returns-in-Err-UnboundedOrInfeasible-clause-ends g c =
     let names = names_of c.args.words.now in
     let before = g.F.Files.moment c.args.files.now in
-    let limit = names.options.limit in
     record {
       says = (
-        said_read (λ d t. TextIsUnboundedOrInfeasible d limit t) INPUT_LIMIT (before.told names.input) _ _ c.in-Ok.text.items _ c.in-Ok.ensures.bytes c.in-Ok.ensures.most c.dialect_of.ensures c.deref.ensures.value
-            (unbounded_said c.dialect_of.result c.args.words.now.options.limit c.deref.result.now c.in-Err-UnboundedOrInfeasible.field-0 c.in-Err-UnboundedOrInfeasible.field-0-is c.in-Err-UnboundedOrInfeasible.ensures),
+        said_read (λ t. TextIsUnboundedOrInfeasible names.options t) INPUT_LIMIT (before.told names.input) c.in-Ok.text.items _ c.in-Ok.ensures.bytes c.in-Ok.ensures.most c.deref.ensures.value
+            (unbounded_said c.args.words.now.options c.deref.result.now c.in-Err-UnboundedOrInfeasible.field-0 c.in-Err-UnboundedOrInfeasible.field-0-is c.in-Err-UnboundedOrInfeasible.ensures),
         c.read.ensures.kept,
         refl,
+      );
+      read = λ a b. finds_there INPUT_LIMIT names.input before before (Some c.in-Ok.text.items) (c.in-Ok.ensures.bytes, c.in-Ok.ensures.most);
+    }
+
+pub returns-in-Err-NotContinuous-clause-ends : goal.returns-in-Err-NotContinuous-clause-ends
+returns-in-Err-NotContinuous-clause-ends g c =
+    let names = names_of c.args.words.now in
+    let before = g.F.Files.moment c.args.files.now in
+    let line = c.in-Err-NotContinuous.line in
+    record {
+      says = (
+        inr (said_read (λ t. TextIsNotTaken names.options t line.items) INPUT_LIMIT (before.told names.input) c.in-Ok.text.items _ c.in-Ok.ensures.bytes c.in-Ok.ensures.most c.deref.ensures.value
+            (not_taken_said c.args.words.now.options c.deref.result.now c.in-Err-NotContinuous.field-0 line c.in-Err-NotContinuous.field-0-is c.in-Err-NotContinuous.ensures)),
+        c.read.ensures.kept,
       );
       read = λ a b. finds_there INPUT_LIMIT names.input before before (Some c.in-Ok.text.items) (c.in-Ok.ensures.bytes, c.in-Ok.ensures.most);
     }

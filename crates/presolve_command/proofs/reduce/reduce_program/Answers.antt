@@ -16,7 +16,9 @@ returns-in_ok-texts-in-Ok-Reduced c =
       outcome,
       refl,
       record {
+        taken = c.requires.taken;
         concluded = told;
+        pairs = λ dual. concluded.pairs (c.requires.taken dual);
         range = c.records_have_range.ensures;
         texts = texts;
         reads_back = reads_back c.args.options.now.numbers outcome _ concluded.names concluded.named concluded.writable concluded.ascends texts.program_text;
@@ -30,8 +32,8 @@ texts_of-requires c =
     widths_fit c.args.options.now.numbers c.in-Ok-Reduced.made.program concluded.writable
 
 pub returns-in-Ok-Infeasible : goal.returns-in-Ok-Infeasible
-returns-in-Ok-Infeasible c = infeasible_of c.args.options.now c.args.program c.in-Ok-Infeasible.field-0 c.in-Ok-Infeasible._decided c.in-Ok-Infeasible.field-0-is c.in-Ok-Infeasible.ensures
+returns-in-Ok-Infeasible c = infeasible_of c.args.options.now c.args.program c.in-Ok-Infeasible.field-0 c.in-Ok-Infeasible._decided c.in-Ok-Infeasible.field-0-is c.requires.taken c.in-Ok-Infeasible.ensures
 
 pub returns-in-Ok-UnboundedOrInfeasible : goal.returns-in-Ok-UnboundedOrInfeasible
 returns-in-Ok-UnboundedOrInfeasible c =
-    unbounded_of c.args.options.now c.args.program c.in-Ok-UnboundedOrInfeasible.field-0 c.in-Ok-UnboundedOrInfeasible._decided c.in-Ok-UnboundedOrInfeasible.field-0-is c.in-Ok-UnboundedOrInfeasible.ensures
+    unbounded_of c.args.options.now c.args.program c.in-Ok-UnboundedOrInfeasible.field-0 c.in-Ok-UnboundedOrInfeasible._decided c.in-Ok-UnboundedOrInfeasible.field-0-is c.requires.taken c.in-Ok-UnboundedOrInfeasible.ensures

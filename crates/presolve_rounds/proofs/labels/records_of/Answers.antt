@@ -1,4 +1,4 @@
-use Rattle.std.proofs.Common.{subst, length, sym, ap, ap₂, ◌∙◌}
+use Rattle.std.proofs.Common.{subst, length, refl, sym, ap, ap₂, ◌∙◌}
 use Rattle.std.specs.List.{All}
 use Rattle.std.proofs.lemmas.List.Elements.{All-tail}
 use Rattle.lp_model.specs.Name.{IsName}
@@ -22,9 +22,10 @@ column_labels-requires c =
 
 pub new-requires-clause-sound : goal.new-requires-clause-sound
 new-requires-clause-sound c =
-    let told : Postsolve = record { sense = c.sense-2.result; columns = c.in_ok-columns.columns.items; rows = c.in_ok-rows.rows.items; offset = c.in_sense-offset.result; undos = c.close-ended.result.records.items } in
-    let is : IsToldOf c.args.program.now c.args.book told = record {
+    let told : Postsolve = record { sense = c.sense-2.result; duals = c.args.dual; columns = c.in_ok-columns.columns.items; rows = c.in_ok-rows.rows.items; offset = c.in_sense-offset.result; undos = c.close-ended.result.records.items } in
+    let is : IsToldOf c.args.dual c.args.program.now c.args.book told = record {
       sense = c.sense-2.ensures;
+      duals = refl;
       undos = c.close-ended.ensures.records;
       offset = c.in_sense-offset.ensures ∙ ap₂ (λ s q. signed s q) c.sense.ensures (c.offset.ensures ∙ ap (λ (p : Sparse). p.offset) c.problem-3.ensures);
       row_names = c.in_ok-rows.ensures.names ∙ ap names_of_rows c.rows.ensures;
@@ -32,7 +33,7 @@ new-requires-clause-sound c =
       rows = c.in_ok-rows.ensures.live ∙ ap are_live (c.rows-2.ensures ∙ ap (λ (p : Sparse). p.matrix.rows) c.problem.ensures);
       columns = c.in_ok-columns.ensures.live ∙ ap are_live (c.columns-2.ensures ∙ ap (λ (p : Sparse). p.matrix.columns) c.problem-2.ensures);
     } in
-    told_sound c.args.program.now c.args.book told c.requires c.stands.ensures.stands is
+    told_sound c.args.dual c.args.program.now c.args.book told c.requires c.stands.ensures.stands is
 
 pub new-requires-clause-named : goal.new-requires-clause-named
 new-requires-clause-named c = record {

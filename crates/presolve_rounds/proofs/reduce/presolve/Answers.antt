@@ -20,23 +20,23 @@ reduced-requires-clause-runs c =
 
 pub returns-in-Some : goal.returns-in-Some
 returns-in-Some c =
-    let made = c.in_ok-reduced-in-Some.field-0 in
+    let made = c.in_ok-made-in-Some.made in
     subst (λ (o : Options). Concluded o c.args.program made.program made.records made.end)
     (same_options c.args.options.now c.in_ok-book.book c.run.new.book c.in_ok-book.ensures.new c.in_ok-end.ensures.book)
-    c.in_ok-reduced-in-Some.ensures
+    c.in_ok-made-in-Some.ensures
 
-pub decided-requires-clause-start : goal.decided-requires-clause-start
-decided-requires-clause-start c = subst (IsProblemOf c.args.program) (sym c.in_ok-end.ensures.book.start) c.in_ok-book.ensures.start
+pub decided-made-requires-clause-start : goal.decided-made-requires-clause-start
+decided-made-requires-clause-start c = subst (IsProblemOf c.args.program) (sym c.in_ok-end.ensures.book.start) c.in_ok-book.ensures.start
 
-pub decided-requires-clause-decided : goal.decided-requires-clause-decided
-decided-requires-clause-decided c = subst (λ (o : Option End). EndsWith o c.run.new.book) c.in-None.is c.in_ok-end.ensures.end
+pub decided-made-requires-clause-decided : goal.decided-made-requires-clause-decided
+decided-made-requires-clause-decided c = subst (λ (o : Option End). EndsWith o c.run.new.book) c.in-None.is c.in_ok-end.ensures.end
 
-pub decided-requires-clause-runs : goal.decided-requires-clause-runs
-decided-requires-clause-runs c =
+pub decided-made-requires-clause-runs : goal.decided-made-requires-clause-runs
+decided-made-requires-clause-runs c =
     runs_to c.args.program c.args.options.now c.in_ok-book.book c.run.new.book c.in_ok-end.end None c.in_ok-book.ensures.start c.in_ok-book.ensures.new c.in_ok-end.ensures.book c.in-None.is c.in_ok-end.ensures.ordered
 
 pub concluded-requires : goal.concluded-requires
 concluded-requires c =
-    subst (λ (o : Options). Decided o c.args.program c.decided.result.history.items c.decided.result.verdict)
+    subst (λ (o : Options). Decided o c.args.program c.decided-made.result.history.items c.decided-made.result.verdict)
     (same_options c.args.options.now c.in_ok-book.book c.run.new.book c.in_ok-book.ensures.new c.in_ok-end.ensures.book)
-    c.decided.ensures
+    c.decided-made.ensures

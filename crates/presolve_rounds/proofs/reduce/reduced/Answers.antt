@@ -5,7 +5,8 @@ use Rattle.problem_model.specs.Programs.{written_program}
 use Rattle.problem_model.specs.Sparse.{Sparse}
 use Rattle.run_laws.proofs.Telling.{problem_is_of}
 use Rattle.presolve_model.specs.Conclusions.{Concluded, HaveNames}
-use Rattle.presolve_rounds.proofs.Concluding.{concluded, options_with}
+use Rattle.presolve_model.specs.Ordered.{options_of}
+use Rattle.presolve_rounds.proofs.Concluding.{concluded}
 use Rattle.presolve_rounds.proofs.reduce.reduced.Goals as goal
 
 pub to_program-requires-clause-rows : goal.to_program-requires-clause-rows
@@ -24,6 +25,6 @@ returns c =
       left = subst (λ (p : ProgramData). WellNamed p.objective p.rows p.columns) written c.objective-left.ensures.named;
       records = c.is_named.ensures;
     } in
-    subst (λ (p : ProgramData). Concluded (options_with c.args.book.numbers c.args.book.limit) c.args.program.now p c.in_ok-records.records c.args.end)
+    subst (λ (p : ProgramData). Concluded (options_of c.args.dual c.args.book) c.args.program.now p c.in_ok-records.records c.args.end)
     (sym written)
-    (concluded c.args.program.now c.args.book c.in_ok-records.records c.args.end c.requires.ascends c.requires.writable c.requires.start c.stands.ensures.stands c.requires.end c.in_ok-records.ensures named c.requires.runs)
+    (concluded c.args.dual c.args.program.now c.args.book c.in_ok-records.records c.args.end c.requires.ascends c.requires.writable c.requires.start c.stands.ensures.stands c.requires.end c.in_ok-records.ensures named c.requires.runs)

@@ -1,4 +1,4 @@
-use Rattle.program_laws.proofs.WrittenShow.{rest, written_alike, written_points, written_points_back, written_ascends}
+use Rattle.program_laws.proofs.WrittenShow.{rest, written_alike, written_pairs, written_points, written_points_back, written_ascends}
 use Rattle.program_laws.proofs.laws.written_programs_are_shown.Goals as goal
 
 pub returns-clause-same : goal.returns-clause-same
@@ -9,6 +9,9 @@ returns-clause-rest c = rest
 
 pub returns-clause-points : goal.returns-clause-points
 returns-clause-points c = written_points
+
+pub returns-clause-pairs : goal.returns-clause-pairs
+returns-clause-pairs c = written_pairs
 
 pub returns-clause-points_back : goal.returns-clause-points_back
 returns-clause-points_back c = written_points_back

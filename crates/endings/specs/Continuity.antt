@@ -1,0 +1,16 @@
+-- What is said where no column may have to be whole, and one has to be.
+use Rattle.std.specs.Prelude.{◌≡◌, ℕ, List, [], ◌∷◌, ◌++◌, codes}
+use Rattle.lp_model.specs.ProgramData.{ProgramData}
+use Rattle.lp_model.specs.Meaning.{meaning}
+use Rattle.lp_check.specs.FirstWhole.{IsFirstWhole}
+use Rattle.endings.specs.ProgramTexts.{column_text}
+
+-- the line that names a column that has to be whole
+abbrev pub not_continuous_text : ProgramData → ℕ → List ℕ
+not_continuous_text program j = codes "not continuous: " ++ (column_text program j ++ 10 ∷ [])
+
+-- this line names the first column of a program that has to be whole
+pub record NamesFirstWhole (program : ProgramData) (said : List ℕ) : Type 0 where
+  pub column : ℕ
+  pub whole : IsFirstWhole (meaning program) column
+  pub line : said ≡ not_continuous_text program column
