@@ -1,5 +1,5 @@
 pub mod Merging
-pub mod FirstRows
+pub mod FootprintSums
 pub mod Orders
 pub mod Pairs
 pub mod Remaining

@@ -1,4 +1,4 @@
 pub mod Directions
-pub mod FirstRows
+pub mod Footprints
 pub mod Merging
 pub mod Pairs

@@ -1,5 +1,5 @@
 -- Pairs of columns of a row.
-use Rattle.std.specs.Prelude.{◌≡◌, ℕ, Bool, true, not, ◌&&◌, ◌||◌, nat_eq, nat_le, List, [], ◌∷◌, length, map, is_none, if◌then◌else◌}
+use Rattle.std.specs.Prelude.{◌≡◌, ℕ, Bool, true, not, ◌&&◌, ◌||◌, nat_eq, nat_le, List, [], ◌∷◌, length, map, is_none, IfSome, if◌then◌else◌}
 use Rattle.std.specs.List.{filter, flat_map}
 use Rattle.rational.specs.Number.{Number}
 use Rattle.rational.specs.Compare.{le_ℚ}
@@ -11,7 +11,7 @@ use Rattle.problem_model.specs.Problems.{bounds_at, column_at, column_entries, c
 use Rattle.problem_model.specs.Sparse.{Sparse}
 use Rattle.dual_laws.specs.DominatedColumn.{takes_over}
 use Rattle.dual_rules.specs.declared.dominated_column.Standing.{Standing}
-use Rattle.dual_rules.specs.FirstRows.{TellsFirst}
+use Rattle.dual_rules.specs.Footprints.{IsFootprint}
 use Rattle.dual_rules.specs.Merging.{all_admit}
 
 -- what is asked of k beside a column that has no upper bound, has the cost c, and is whole or not
@@ -32,7 +32,7 @@ pub record IsStanding (p : Sparse) (s : Standing) : Type 0 where
   pub cost : s.cost ≡ cost_at p s.entry.id
   pub whole : s.whole ≡ (bounds_at p s.entry.id).whole
   pub endless : s.endless ≡ is_none (bounds_at p s.entry.id).upper
-  pub first : TellsFirst p (column_entries p s.entry.id) s.first
+  pub footprint : IfSome s.footprint (λ f. IsFootprint p (column_entries p s.entry.id) f)
   pub placed : s.placed ≡ (is_apart (bounds_at p s.entry.id).lower (bounds_at p s.entry.id).upper && is_place (bounds_at p s.entry.id).lower (bounds_at p s.entry.id).whole)
 
 -- their entries in the row

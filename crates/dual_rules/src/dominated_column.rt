@@ -15,7 +15,7 @@ ghost use Rattle.dual_rules.specs.Pairs.{IsStanding, Tells, are_live, dominates,
 
 use crate::both_columns::{add_sides_besides, add_sides_of, rows_admit, takes_over};
 use crate::directions::{entries, entries_if_live};
-use crate::first_rows::{FirstRow, first_row_of, firsts_admit};
+use crate::footprints::{Footprint, footprint_of, footprints_admit};
 use fractions::frac::Frac;
 use lp_model::Term;
 use lp_model::ends::{apart, place};
@@ -177,7 +177,8 @@ struct Standing {
     endless: bool,
     /// Whether it may stay at its lower bound: that is below the upper one, and whole if the column is.
     placed: bool,
-    first: FirstRow,
+    /// What it asks and offers in all its rows, unless these are many.
+    footprint: Option<Footprint>,
 }
 
 /// What is asked of a column by itself.
@@ -193,7 +194,7 @@ fn standing_of(problem: &Problem, entry: &Term) -> Standing
         whole: bounds.whole,
         endless: bounds.upper.is_none(),
         placed: apart(&bounds.lower, &bounds.upper) && place(&bounds.lower, bounds.whole),
-        first: first_row_of(problem, entry.id),
+        footprint: footprint_of(problem, entry.id),
     }
 }
 
@@ -227,7 +228,8 @@ fn dominates(problem: &Problem, sides: &Sides, better: &Standing, other: &Standi
     requires row { Tells problem.now sides.now better.now.entry other.now.entry }
     ensures { result ≡ dominates problem.now better.now.entry.id other.now.entry.id }
 {
-    if !firsts_admit(&better.first, &other.first) {
+    problem.is_sparse();
+    if !footprints_admit(&better.footprint, &other.footprint) {
         return false;
     }
     may_dominate(better, other)

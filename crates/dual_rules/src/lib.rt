@@ -5,8 +5,8 @@
 mod both_columns;
 mod directions;
 pub mod dominated_column;
-mod first_rows;
 pub mod fixed_by_cost;
+mod footprints;
 pub mod form;
 pub mod ray;
 pub mod sides;

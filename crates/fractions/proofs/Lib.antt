@@ -11,3 +11,4 @@ pub mod Placing
 pub mod Least
 pub mod DecimalLaws
 pub mod ScalingLaws
+pub mod WholeSteps

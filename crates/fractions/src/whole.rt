@@ -63,6 +63,13 @@ impl Whole {
         self.value < 0
     }
 
+    /// Whether it is above 0.
+    pub fn is_positive(self) -> bool
+        ensures { IsTrue result ↔ (pos 0 <ℤ self) }
+    {
+        self.value > 0
+    }
+
     /// The sum.
     ///
     /// # Errors

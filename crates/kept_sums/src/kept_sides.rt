@@ -1,6 +1,7 @@
 //! Whether a row keeps a side with one of its columns at its other end, by one comparison over the denominator of its sum.
 
-ghost use Rattle.std.specs.Prelude.{◌≡◌, ◌<◌, ◌^◌, ◌++◌, ◌∷◌, ◌||◌, is_none, nat_eq, List, Option, IfSome, IsTrue};
+ghost use Rattle.std.specs.Prelude.{◌≡◌, ◌<◌, ◌^◌, ◌++◌, ◌∷◌, ◌||◌, ◌*ℤ◌, pos, is_none, nat_eq, List, Option, IfSome, IsTrue};
+ghost use Rattle.std.specs.Ordering.{int_cmp};
 ghost use Rattle.rational.specs.Number.{Number, ◌*ℚ◌};
 ghost use Rattle.rational.specs.Compare.{le_ℚ};
 ghost use Rattle.rational.specs.Lowest.{ratio};
@@ -16,10 +17,11 @@ use crate::common::CommonSum;
 use fractions::divisor::quotient;
 use fractions::ext::Ext;
 use fractions::frac::Frac;
-use fractions::parts::{Parts, compare_parts};
+use fractions::parts::Parts;
 use fractions::whole::Whole;
 use row_spans::exact::product;
 use row_spans::{Extreme, Span, bound_at};
+use std::cmp::Ordering;
 
 /// The numerator of a product over a denominator, if the product of both denominators divides it and the numbers have room.
 fn plain_numerator(denominator: u128, value: &Frac, bound: &Frac) -> Option<Whole>
@@ -128,18 +130,39 @@ fn turned(sum: &CommonSum, extreme: Extreme, span: &Span) -> Option<Whole>
     turned_by(sum, own, other)
 }
 
+/// How a number compares with another one, by cross multiplication; none where a product has no room.
+fn order_within(a: &Parts, b: &Parts) -> Option<Ordering>
+    requires left { a.now.den < 2 ^ 127 }
+    requires right { b.now.den < 2 ^ 127 }
+    ensures { IfSome result (λ order. order ≡ int_cmp (a.now.num *ℤ pos b.now.den) (b.now.num *ℤ pos a.now.den)) }
+{
+    let Ok(left) = a.num.scaled(b.den) else {
+        return None;
+    };
+    let Ok(right) = b.num.scaled(a.den) else {
+        return None;
+    };
+    Some(left.compare(right))
+}
+
 /// Whether a number is at most another one, by their numerators and denominators.
 fn is_at_most(a: Parts, b: Parts) -> bool
     requires left { 0 < a.den }
+    requires left_short { a.den < 2 ^ 127 }
     requires right { 0 < b.den }
+    requires right_short { b.den < 2 ^ 127 }
     ensures { result ≡ le_ℚ (ratio a.num a.den) (ratio b.num b.den) }
 {
-    compare_parts(a, b).is_le()
+    match order_within(&a, &b) {
+        Some(order) => order.is_le(),
+        None => Frac::ratio_of(a.num, a.den).le(&Frac::ratio_of(b.num, b.den)),
+    }
 }
 
 /// Whether a number keeps a side.
 fn is_kept(extreme: Extreme, side: &Frac, number: Parts) -> bool
-    requires { 0 < number.den }
+    requires positive { 0 < number.den }
+    requires short { number.den < 2 ^ 127 }
     ensures { IsTrue result → Keeps extreme side.now (ratio number.num number.den) }
 {
     match extreme {

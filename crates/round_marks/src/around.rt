@@ -48,8 +48,8 @@ impl Places {
     {
         let mut rows = rows_of(alloc, parts)?;
         let mut columns = columns_of(alloc, parts)?;
-        sort_ids(&mut rows);
-        sort_ids(&mut columns);
+        sort_ids(&mut rows)?;
+        sort_ids(&mut columns)?;
         Ok(Places { rows, columns })
     }
 }
@@ -61,14 +61,14 @@ fn rows_of_bounds(alloc: Global, problem: &Problem, parts: &[Part]) -> Result<Ve
 {
     let mut ids = rows_of(alloc, parts)?;
     let mut columns = bounds_of(alloc, parts)?;
-    sort_ids(&mut columns);
+    sort_ids(&mut columns)?;
     add_across(
         problem.columns(),
         problem.rows(),
         columns.as_slice(),
         &mut ids,
     )?;
-    sort_ids(&mut ids);
+    sort_ids(&mut ids)?;
     Ok(ids)
 }
 
@@ -83,9 +83,9 @@ fn columns_of_sides(
 {
     let mut ids = columns_of(alloc, parts)?;
     let mut rows = sides_of(alloc, parts)?;
-    sort_ids(&mut rows);
+    sort_ids(&mut rows)?;
     add_across(problem.rows(), problem.columns(), rows.as_slice(), &mut ids)?;
-    sort_ids(&mut ids);
+    sort_ids(&mut ids)?;
     Ok(ids)
 }
 
@@ -102,7 +102,7 @@ fn rows_of_both(
 {
     let mut ids = rows_of(alloc, parts)?;
     add_across(problem.columns(), problem.rows(), columns, &mut ids)?;
-    sort_ids(&mut ids);
+    sort_ids(&mut ids)?;
     Ok(ids)
 }
 
@@ -121,7 +121,7 @@ fn sole_columns(
     let mut ids = Vec::new(alloc);
     add_soles(problem, columns.as_slice(), &mut ids)?;
     add_soles_of_rows(problem, rows, &mut ids)?;
-    sort_ids(&mut ids);
+    sort_ids(&mut ids)?;
     Ok(ids)
 }
 
@@ -140,7 +140,7 @@ fn rows_beside(
     let rows = rows_of(alloc, parts)?;
     let mut ids = Vec::from_slice(alloc, rows.as_slice())?;
     groups.add_beside_rows(alloc, rows.as_slice(), &mut ids)?;
-    sort_ids(&mut ids);
+    sort_ids(&mut ids)?;
     Ok(ids)
 }
 
@@ -159,7 +159,7 @@ fn columns_beside(
     let columns = columns_of(alloc, parts)?;
     let mut ids = Vec::from_slice(alloc, columns.as_slice())?;
     groups.add_beside_columns(alloc, columns.as_slice(), &mut ids)?;
-    sort_ids(&mut ids);
+    sort_ids(&mut ids)?;
     Ok(ids)
 }
 

@@ -8,4 +8,4 @@ returns-clause-holds c =
     columns_led c.args.groups.now c.args.problem.now c.is_sparse.ensures c.requires c.args.parts.now c.in_ok-columns.columns.items c.add_beside_columns.new.ids.items c.sort_ids.new.ids.items c.in_ok-columns.ensures
     (λ k d. c.in_ok-add_beside_columns.ensures.kept k (subst (λ (ks : List ℕ). Contains ks k) (sym c.in_ok-ids.ensures.items) (subst (λ (ks : List ℕ). Contains ks k) (sym c.as_slice.ensures.value) d)))
     (λ k m d e. c.in_ok-add_beside_columns.ensures.holds k m (subst (λ (ks : List ℕ). Contains ks k) (sym c.as_slice-2.ensures.value) d) e)
-    c.sort_ids.ensures.kept
+    c.in_ok-sort_ids.ensures.kept

@@ -11,4 +11,4 @@ returns-clause-holds c =
     let p = c.args.problem.now in
     let mid : c.add_across.new.ids.items ≡ c.in_ok-ids.ids.items ++ flat_map (λ (i : ℕ). ids_of (row_entries p i)) c.sort_ids.new.ids.items =
     c.in_ok-add_across.ensures ∙ (λ t. c.in_ok-ids.ids.items ++ flat_map (λ (k : ℕ). ids_of (live_only (c.columns.ensures t) (line_at (c.rows.ensures t) k).entries)) (c.as_slice.ensures.value t)) in
-    sides_led p c.args.parts.now c.in_ok-ids.ids.items c.in_ok-rows.rows.items c.sort_ids.new.ids.items c.add_across.new.ids.items c.sort_ids-2.new.ids.items c.in_ok-ids.ensures c.in_ok-rows.ensures c.sort_ids.ensures.kept mid c.sort_ids-2.ensures.kept
+    sides_led p c.args.parts.now c.in_ok-ids.ids.items c.in_ok-rows.rows.items c.sort_ids.new.ids.items c.add_across.new.ids.items c.sort_ids-2.new.ids.items c.in_ok-ids.ensures c.in_ok-rows.ensures c.in_ok-sort_ids.ensures.kept mid c.in_ok-sort_ids-2.ensures.kept

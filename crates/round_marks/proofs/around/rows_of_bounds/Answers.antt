@@ -11,4 +11,4 @@ returns-clause-holds c =
     let p = c.args.problem.now in
     let mid : c.add_across.new.ids.items ≡ c.in_ok-ids.ids.items ++ flat_map (λ (j : ℕ). ids_of (column_entries p j)) c.sort_ids.new.ids.items =
     c.in_ok-add_across.ensures ∙ (λ t. c.in_ok-ids.ids.items ++ flat_map (λ (k : ℕ). ids_of (live_only (c.rows.ensures t) (line_at (c.columns.ensures t) k).entries)) (c.as_slice.ensures.value t)) in
-    bounds_led p c.args.parts.now c.in_ok-ids.ids.items c.in_ok-columns.columns.items c.sort_ids.new.ids.items c.add_across.new.ids.items c.sort_ids-2.new.ids.items c.in_ok-ids.ensures c.in_ok-columns.ensures c.sort_ids.ensures.kept mid c.sort_ids-2.ensures.kept
+    bounds_led p c.args.parts.now c.in_ok-ids.ids.items c.in_ok-columns.columns.items c.sort_ids.new.ids.items c.add_across.new.ids.items c.sort_ids-2.new.ids.items c.in_ok-ids.ensures c.in_ok-columns.ensures c.in_ok-sort_ids.ensures.kept mid c.in_ok-sort_ids-2.ensures.kept

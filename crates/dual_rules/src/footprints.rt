@@ -1,0 +1,131 @@
+//! What a column asks of all that stand beside it, in a number each way: most pairs, of which neither dominates the other, differ there.
+
+ghost use Rattle.std.specs.Prelude.{◌≡◌, ℕ, ◌+◌, true, false, IfSome, List, ◌∷◌, []};
+ghost use Rattle.lp_model.specs.declared.terms.Term.{Term};
+ghost use Rattle.lp_model.specs.Sparse.{Ascends};
+ghost use Rattle.problem_model.specs.Matrices.{live_only};
+ghost use Rattle.problem_model.specs.Problems.{column_at, column_entries, row_at};
+ghost use Rattle.problem_model.specs.Sparse.{Sparse};
+ghost use Rattle.dual_rules.specs.Footprints.{IsFootprint, asked as asked_of, asks as asks_of, mark as mark_of, offered as offered_of, offers as offers_of, sum_of, weight as weight_of};
+ghost use Rattle.dual_rules.specs.Merging.{all_admit};
+
+use crate::directions::entries;
+use fractions::frac::Frac;
+use lp_model::Term;
+use problem_model::Sides;
+use sparse_problem::Problem;
+
+/// Sums over the live rows of a column, each with a weight of its own. Where one column stands in for another, it asks no more, and offers
+/// no less.
+#[derive(Clone, Copy)]
+pub struct Footprint {
+    /// Over the rows that don't take the column for one without an entry there.
+    pub asked: u64,
+    /// Over the rows that don't take one without an entry there for the column.
+    pub offered: u64,
+}
+
+/// The most entries of a column of which a footprint is made.
+const MOST_LOOKED_AT: usize = 64;
+
+/// A row's weight: the low half of a product with a constant near 2^32 over the golden ratio.
+fn weight(row: u32) -> u64
+    ensures { result ≡ weight_of row }
+{
+    row as u64 * 2_654_435_761 % (1 << 32) + 1
+}
+
+/// The weight of an entry. In a row with two sides its number counts too, since it has to be the same in both columns.
+fn mark(sides: &Sides, term: &Term) -> Option<u64>
+    ensures { IfSome result (λ n. n ≡ mark_of sides.now.lower sides.now.upper term.now.id term.now.value) }
+{
+    if sides.lower.is_none() || sides.upper.is_none() {
+        return Some(weight(term.id));
+    }
+    let digits = term.value.parts().num.size() % (1 << 16);
+    weight(term.id).checked_mul(digits as u64 + 1)
+}
+
+/// Whether a row of these sides doesn't take a column with this entry for one without.
+fn asks(sides: &Sides, value: &Frac) -> bool
+    ensures { result ≡ asks_of sides.now.lower sides.now.upper value.now }
+{
+    (value.is_positive() && !sides.upper.is_none())
+        || (value.is_negative() && !sides.lower.is_none())
+}
+
+/// Whether it doesn't take one without for the column.
+fn offers(sides: &Sides, value: &Frac) -> bool
+    ensures { result ≡ offers_of sides.now.lower sides.now.upper value.now }
+{
+    (value.is_positive() && !sides.lower.is_none())
+        || (value.is_negative() && !sides.upper.is_none())
+}
+
+/// Sums with one entry more, if they have room.
+fn with_entry(problem: &Problem, before: &Footprint, term: &Term) -> Option<Footprint>
+    requires { (row_at problem.now term.now.id).live ≡ true }
+    ensures asked { IfSome result (λ f. f.asked ≡ before.now.asked + asked_of problem.now term.now.id term.now.value) }
+    ensures offered { IfSome result (λ f. f.offered ≡ before.now.offered + offered_of problem.now term.now.id term.now.value) }
+{
+    let sides = problem.sides(term.id);
+    let own = mark(&sides, term)?;
+    let asked = if asks(&sides, &term.value) { own } else { 0 };
+    let offered = if offers(&sides, &term.value) { own } else { 0 };
+    Some(Footprint {
+        asked: before.asked.checked_add(asked)?,
+        offered: before.offered.checked_add(offered)?,
+    })
+}
+
+/// The same, unless the entry's row is gone.
+fn with_live(problem: &Problem, before: &Footprint, term: &Term) -> Option<Footprint>
+    ensures asked { IfSome result (λ f. f.asked ≡ before.now.asked + sum_of (asked_of problem.now) (live_only problem.now.matrix.rows (term.now ∷ []))) }
+    ensures offered { IfSome result (λ f. f.offered ≡ before.now.offered + sum_of (offered_of problem.now) (live_only problem.now.matrix.rows (term.now ∷ []))) }
+{
+    if problem.is_row_live(term.id) {
+        with_entry(problem, before, term)
+    } else {
+        Some(*before)
+    }
+}
+
+/// The footprint of a column with these entries, if the sums have room.
+fn footprint_by(problem: &Problem, entries: &[Term]) -> Option<Footprint>
+    ensures { IfSome result (λ f. IsFootprint problem.now (live_only problem.now.matrix.rows entries.now) f) }
+{
+    let mut sums = Footprint {
+        asked: 0,
+        offered: 0,
+    };
+    let mut rest = entries;
+    while let [term, after @ ..] = rest {
+        sums = with_live(problem, &sums, term)?;
+        rest = after;
+    }
+    Some(sums)
+}
+
+/// The footprint of a column. None is made where it has more than 64 entries.
+pub fn footprint_of(problem: &Problem, column: u32) -> Option<Footprint>
+    requires { (column_at problem.now column).live ≡ true }
+    ensures { IfSome result (λ f. IsFootprint problem.now (column_entries problem.now column) f) }
+{
+    let terms = entries(problem, column);
+    if terms.len() > MOST_LOOKED_AT {
+        return None;
+    }
+    footprint_by(problem, terms)
+}
+
+/// Whether the footprints of two columns, as far as they were made, let the first column stand in for the second.
+pub fn footprints_admit(better: &Option<Footprint>, other: &Option<Footprint>) -> bool
+    ensures { (p : Sparse) (n : ℕ) (ts us : List Term) → Ascends 0 n ts → Ascends 0 n us → IfSome better.now (λ f. IsFootprint p ts f) → IfSome other.now (λ f. IsFootprint p us f) → result ≡ false → all_admit p ts us ≡ false }
+{
+    match (better, other) {
+        (Some(better), Some(other)) => {
+            better.asked <= other.asked && other.offered <= better.offered
+        }
+        _ => true,
+    }
+}
