@@ -9,7 +9,6 @@ use Rattle.rational.specs.Order.{≤ℚ_refl}
 use Rattle.rational.proofs.Signs.{<ℚ-≤ℚ_trans, ≤ℚ-<ℚ}
 use Rattle.lp_model.specs.declared.terms.Term.{Term}
 use Rattle.lp_model.specs.Sparse.{Ascends, dense, has}
-use Rattle.problem_model.specs.declared.line.Sides.{Sides}
 use Rattle.problem_model.specs.declared.part.Contents.TheVariants as holding
 use Rattle.problem_model.specs.declared.part.Part.TheVariants as part
 use Rattle.problem_model.specs.Parts.{contents_of}

@@ -16,6 +16,7 @@ use Rattle.problem_model.specs.declared.part.Contents.{Contents}
 use Rattle.problem_model.specs.declared.part.Contents.TheVariants as holding
 use Rattle.problem_model.specs.declared.part.Part.{Part}
 use Rattle.problem_model.specs.declared.part.Part.TheVariants as part
+use Rattle.problem_model.specs.Matrices.{live_only}
 use Rattle.problem_model.specs.Parts.{contents_of}
 use Rattle.problem_model.specs.Problems.{bounds_at, column_at, column_entries, cost_at, row_at, row_entries, sides_at, IsSparse}
 use Rattle.problem_model.specs.Sparse.{Sparse}
@@ -26,7 +27,7 @@ use Rattle.problem_laws.proofs.Entries.{live_entries_name, live_entries_tell, ro
 use Rattle.problem_laws.proofs.Terms.{has-cons_same, not_both}
 use Rattle.dual_rules.specs.Merging.{admits, all_admit}
 use Rattle.dual_rules.specs.declared.dominated_column.Standing.{Standing}
-use Rattle.dual_rules.specs.Pairs.{IsStanding, Tells, are_live, dominates, entries_of, is_short, pair_if, pairs_among, pairs_beside}
+use Rattle.dual_rules.specs.Pairs.{IsStanding, Tells, are_live, dominates, entries_of, is_endless, is_short, pair_if, pairs_among, pairs_beside}
 use Rattle.dual_rules.proofs.Merging.{admits_at}
 use Rattle.dual_rules.proofs.Remaining.{left, one_more}
 
@@ -196,3 +197,22 @@ module _ (p : Sparse) (i : ℕ) (short : is_short p i ≡ true) where
 
 pub pairs_found : (p : Sparse) (i : ℕ) (us : List Term) (x y : List Pair) → is_short p i ≡ true → us ≡ row_entries p i → x ≡ [] → y ≡ x ++ pairs_among p us us → y ≡ filter (λ x. enabled p i x.0 x.1) (pairs_of (row_entries p i))
 pairs_found p i us x y s e f g = g ∙ ap₂ (λ (l : List Pair) (vs : List Term). l ++ pairs_among p vs vs) f e ∙ pairs_are p i s
+
+-- ---- rows whose columns all have an upper bound
+abbrev Ended : Sparse → Term → Type 0
+Ended p t = is_none (bounds_at p t.id).upper ≡ false
+
+pub none_among : (p : Sparse) (ts us : List Term) → All (Ended p) ts → pairs_among p ts us ≡ []
+none_among p [] us h = refl
+none_among p (t ∷ ts) us h = filter-append (λ x. dominates p x.0 x.1) (map (λ u. (t.id, u.id)) us) (flat_map (λ t. map (λ u. (t.id, u.id)) us) ts) ∙ ap₂ (λ (x y : List Pair). x ++ y) (none_beside p t.id us (All-head (Ended p) t ts h)) (none_among p ts us (All-tail (Ended p) t ts h))
+
+pub one_ended : (p : Sparse) (t : Term) (ts : List Term) → is_endless p t.id ≡ false → All (Ended p) (live_only p.matrix.columns ts) → All (Ended p) (live_only p.matrix.columns (t ∷ ts))
+one_ended p t ts e h = by (column_at p t.id).live e
+  where
+    by : (b : Bool) → (b && is_none (bounds_at p t.id).upper) ≡ false → All (Ended p) (cond b (t ∷ live_only p.matrix.columns ts) (live_only p.matrix.columns ts))
+    by true g = All-cons (Ended p) t (live_only p.matrix.columns ts) g h
+    by false g = h
+
+pub ended_more : (p : Sparse) (ts : List Term) (i : ℕ) (t : Term) → i < length ts → t ≡ get_or ts i t → is_endless p t.id ≡ false
+    → All (Ended p) (live_only p.matrix.columns (drop (i + 1) ts)) → All (Ended p) (live_only p.matrix.columns (drop i ts))
+ended_more p ts i t l e n h = subst (λ (us : List Term). All (Ended p) (live_only p.matrix.columns us)) (sym (left ts i t l e)) (one_ended p t (drop (i + 1) ts) n h)

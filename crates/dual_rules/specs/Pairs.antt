@@ -47,6 +47,10 @@ Tells p s t u = all_admit p (column_entries p t.id) (column_entries p u.id) ≡ 
 abbrev pub are_live : Sparse → ℕ → ℕ → ℕ → Bool
 are_live p i j k = (row_at p i).live && ((column_at p j).live && (column_at p k).live)
 
+-- a column is live and has no upper bound
+abbrev pub is_endless : Sparse → ℕ → Bool
+is_endless p j = (column_at p j).live && is_none (bounds_at p j).upper
+
 -- a row is live, and has at most 64 entries
 abbrev pub is_short : Sparse → ℕ → Bool
 is_short p i = (row_at p i).live && nat_le (length (row_entries p i)) 64

@@ -1,17 +1,17 @@
 //! K11: a column that another one without an upper bound dominates is fixed at its lower bound.
 
-ghost use Rattle.std.specs.Prelude.{◌≡◌, ◌++◌, ◌&&◌, ◌||◌, not, nat_eq, true, ℕ, length, map, IfOk, OnOk};
+ghost use Rattle.std.specs.Prelude.{◌≡◌, ◌++◌, ◌&&◌, ◌||◌, not, nat_eq, true, false, ℕ, length, map, is_none, IfOk, OnOk};
 ghost use Rattle.std.specs.List.{All, filter};
 ghost use Rattle.lp_model.specs.Sparse.{Ascends, has};
 ghost use Rattle.problem_model.specs.declared.part.Part.TheVariants as part;
 ghost use Rattle.problem_model.specs.Matrices.{live_only};
 ghost use Rattle.problem_model.specs.Parts.{contents_of};
-ghost use Rattle.problem_model.specs.Problems.{column_at, column_entries, row_at, row_entries};
+ghost use Rattle.problem_model.specs.Problems.{bounds_at, column_at, column_entries, row_at, row_entries};
 ghost use Rattle.rule_words.specs.Answers.{Changes};
 ghost use Rattle.rule_words.specs.Reading.{terms_in};
 ghost use Rattle.dual_laws.specs.DominatedColumn.{enabled, edits, pairs_of, record_of, rows_of_both, Computes};
 ghost use Rattle.dual_rules.specs.Merging.{all_admit};
-ghost use Rattle.dual_rules.specs.Pairs.{IsStanding, Tells, are_live, dominates, entries_of, is_better, is_short, may_stay, pair_if, pairs_among, pairs_beside};
+ghost use Rattle.dual_rules.specs.Pairs.{IsStanding, Tells, are_live, dominates, entries_of, is_better, is_endless, is_short, may_stay, pair_if, pairs_among, pairs_beside};
 
 use crate::both_columns::{add_sides_besides, add_sides_of, rows_admit, takes_over};
 use crate::directions::{entries, entries_if_live};
@@ -304,8 +304,27 @@ fn is_short(problem: &Problem, row: u32) -> bool
     problem.is_row_live(row) && problem.live_row_entries(row) <= MOST_ENTRIES
 }
 
+/// Whether a column is live and has no upper bound.
+fn is_endless(problem: &Problem, column: u32) -> bool
+    ensures { result ≡ is_endless problem.now column }
+{
+    problem.is_column_live(column) && problem.bounds(column).upper.is_none()
+}
+
+/// Whether one of the live columns that terms name has no upper bound.
+fn some_endless(problem: &Problem, terms: &[Term]) -> bool
+    ensures { result ≡ false → All (λ t. is_none (bounds_at problem.now t.id).upper ≡ false) (live_only problem.now.matrix.columns terms.now) }
+{
+    for term in terms {
+        if is_endless(problem, term.id) {
+            return true;
+        }
+    }
+    false
+}
+
 /// All pairs of columns of a row of which the first can stand in for the second, in the order of the row's entries. None are looked at in
-/// a row of more than 64 entries.
+/// a row of more than 64 entries, or where each column has an upper bound.
 ///
 /// # Errors
 /// Memory ran out.
@@ -314,6 +333,9 @@ pub fn pairs_at(alloc: Global, problem: &Problem, row: u32) -> Result<Vec<(u32, 
 {
     let mut found = Vec::new(alloc);
     if !is_short(problem, row) {
+        return Ok(found);
+    }
+    if !some_endless(problem, entries_of_row(problem, row)) {
         return Ok(found);
     }
     problem.is_sparse();

@@ -1,13 +1,15 @@
-use Rattle.std.proofs.Common.{◌≡◌, ◌∙◌, ℕ, List, get_or, sym, ap, subst, true}
+use Rattle.std.proofs.Common.{◌≡◌, ◌∙◌, ℕ, List, [], get_or, refl, sym, ap, subst, true, false}
+use Rattle.std.specs.Prelude.{is_none}
 use Rattle.std.specs.List.{All}
 use Rattle.lp_model.specs.declared.terms.Term.{Term}
 use Rattle.problem_model.specs.declared.line.Sides.{Sides}
-use Rattle.problem_model.specs.Problems.{column_at, row_entries}
+use Rattle.problem_model.specs.Problems.{bounds_at, column_at, row_entries}
+use Rattle.problem_model.specs.Matrices.{live_only}
 use Rattle.problem_model.specs.Sparse.{Sparse}
 use Rattle.problem_laws.proofs.Entries.{row_entries-live}
 use Rattle.dual_rules.specs.declared.dominated_column.Standing.{Standing}
 use Rattle.dual_rules.specs.Pairs.{Tells, entries_of}
-use Rattle.dual_rules.proofs.Pairs.{all_tell, none_at, of_entries, pairs_found}
+use Rattle.dual_rules.proofs.Pairs.{all_tell, none_among, none_at, of_entries, pairs_found}
 use Rattle.dual_rules.proofs.dominated_column.pairs_at.Goals as goal
 
 pub returns-then-not-is_short : goal.returns-then-not-is_short
@@ -33,3 +35,10 @@ returns c =
     ap entries_of c.as_slice-2.ensures.value ∙ c.in_ok-columns.ensures.entries ∙ c.as_slice.ensures ∙ c.in_ok-terms.ensures in
     pairs_found c.args.problem.now c.args.row (entries_of c.as_slice-2.result.now) c.new-found.result.items c.add_pairs.new.pairs.items (sym c.is_short.ensures ∙ c.if-not-is_short.false)
     same c.new-found.ensures.items c.in_ok-add_pairs.ensures
+
+pub returns-then-not-some_endless : goal.returns-then-not-some_endless
+returns-then-not-some_endless c =
+    let p : Sparse = c.args.problem.now in
+    let ended : All (λ (t : Term). is_none (bounds_at p t.id).upper ≡ false) (row_entries p c.args.row) =
+    subst (λ (ts : List Term). All (λ (t : Term). is_none (bounds_at p t.id).upper ≡ false) (live_only p.matrix.columns ts)) c.entries_of_row.ensures (c.some_endless.ensures c.if-not-some_endless.true) in
+    c.new-found.ensures.items ∙ pairs_found p c.args.row (row_entries p c.args.row) [] [] (sym c.is_short.ensures ∙ c.if-not-is_short.false) refl refl (sym (none_among p (row_entries p c.args.row) (row_entries p c.args.row) ended))
