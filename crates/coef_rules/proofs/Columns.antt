@@ -1,20 +1,23 @@
 -- Columns of a row at which its coefficient is tightened.
-use Rattle.std.proofs.Common.{◌≡◌, ◌≢◌, ℕ, zero, suc, ◌<◌, ◌≤◌, arith, Bool, true, false, ◌&&◌, cond, List, [], ◌∷◌, ◌++◌, length, map, append-nil, Option, Some, None, is_some, refl, sym, ap, ◌∙◌}
+use Rattle.std.proofs.Common.{◌≡◌, ◌≢◌, ℕ, zero, suc, ◌<◌, ◌≤◌, nat_eq, arith, Bool, true, false, true≢false, ◌&&◌, ◌||◌, Result, cond, List, [], ◌∷◌, ◌++◌, length, map, append-nil, Option, Some, None, is_some, refl, sym, ap, ◌∙◌}
 use Rattle.std.specs.Prelude.{if◌then◌else◌}
 use Rattle.std.specs.List.{filter}
 use Rattle.std.proofs.lemmas.Bool.{eq-eqb, ne_eqb}
 use Rattle.rational.specs.Number.{Number}
 use Rattle.lp_model.specs.declared.terms.Term.{Term}
 use Rattle.undo_records.specs.declared.side.Side.{Side}
-use Rattle.problem_model.specs.Problems.{row_entries, sides_at}
+use Rattle.fractions.specs.declared.Past.{Past}
+use Rattle.problem_model.specs.Matrices.{live_only}
+use Rattle.problem_model.specs.Problems.{bounds_at, column_at, row_at, row_entries, sides_at}
 use Rattle.problem_model.specs.Sparse.{Sparse}
 use Rattle.row_spans.specs.declared.span.Span.{Span}
 use Rattle.row_spans.specs.RowSums.{rest}
 use Rattle.row_spans.specs.Spans.{AreSpans, span_at, span_of, spans_of}
 use Rattle.activity_laws.specs.TightenedBound.{entry_at}
 use Rattle.activity_rules.specs.Looks.{is_uncrossed}
-use Rattle.coef_laws.specs.TightenedCoefficient.{enabled, extreme_of, given, one_side, tightened_at, tightened_in, tightening_of}
-use Rattle.coef_rules.specs.Columns.{ids_among}
+use Rattle.coef_laws.specs.TightenedCoefficient.{enabled, extreme_of, given, if_finite, one_side, tightened_at, tightened_by, tightened_in, tightening_of, turned, whole_bounds}
+use Rattle.coef_laws.specs.declared.tightening.Tightening.{Tightening}
+use Rattle.coef_rules.specs.Columns.{any_whole, ids_among, is_whole_column}
 use Rattle.coef_rules.proofs.Looks.{enabled_is}
 
 -- ---- the entry at a place
@@ -46,6 +49,36 @@ and_none : (b : Bool) → (b && false) ≡ false
 and_none true = refl
 and_none false = refl
 
+-- a column that isn't whole has no whole bounds
+no_bounds : (l u : Option Number) (w : Bool) → w ≡ false → whole_bounds l u w ≡ None
+no_bounds l u true e = absurd (true≢false e)
+no_bounds None u false e = refl
+no_bounds (Some l) None false e = refl
+no_bounds (Some l) (Some u) false e = refl
+
+both_parts : (a b : Bool) → (a || b) ≡ false → (a ≡ false) × (b ≡ false)
+both_parts true b e = absurd (true≢false e)
+both_parts false b e = (refl, e)
+
+-- where no column is whole no coefficient is tightened
+module _ (p : Sparse) (f : Side) (b : Number) (j : ℕ) (r : Result (Option Number) Past) where
+  not_here : (s : Span) → s.whole ≡ false → tightened_at f b s r ≡ None
+  not_here s e = ap (λ (o : Option (Number × Number)). given o (λ bounds. given (if_finite r) (λ h. tightened_by f (turned f s.value) (turned f b) (turned f h) bounds.0 bounds.1))) (no_bounds s.lower s.upper s.whole e)
+
+  none_tightened : (ts : List Term) → any_whole p ts ≡ false → given (entry_at j (map (span_of p) (live_only p.matrix.columns ts))) (λ s. tightened_at f b s r) ≡ None
+  none_tightened [] e = refl
+  none_tightened (t ∷ ts) e = by (column_at p t.id).live (both_parts (is_whole_column p t.id) (any_whole p ts) e).0 (none_tightened ts (both_parts (is_whole_column p t.id) (any_whole p ts) e).1)
+    where
+      by : (l : Bool) → (l && (bounds_at p t.id).whole) ≡ false → given (entry_at j (map (span_of p) (live_only p.matrix.columns ts))) (λ s. tightened_at f b s r) ≡ None
+          → given (entry_at j (map (span_of p) (cond l (t ∷ live_only p.matrix.columns ts) (live_only p.matrix.columns ts)))) (λ s. tightened_at f b s r) ≡ None
+      by false w ih = ih
+      by true w ih = here (nat_eq t.id j) w ih
+        where
+          here : (c : Bool) → (bounds_at p t.id).whole ≡ false → given (entry_at j (map (span_of p) (live_only p.matrix.columns ts))) (λ s. tightened_at f b s r) ≡ None
+              → given (if c then Some (span_of p t) else entry_at j (map (span_of p) (live_only p.matrix.columns ts))) (λ s. tightened_at f b s r) ≡ None
+          here true w ih = not_here (span_of p t) w
+          here false w ih = ih
+
 module _ (p : Sparse) (i : ℕ) where
   abbrev ids : List ℕ
   ids = map (λ t. t.id) (row_entries p i)
@@ -56,6 +89,14 @@ module _ (p : Sparse) (i : ℕ) where
   pub none_without_side : (x : List ℕ) → one_side (sides_at p i).lower (sides_at p i).upper ≡ None → x ≡ x ++ filter (λ j. enabled p i j) ids
   none_without_side x e = none_more (λ j. enabled p i j) x ids
       (λ j. enabled_is p i j ∙ ap (λ (o : Option (Side × Number)). is_uncrossed p i && is_some (given o (λ side. tightened_in side.0 side.1 j (spans_of p i)))) e ∙ and_none (is_uncrossed p i))
+
+  pub none_without_whole : (x : List ℕ) → any_whole p (row_at p i).entries ≡ false → x ≡ x ++ filter (λ j. enabled p i j) ids
+  none_without_whole x e = none_more (λ j. enabled p i j) x ids
+      (λ j. enabled_is p i j ∙ ap (λ (o : Option Tightening). is_uncrossed p i && is_some o) (not_by_side j (one_side (sides_at p i).lower (sides_at p i).upper)) ∙ and_none (is_uncrossed p i))
+    where
+      not_by_side : (j : ℕ) (o : Option (Side × Number)) → given o (λ side. tightened_in side.0 side.1 j (spans_of p i)) ≡ None
+      not_by_side j None = refl
+      not_by_side j (Some side) = none_tightened p side.0 side.1 j (rest (extreme_of side.0) j (spans_of p i)) (row_at p i).entries e
 
   -- an entry and its span are in one column
   same_ids : (ts : List Term) → map (λ (s : Span). s.id) (map (span_of p) ts) ≡ map (λ (t : Term). t.id) ts

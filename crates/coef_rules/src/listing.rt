@@ -2,16 +2,17 @@
 
 ghost use Rattle.std.specs.Prelude.{◌≡◌, ◌<◌, ◌++◌, ◌∷◌, [], length, map, OnOk};
 ghost use Rattle.std.specs.List.{filter};
-ghost use Rattle.problem_model.specs.Problems.{row_entries};
+ghost use Rattle.problem_model.specs.Problems.{row_at, row_entries};
 ghost use Rattle.row_spans.specs.Spans.{span_at};
 ghost use Rattle.coef_laws.specs.TightenedCoefficient.{enabled, tightened_in};
-ghost use Rattle.coef_rules.specs.Columns.{ids_among};
+ghost use Rattle.coef_rules.specs.Columns.{any_whole, ids_among, is_whole_column};
 
 use crate::values::{extreme_of, one_side, tightened_at, whole_bounds};
 use activities::RowSums;
 use activity_rules::rows::is_uncrossed;
 use coef_laws::Tightening;
 use fractions::frac::Frac;
+use lp_model::Term;
 use sparse_problem::Problem;
 use std::alloc::{AllocError, Global};
 use undo_records::Side;
@@ -62,7 +63,39 @@ fn add_columns(
     Ok(())
 }
 
-/// Adds the columns of a row whose coefficients there can be tightened, in the order of the row's entries. The row is summed once.
+/// Whether a column is live and whole.
+fn is_whole(problem: &Problem, column: u32) -> bool
+    ensures { result ≡ is_whole_column problem.now column }
+{
+    problem.is_column_live(column) && problem.bounds(column).whole
+}
+
+/// Whether one of the columns that terms name is.
+fn some_whole(problem: &Problem, terms: &[Term]) -> bool
+    ensures { result ≡ any_whole problem.now terms.now }
+{
+    let mut rest = terms;
+    while let [term, after @ ..] = rest {
+        if is_whole(problem, term.id) {
+            return true;
+        }
+        rest = after;
+    }
+    false
+}
+
+/// Whether one of the columns of a row is.
+fn has_whole(problem: &Problem, row: u32) -> bool
+    ensures { result ≡ any_whole problem.now (row_at problem.now row).entries }
+{
+    match problem.rows().get(row as usize) {
+        Some(line) => some_whole(problem, line.entries.as_slice()),
+        None => false,
+    }
+}
+
+/// Adds the columns of a row whose coefficients there can be tightened, in the order of the row's entries. The row is summed once, and not
+/// at all where none of its columns is whole.
 ///
 /// # Errors
 /// Memory ran out.
@@ -80,6 +113,9 @@ pub fn add_tightened(
     let Some(only) = one_side(&problem.sides(row)) else {
         return Ok(());
     };
+    if !has_whole(problem, row) {
+        return Ok(());
+    }
     let sums = RowSums::of_row(alloc, problem, row)?;
     add_columns(&sums, only.0, &only.1, found)?;
     Ok(())

@@ -8,9 +8,11 @@ ghost use Rattle.problem_model.specs.Parts.{contents_of};
 ghost use Rattle.problem_model.specs.Problems.{column_at, column_entries, cost_at, row_at, sides_at};
 ghost use Rattle.problem_model.specs.declared.edit.Edit.TheVariants as edit;
 ghost use Rattle.problem_model.specs.declared.part.Part.TheVariants as part;
+ghost use Rattle.undo_records.specs.declared.side.Side.TheVariants as side_of_bound;
 ghost use Rattle.undo_records.specs.declared.undo.Undo.TheVariants as undone;
 ghost use Rattle.rule_words.specs.Answers.{Changes};
 ghost use Rattle.row_spans.specs.Spans.{span_of, spans_of};
+ghost use Rattle.activity_laws.specs.Rows.{keeps_lower as lower_is_kept, keeps_upper as upper_is_kept};
 ghost use Rattle.activity_laws.specs.TightenedBound.{entry_at, implied as implied_by};
 ghost use Rattle.column_laws.specs.SoleEntry.{entry_of, is_sole_at as is_sole_there};
 ghost use Rattle.column_laws.specs.FreeColumn.{edits, enabled, is_free as is_free_by, is_free_column as is_free_column_by, is_implied as is_implied_by, record_of, side_for as side_by, value_of as value_by, Computes};
@@ -101,6 +103,50 @@ fn implied_at(
     left_over(entry, &end, rest_of(problem, row, column, extreme))
 }
 
+/// Whether a lower bound of a column with this entry is implied where the value of its row is this. An infinite one is in any case.
+fn implies_lower(
+    problem: &Problem,
+    column: u32,
+    row: u32,
+    entry: &Frac,
+    value: &Frac,
+    lower: &Ext,
+) -> bool
+    requires row { (row_at problem.now row).live ≡ true }
+    requires some { entry.now ≢ zero_ℚ }
+    ensures { result ≡ lower_is_kept lower.now (implied_by side_of_bound.Lower column entry.now (Some value.now) (Some value.now) (spans_of problem.now row)) }
+{
+    match lower.number() {
+        None => true,
+        Some(_) => {
+            let implied = implied_at(problem, column, row, Side::Lower, entry, value);
+            keeps_lower(lower, &implied)
+        }
+    }
+}
+
+/// The same of an upper bound.
+fn implies_upper(
+    problem: &Problem,
+    column: u32,
+    row: u32,
+    entry: &Frac,
+    value: &Frac,
+    upper: &Ext,
+) -> bool
+    requires row { (row_at problem.now row).live ≡ true }
+    requires some { entry.now ≢ zero_ℚ }
+    ensures { result ≡ upper_is_kept upper.now (implied_by side_of_bound.Upper column entry.now (Some value.now) (Some value.now) (spans_of problem.now row)) }
+{
+    match upper.number() {
+        None => true,
+        Some(_) => {
+            let implied = implied_at(problem, column, row, Side::Upper, entry, value);
+            keeps_upper(upper, &implied)
+        }
+    }
+}
+
 /// Whether the bounds of a column are implied where the value of its row is this.
 fn is_implied(problem: &Problem, column: u32, row: u32, value: &Frac) -> bool
     requires row { (row_at problem.now row).live ≡ true }
@@ -110,9 +156,8 @@ fn is_implied(problem: &Problem, column: u32, row: u32, value: &Frac) -> bool
 {
     let bounds = problem.bounds(column);
     let entry = value_at(problem, column, row);
-    let lower = implied_at(problem, column, row, Side::Lower, &entry, value);
-    let upper = implied_at(problem, column, row, Side::Upper, &entry, value);
-    keeps_lower(&bounds.lower, &lower) && keeps_upper(&bounds.upper, &upper)
+    implies_lower(problem, column, row, &entry, value, &bounds.lower)
+        && implies_upper(problem, column, row, &entry, value, &bounds.upper)
 }
 
 /// Whether a column is continuous, and its bounds are implied at the cheapest side.

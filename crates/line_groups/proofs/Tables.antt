@@ -21,7 +21,7 @@ use Rattle.problem_laws.proofs.AtIds.{live_inside}
 use Rattle.line_groups.specs.declared.groups.Kind.{Kind}
 use Rattle.line_groups.specs.declared.groups.Kind.TheVariants.{Rows, Columns}
 use Rattle.line_groups.specs.Ascending.{AscendsFrom}
-use Rattle.line_groups.specs.Groups.{Grouped, IsTable, StandsUnder, group_at, ids_in, number_at}
+use Rattle.line_groups.specs.Groups.{Grouped, IsTable, StandsUnder, alone, group_at, ids_in, if_more, lone_at, many_at, number_at}
 use Rattle.line_groups.specs.Steps.{Adds, AreOf, HasGroup, Puts, Renews, RenewsLines, count_in, key_by, lines_in, part_of}
 use Rattle.line_groups.specs.Keys.{key_in}
 use Rattle.line_groups.proofs.Positions.{place_last, place_left}
@@ -195,25 +195,34 @@ flat_at f [] x y k l e d = absurd (omega (arith, l))
 flat_at f (z ∷ xs) x y zero l e d = Contains-append_left (f z) (flat_map f xs) y (subst (λ w. Contains (f w) y) (sym e) d)
 flat_at f (z ∷ xs) x y (suc k) l e d = Contains-append_right (f z) (flat_map f xs) y (flat_at f xs x y k (omega (arith, l)) e d)
 
-mapped : (f : ℕ → ℕ) (xs : List ℕ) (x k : ℕ) → k < length xs → get_or xs k x ≡ x → Contains (map f xs) (f x)
-mapped f [] x k l e = absurd (omega (arith, l))
-mapped f (z ∷ xs) x zero l e = (0, omega arith, ap f e)
-mapped f (z ∷ xs) x (suc k) l e = let (i, m, d) = mapped f xs x k (omega (arith, l)) e in (suc i, omega (arith, m), d)
+pub kept_beside : (g : Grouped) (lines read old mid new : List ℕ) → mid ≡ old ++ flat_map (lone_at g) lines → new ≡ mid ++ flat_map (ids_in g) read → (k : ℕ) → Contains old k → Contains new k
+kept_beside g lines read old mid new e f k c =
+    subst (λ (xs : List ℕ). Contains xs k) (sym f) (Contains-append_left mid (flat_map (ids_in g) read) k (subst (λ (xs : List ℕ). Contains xs k) (sym e) (Contains-append_left old (flat_map (lone_at g) lines) k c)))
 
-pub ids_beside : (g : Grouped) (lines numbers once read old new : List ℕ) → numbers ≡ map (number_at g) lines → ((n : ℕ) → Contains numbers n → Contains once n) → read ≡ once
-    → new ≡ old ++ flat_map (ids_in g) read → (k m : ℕ) → Contains lines k → Contains (group_at g k) m → Contains new m
-ids_beside g lines numbers once read old new e keeps r is k m c d =
-    let at : Contains read (number_at g k) = subst (λ (xs : List ℕ). Contains xs (number_at g k)) (sym r) (keeps (number_at g k) (subst (λ (xs : List ℕ). Contains xs (number_at g k)) (sym e) (mapped (number_at g) lines k c.0 c.1 c.2))) in
-    subst (λ (xs : List ℕ). Contains xs m) (sym is) (Contains-append_right old (flat_map (ids_in g) read) m (flat_at (ids_in g) read (number_at g k) m at.0 at.1 at.2 d))
+-- an id of a group is alone there, or the group has more
+one_or_more : (is : List ℕ) (n m : ℕ) → Contains is m → Contains (alone is) m ⊎ Contains (if_more is n) n
+one_or_more [] n m (k, l, e) = absurd (omega (arith, l))
+one_or_more (i ∷ []) n m c = inl c
+one_or_more (i ∷ j ∷ is) n m c = inr (0, omega arith, refl)
+
+pub ids_beside : (g : Grouped) (lines numbers once read old mid new : List ℕ) → mid ≡ old ++ flat_map (lone_at g) lines → numbers ≡ flat_map (many_at g) lines → ((n : ℕ) → Contains numbers n → Contains once n) → read ≡ once
+    → new ≡ mid ++ flat_map (ids_in g) read → (k m : ℕ) → Contains lines k → Contains (group_at g k) m → Contains new m
+ids_beside g lines numbers once read old mid new f e keeps r is k m c d = subst (λ (xs : List ℕ). Contains xs m) (sym is) (by (one_or_more (group_at g k) (number_at g k) m d))
+  where
+    by : Contains (lone_at g k) m ⊎ Contains (many_at g k) (number_at g k) → Contains (mid ++ flat_map (ids_in g) read) m
+    by (inl h) = Contains-append_left mid (flat_map (ids_in g) read) m (subst (λ (xs : List ℕ). Contains xs m) (sym f) (Contains-append_right old (flat_map (lone_at g) lines) m (flat_at (lone_at g) lines k m c.0 c.1 c.2 h)))
+    by (inr h) =
+        let at : Contains read (number_at g k) = subst (λ (xs : List ℕ). Contains xs (number_at g k)) (sym r) (keeps (number_at g k) (subst (λ (xs : List ℕ). Contains xs (number_at g k)) (sym e) (flat_at (many_at g) lines k (number_at g k) c.0 c.1 c.2 h))) in
+        Contains-append_right mid (flat_map (ids_in g) read) m (flat_at (ids_in g) read (number_at g k) m at.0 at.1 at.2 d)
 
 pub kept_once : (a b c : List ℕ) → IsPermutation a b → IsFiltered (DiffersFromLast eqb) [] b c → (k : ℕ) → Contains a k → Contains c k
 kept_once a b c p f k h = subst (λ (ks : List ℕ). Contains ks k) (sym (dedup_is eqb b c f)) (Contains-dedup_nat b k (Contains-permutation a b k p h))
 
 -- the lines of parts are among those that are kept once
-pub lines_kept : (kind : Kind) (parts : List Part) (lines sorted once : List ℕ) → lines ≡ flat_map (lines_in kind) parts → IsPermutation lines sorted → IsFiltered (DiffersFromLast eqb) [] sorted once
+pub lines_kept : (kind : Kind) (parts : List Part) (lines once : List ℕ) → lines ≡ flat_map (lines_in kind) parts → ((k : ℕ) → Contains lines k → Contains once k)
     → (k : ℕ) → Contains parts (part_of kind k) → Contains once k
-lines_kept kind parts lines sorted once e p f k c =
-    kept_once lines sorted once p f k (subst (λ (ks : List ℕ). Contains ks k) (sym e) (flat_at (lines_in kind) parts (part_of kind k) k c.0 c.1 c.2 (own kind)))
+lines_kept kind parts lines once e f k c =
+    f k (subst (λ (ks : List ℕ). Contains ks k) (sym e) (flat_at (lines_in kind) parts (part_of kind k) k c.0 c.1 c.2 (own kind)))
   where
     own : (h : Kind) → Contains (lines_in h (part_of h k)) k
     own Rows = (0, omega arith, refl)

@@ -1,5 +1,5 @@
 -- Rows and columns in groups.
-use Rattle.std.specs.Prelude.{◌≡◌, ℕ, List, [], length, nat_eq, position, slice_index_or, Option, Some}
+use Rattle.std.specs.Prelude.{◌≡◌, ℕ, List, [], ◌∷◌, length, nat_eq, position, slice_index_or, Option, Some}
 use Rattle.std.specs.List.{Contains}
 use Rattle.problem_model.specs.declared.part.Part.TheVariants as part
 use Rattle.problem_model.specs.Sparse.{Sparse}
@@ -21,6 +21,23 @@ number_at g i = slice_index_or g.numbers i 0
 -- the group of a line
 abbrev pub group_at : Grouped → ℕ → List ℕ
 group_at g i = ids_in g (number_at g i)
+
+-- the id in the group of a line, if it is alone there; the number of the group, if there are more
+abbrev pub alone : List ℕ → List ℕ
+alone [] = []
+alone (i ∷ []) = i ∷ []
+alone (i ∷ k ∷ is) = []
+
+abbrev pub if_more : List ℕ → ℕ → List ℕ
+if_more [] n = []
+if_more (i ∷ []) n = []
+if_more (i ∷ k ∷ is) n = n ∷ []
+
+abbrev pub lone_at : Grouped → ℕ → List ℕ
+lone_at g i = alone (group_at g i)
+
+abbrev pub many_at : Grouped → ℕ → List ℕ
+many_at g i = if_more (group_at g i) (number_at g i)
 
 -- line i stands in the group that has this key
 pub record StandsUnder (g : Grouped) (key i : ℕ) : Type 0 where

@@ -8,6 +8,7 @@ use crate::ids::Ids;
 use crate::keys::key_of_part;
 use indexmap::IndexSet;
 use problem_model::Part;
+use sorted_ids::sort_once;
 use sparse_problem::Problem;
 use std::alloc::{AllocError, Global};
 use std::marker::Model;
@@ -72,8 +73,7 @@ impl Kind {
         ensures { IfOk result (λ lines. (k : ℕ) → Contains parts.now (part_of self k) → Contains lines.items k) }
     {
         let mut lines = self.all_lines_of(alloc, parts)?;
-        lines.sort_unstable();
-        lines.dedup();
+        sort_once(&mut lines)?;
         Ok(lines)
     }
 
@@ -125,12 +125,12 @@ impl Model for Groups {
 }
 
 impl Groups {
-    ghost use Rattle.std.specs.Prelude.{◌≡◌, ◌⊎◌, ◌<◌, ◌++◌, ◌∷◌, [], ℕ, nat_eq, map, position, Some, IfOk, OnOk};
+    ghost use Rattle.std.specs.Prelude.{◌≡◌, ◌⊎◌, ◌<◌, ◌++◌, ◌∷◌, [], ℕ, nat_eq, position, Some, IfOk, OnOk};
     ghost use Rattle.std.specs.List.{Contains, flat_map};
     ghost use Rattle.problem_model.specs.declared.part.Part.{Part as APart};
     ghost use Rattle.problem_model.specs.Parts.{contents_of};
     ghost use Rattle.problem_model.specs.Sparse.{Sparse};
-    ghost use Rattle.line_groups.specs.Groups.{group_at, ids_in, number_at, IsTable};
+    ghost use Rattle.line_groups.specs.Groups.{group_at, ids_in, lone_at, many_at, number_at, IsTable};
     ghost use Rattle.line_groups.specs.Steps.{count_in, key_by, Adds, AreOf, HasGroup, Renews, RenewsLines};
 
     /// No groups, for so many lines.
@@ -271,14 +271,39 @@ impl Groups {
         self.ids_in(self.number_at(id))
     }
 
-    /// The numbers of the groups of lines.
-    fn numbers_of(&self, alloc: Global, lines: &[u32]) -> Result<Vec<usize>, AllocError>
-        ensures { IfOk result (λ numbers. numbers.items ≡ map (number_at self.now) lines.now) }
+    /// Adds the id in the group of a line where it is alone, or the number of the group where there are more.
+    fn add_lone(
+        &self,
+        line: u32,
+        ids: &mut Vec<u32>,
+        numbers: &mut Vec<usize>,
+    ) -> Result<(), AllocError>
+        ensures ids { OnOk result (ids.new.items ≡ ids.old.items ++ lone_at self.now line) }
+        ensures numbers { OnOk result (numbers.new.items ≡ numbers.old.items ++ many_at self.now line) }
     {
-        let mut numbers = Vec::with_capacity(alloc, lines.len())?;
+        let number = self.number_at(line);
+        match self.ids_in(number) {
+            [] => {}
+            [only] => ids.push(*only)?,
+            _ => numbers.push(number)?,
+        }
+        Ok(())
+    }
+
+    /// Adds the id in the group of each of these lines where it is alone, and finds the numbers of the other groups.
+    fn add_all_lone(
+        &self,
+        alloc: Global,
+        lines: &[u32],
+        ids: &mut Vec<u32>,
+    ) -> Result<Vec<usize>, AllocError>
+        ensures ids { OnOk result (ids.new.items ≡ ids.old.items ++ flat_map (lone_at self.now) lines.now) }
+        ensures numbers { IfOk result (λ numbers. numbers.items ≡ flat_map (many_at self.now) lines.now) }
+    {
+        let mut numbers = Vec::new(alloc);
         let mut rest = lines;
         while let [line, after @ ..] = rest {
-            numbers.push(self.number_at(*line))?;
+            self.add_lone(*line, ids, &mut numbers)?;
             rest = after;
         }
         Ok(numbers)
@@ -306,7 +331,7 @@ impl Groups {
         ensures kept { OnOk result ((k : ℕ) → Contains ids.old.items k → Contains ids.new.items k) }
         ensures holds { OnOk result ((k m : ℕ) → Contains lines.now k → Contains (group_at self.now k) m → Contains ids.new.items m) }
     {
-        let mut numbers = self.numbers_of(alloc, lines)?;
+        let mut numbers = self.add_all_lone(alloc, lines, ids)?;
         keep_once(&mut numbers);
         self.add_groups(numbers.as_slice(), ids)
     }

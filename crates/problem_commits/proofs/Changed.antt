@@ -1,5 +1,5 @@
 -- Whether a part holds something else, and what is there.
-use Rattle.std.proofs.Common.{◌≡◌, ◌↔◌, ℕ, ◌+◌, ◌<◌, ◌∷◌, drop, get_or, Bool, true, false, not, List, length, Option, Some, refl, sym, ap, ◌∙◌, subst}
+use Rattle.std.proofs.Common.{◌≡◌, ◌↔◌, ℕ, ◌+◌, ◌<◌, ◌∷◌, drop, get_or, Bool, true, false, not, List, length, refl, sym, ap, ◌∙◌, subst}
 use Rattle.std.specs.Prelude.{IsTrue, if◌then◌else◌}
 use Rattle.std.specs.List.{All}
 use Rattle.std.proofs.lemmas.List.{at_drop_more}
@@ -11,12 +11,14 @@ use Rattle.problem_model.specs.Sparse.{Sparse}
 use Rattle.problem_laws.proofs.Numbering.{length-each_at}
 use Rattle.edit_laws.proofs.SameContents.{is-same_contents, other-same_contents}
 use Rattle.problem_data.specs.Renumbered.{number_put, changes_put, IsThere}
+use Rattle.problem_commits.specs.declared.notes.Held.{Held}
+use Rattle.problem_commits.specs.declared.notes.Held.TheVariants as held
 use Rattle.problem_commits.specs.declared.notes.Note.{Note}
 use Rattle.problem_commits.specs.Noting.{is_other, has_changed, raised_note, all_raised}
 
-pub other_tested : (b : Bool) (held : Option Contents) (c d : Contents) → held ≡ Some c → (IsTrue b ↔ (d ≡ c)) → not b ≡ is_other held d
-other_tested true held c d e t = sym (ap (λ (h : Option Contents). is_other h d) e ∙ ap not (is-same_contents c d (sym (t.0 refl))))
-other_tested false held c d e t = sym (ap (λ (h : Option Contents). is_other h d) e ∙ ap not (other-same_contents c d (λ f. let g = t.1 (sym f) in cc)))
+pub other_tested : (b : Bool) (kept : Held) (c d : Contents) → kept ≡ held.Whole c → (IsTrue b ↔ (d ≡ c)) → not b ≡ is_other kept d
+other_tested true kept c d e t = sym (ap (λ (h : Held). is_other h d) e ∙ ap not (is-same_contents c d (sym (t.0 refl))))
+other_tested false kept c d e t = sym (ap (λ (h : Held). is_other h d) e ∙ ap not (other-same_contents c d (λ f. let g = t.1 (sym f) in cc)))
 
 -- new numbers leave each part in its place
 there_numbered : (p : Sparse) (number : Part → ℕ) (a : Part) → IsThere p a → IsThere (numbered p number) a

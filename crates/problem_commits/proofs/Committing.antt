@@ -1,5 +1,5 @@
 -- Numbers that are raised by notes are those of the commit.
-use Rattle.std.proofs.Common.{◌≡◌, ◌≢◌, ℕ, Bool, true, false, not, ◌||◌, List, [], ◌∷◌, refl, sym, ap, ◌∙◌, arith, ◌⊎◌, inl, inr}
+use Rattle.std.proofs.Common.{◌≡◌, ◌≢◌, ℕ, Bool, true, false, not, ◌||◌, ◌&&◌, List, [], ◌∷◌, refl, sym, ap, ◌∙◌, arith, ◌⊎◌, inl, inr}
 use Rattle.std.specs.Prelude.{if◌then◌else◌}
 use Rattle.std.specs.List.{All}
 use Rattle.std.proofs.lemmas.List.Elements.{All-head, All-tail}
@@ -24,7 +24,7 @@ use Rattle.problem_data.specs.Renumbered.{same_part, number_put, changes_put, Is
 use Rattle.problem_data.proofs.Renumbering.{numbered_self}
 use Rattle.problem_commits.specs.declared.notes.Note.{Note}
 use Rattle.problem_commits.specs.Noting.{asked, certain, all_noted, is_other, has_changed, raised_note, all_raised}
-use Rattle.problem_commits.proofs.Noted.{names, same_part-is, IsTrueNote, notes_true, unnoted_stay}
+use Rattle.problem_commits.proofs.Noted.{IsCostNote, IsTrueNote, notes_true, other_cost, same_part-is, told, untold_same}
 
 -- ---- numbers matter where there are parts
 numbered_ext : (q : Sparse) (f g : Part → ℕ) → ((a : Part) → IsThere q a → f a ≡ g a) → numbered q f ≡ numbered q g
@@ -61,31 +61,31 @@ put_numbered : (q : Sparse) (f : Part → ℕ) (b : Part) (n : ℕ) → changes_
 put_numbered q f b n = numbered_twice q f (number_put (numbered q f) b n)
     ∙ numbered_ext q (number_put (numbered q f) b n) (put_part f b n) (λ a l. ap (λ (m : ℕ). if same_part b a then n else m) (changes_there q f a l))
 
-turned : (b : Bool) (x y : ℕ) → (if b then x else y) ≡ (if not b then y else x)
-turned true x y = refl
-turned false x y = refl
+turned : (b : Bool) → not b ≡ true → b ≡ false
+turned true h = absurd (not_both h refl)
+turned false h = refl
 
 module _ (p q : Sparse) where
-  -- what a true note makes of its part's number
-  abbrev by_note : Note → Part → ℕ
-  by_note n a = if has_changed q n then risen n.changes else changes_of p a
+  -- a true note that says so is one of a part that holds something else, and keeps its number
+  note_other : (n : Note) → IsTrueNote p q n → has_changed q n ≡ true → same_contents (contents_of p n.part) (contents_of q n.part) ≡ false
+  note_other n t h = by t.note
+    where
+      by : (n ≡ asked p n.part) ⊎ (((n ≡ certain p n.part) × (contents_of q n.part ≢ contents_of p n.part)) ⊎ IsCostNote p n) → same_contents (contents_of p n.part) (contents_of q n.part) ≡ false
+      by (inl e) = turned _ (ap (λ (m : Note). is_other m.held (contents_of q n.part)) (sym e) ∙ h)
+      by (inr (inl e)) = other-same_contents (contents_of p n.part) (contents_of q n.part) (λ f. e.1 (sym f))
+      by (inr (inr c)) = other_cost p q n c h
 
-  asked_number : (a : Part) → changes_after p q a ≡ by_note (asked p a) a
-  asked_number a = turned (same_contents (contents_of p a) (contents_of q a)) (changes_of p a) (risen (changes_of p a))
-
-  certain_number : (a : Part) → contents_of q a ≢ contents_of p a → changes_after p q a ≡ by_note (certain p a) a
-  certain_number a n = ap (λ (b : Bool). if b then changes_of p a else risen (changes_of p a)) (other-same_contents (contents_of p a) (contents_of q a) (λ e. n (sym e)))
-
-  note_number : (n : Note) → IsTrueNote p q n → changes_after p q n.part ≡ by_note n n.part
+  note_number : (n : Note) → IsTrueNote p q n → n.changes ≡ changes_of p n.part
   note_number n t = by t.note
     where
-      by : (n ≡ asked p n.part) ⊎ ((n ≡ certain p n.part) × (contents_of q n.part ≢ contents_of p n.part)) → changes_after p q n.part ≡ by_note n n.part
-      by (inl e) = asked_number n.part ∙ ap (λ (m : Note). by_note m n.part) (sym e)
-      by (inr e) = certain_number n.part e.1 ∙ ap (λ (m : Note). by_note m n.part) (sym e.0)
+      by : (n ≡ asked p n.part) ⊎ (((n ≡ certain p n.part) × (contents_of q n.part ≢ contents_of p n.part)) ⊎ IsCostNote p n) → n.changes ≡ changes_of p n.part
+      by (inl e) = ap (λ (m : Note). m.changes) e
+      by (inr (inl e)) = ap (λ (m : Note). m.changes) e.0
+      by (inr (inr c)) = ap (λ (m : Note). m.changes) c.is ∙ ap (λ (m : Note). changes_of p m.part) (sym c.is)
 
-  -- a number is as it comes out, or as it was with a note to come
+  -- a number is as it comes out, or as it was with a note to come that raises it
   abbrev IsSettled : (Part → ℕ) → List Note → Part → Type 0
-  IsSettled f ns a = (f a ≡ changes_after p q a) ⊎ ((names ns a ≡ true) × (f a ≡ changes_of p a))
+  IsSettled f ns a = (f a ≡ changes_after p q a) ⊎ ((told p q ns a ≡ true) × (f a ≡ changes_of p a))
 
   abbrev next : (Part → ℕ) → Note → Part → ℕ
   next f n = if has_changed q n then put_part f n.part (risen n.changes) else f
@@ -97,16 +97,17 @@ module _ (p q : Sparse) where
       by true = put_numbered q f n.part (risen n.changes)
       by false = refl
 
-  settled_here : (f : Part → ℕ) (n : Note) (ns : List Note) → IsTrueNote p q n → IsSettled f (n ∷ ns) n.part → (a : Part) → same_part n.part a ≡ true → a ≡ n.part → next f n a ≡ changes_after p q a
-  settled_here f n ns t h a same e = by (has_changed q n) (note_number n t)
+  -- a note that says so raises the number of its part, and one that does not leaves it
+  settled_here : (f : Part → ℕ) (n : Note) (ns : List Note) (a : Part) → IsTrueNote p q n → same_part n.part a ≡ true → a ≡ n.part → IsSettled f (n ∷ ns) a → IsSettled (next f n) ns a
+  settled_here f n ns a t same e h = by (has_changed q n) refl h
     where
-      as_was : (f n.part ≡ changes_after p q n.part) ⊎ ((names (n ∷ ns) n.part ≡ true) × (f n.part ≡ changes_of p n.part)) → changes_after p q n.part ≡ changes_of p n.part → f n.part ≡ changes_after p q n.part
-      as_was (inl g) k = g
-      as_was (inr g) k = g.1 ∙ sym k
+      number : has_changed q n ≡ true → risen n.changes ≡ changes_after p q a
+      number on = ap risen (note_number n t) ∙ ap (λ (c : Bool). if c then changes_of p n.part else risen (changes_of p n.part)) (sym (note_other n t on)) ∙ ap (changes_after p q) (sym e)
 
-      by : (b : Bool) → changes_after p q n.part ≡ (if b then risen n.changes else changes_of p n.part) → (if b then put_part f n.part (risen n.changes) else f) a ≡ changes_after p q a
-      by true k = ap (λ (c : Bool). if c then risen n.changes else f a) same ∙ sym k ∙ ap (changes_after p q) (sym e)
-      by false k = ap f e ∙ as_was h k ∙ ap (changes_after p q) (sym e)
+      by : (b : Bool) → has_changed q n ≡ b → (f a ≡ changes_after p q a) ⊎ ((((same_part n.part a && b) || told p q ns a) ≡ true) × (f a ≡ changes_of p a)) → IsSettled (if b then put_part f n.part (risen n.changes) else f) ns a
+      by true on k = inl (ap (λ (c : Bool). if c then risen n.changes else f a) same ∙ number on)
+      by false off (inl k) = inl k
+      by false off (inr k) = inr (ap (λ (c : Bool). (c && false) || told p q ns a) (sym same) ∙ k.0, k.1)
 
   settled_there : (f : Part → ℕ) (n : Note) (ns : List Note) (a : Part) → same_part n.part a ≡ false → IsSettled f (n ∷ ns) a → IsSettled (next f n) ns a
   settled_there f n ns a other h = by h
@@ -115,15 +116,15 @@ module _ (p q : Sparse) where
       stays true = ap (λ (c : Bool). if c then risen n.changes else f a) other
       stays false = refl
 
-      by : (f a ≡ changes_after p q a) ⊎ ((names (n ∷ ns) a ≡ true) × (f a ≡ changes_of p a)) → IsSettled (next f n) ns a
+      by : (f a ≡ changes_after p q a) ⊎ ((told p q (n ∷ ns) a ≡ true) × (f a ≡ changes_of p a)) → IsSettled (next f n) ns a
       by (inl e) = inl (stays (has_changed q n) ∙ e)
-      by (inr e) = inr (ap (λ (c : Bool). c || names ns a) (sym other) ∙ e.0, stays (has_changed q n) ∙ e.1)
+      by (inr e) = inr (ap (λ (c : Bool). (c && has_changed q n) || told p q ns a) (sym other) ∙ e.0, stays (has_changed q n) ∙ e.1)
 
   settled_next : (f : Part → ℕ) (n : Note) (ns : List Note) → IsTrueNote p q n → ((a : Part) → IsSettled f (n ∷ ns) a) → (a : Part) → IsSettled (next f n) ns a
   settled_next f n ns t h a = by (same_part n.part a) refl
     where
       by : (b : Bool) → same_part n.part a ≡ b → IsSettled (next f n) ns a
-      by true e = inl (settled_here f n ns t (h n.part) a e (same_part-is n.part a e))
+      by true e = settled_here f n ns a t e (same_part-is n.part a e) (h a)
       by false e = settled_there f n ns a e (h a)
 
   raised_is : (ns : List Note) (f : Part → ℕ) → All (IsTrueNote p q) ns → ((a : Part) → IsSettled f ns a) → all_raised (numbered q f) ns ≡ raised p q
@@ -138,12 +139,12 @@ module _ (p q : Sparse) where
 -- ---- a commit
 module _ (p : Sparse) (es : List Edit) (s : IsSparse p) (h : AreAllowed p es) where
   started : (a : Part) → IsSettled p (applied p es) (changes_of (applied p es)) (all_noted p es) a
-  started a = by (names (all_noted p es) a) refl
+  started a = by (told p (applied p es) (all_noted p es) a) refl
     where
-      by : (b : Bool) → names (all_noted p es) a ≡ b → IsSettled p (applied p es) (changes_of (applied p es)) (all_noted p es) a
+      by : (b : Bool) → told p (applied p es) (all_noted p es) a ≡ b → IsSettled p (applied p es) (changes_of (applied p es)) (all_noted p es) a
       by true e = inr (e, changes_applied p es s h a)
       by false e = inl (changes_applied p es s h a
-          ∙ sym (ap (λ (b : Bool). if b then changes_of p a else risen (changes_of p a)) (is-same_contents (contents_of p a) (contents_of (applied p es) a) (sym (unnoted_stay p es a s h e)))))
+          ∙ sym (ap (λ (b : Bool). if b then changes_of p a else risen (changes_of p a)) (is-same_contents (contents_of p a) (contents_of (applied p es) a) (sym (untold_same p es a s h e)))))
 
   pub committed_is : all_raised (applied p es) (all_noted p es) ≡ committed p es
   committed_is = ap (λ (q : Sparse). all_raised q (all_noted p es)) (sym (numbered_self (applied p es))) ∙ raised_is p (applied p es) (all_noted p es) (changes_of (applied p es)) (notes_true p es s h) started

@@ -4,13 +4,25 @@ ghost use Rattle.std.specs.Prelude.{◌≡◌, ◌++◌, ◌∷◌, [], map, IfO
 ghost use Rattle.problem_model.specs.Matrices.{live_only};
 ghost use Rattle.problem_model.specs.declared.edit.Edit.TheVariants as edit;
 ghost use Rattle.problem_model.specs.declared.part.Part.TheVariants as part;
-ghost use Rattle.problem_commits.specs.Noting.{all_noted, asked, certain, column_noted, columns_noted, goes_on, noted, rows_noted};
+ghost use Rattle.problem_commits.specs.Noting.{all_noted, asked, certain, column_noted, columns_noted, cost_noted, goes_on, noted, rows_noted};
 
 use crate::parts::read_contents;
+use fractions::frac::Frac;
 use lp_model::Term;
 use problem_model::{Contents, Edit, Part};
 use sparse_problem::Problem;
 use std::alloc::{AllocError, Global};
+
+/// What is kept of a part that edits touch, to tell afterwards whether it changed.
+#[derive(Drop)]
+pub enum Held {
+    /// Nothing: it changes for certain.
+    Certain,
+    /// What it held.
+    Whole(Contents),
+    /// The cost of a column, where that is set. Edits that touch its entries have notes of their own.
+    Cost(Frac),
+}
 
 /// A part as it stood before edits.
 #[derive(Drop)]
@@ -18,8 +30,7 @@ pub struct Note {
     pub part: Part,
     /// How often it had changed.
     pub changes: u64,
-    /// What it held; none where the edits change that for certain.
-    pub held: Option<Contents>,
+    pub held: Held,
 }
 
 /// Notes a part that may change.
@@ -35,7 +46,7 @@ fn ask(
     notes.push(Note {
         part,
         changes: problem.changes(part),
-        held: Some(contents),
+        held: Held::Whole(contents),
     })?;
     Ok(())
 }
@@ -47,7 +58,22 @@ fn note_certain(notes: &mut Vec<Note>, problem: &Problem, part: Part) -> Result<
     notes.push(Note {
         part,
         changes: problem.changes(part),
-        held: None,
+        held: Held::Certain,
+    })?;
+    Ok(())
+}
+
+/// Notes the cost of a column, if it is there.
+fn note_cost(notes: &mut Vec<Note>, problem: &Problem, column: u32) -> Result<(), AllocError>
+    ensures { OnOk result (notes.new.items ≡ notes.old.items ++ cost_noted problem.now column) }
+{
+    if !problem.is_column_live(column) {
+        return Ok(());
+    }
+    notes.push(Note {
+        part: Part::Col(column),
+        changes: problem.changes(Part::Col(column)),
+        held: Held::Cost(problem.cost(column)),
     })?;
     Ok(())
 }
@@ -164,7 +190,7 @@ fn note_edit(
         Edit::SetSides { row, .. } => ask(notes, alloc, problem, Part::Sides(*row)),
         Edit::SetBounds { column, .. } => ask(notes, alloc, problem, Part::Bounds(*column)),
         Edit::AddOffset { .. } => Ok(()),
-        Edit::SetCost { column, .. } => ask(notes, alloc, problem, Part::Col(*column)),
+        Edit::SetCost { column, .. } => note_cost(notes, problem, *column),
         Edit::SetEntry { row, column, .. } => note_entry(
             notes, alloc, problem, *row, *column, after,
         ),

@@ -6,8 +6,8 @@ ghost use Rattle.problem_model.specs.Raised.{risen};
 ghost use Rattle.problem_data.specs.Renumbered.{IsThere};
 ghost use Rattle.problem_commits.specs.Noting.{all_raised, has_changed, raised_note};
 
-use crate::notes::Note;
-use crate::parts::holds;
+use crate::notes::{Held, Note};
+use crate::parts::{costs, holds};
 use problem_model::Part;
 use sparse_problem::Problem;
 
@@ -23,8 +23,9 @@ fn has_changed(problem: &Problem, note: &Note) -> bool
     ensures { result ≡ has_changed problem.now note.now }
 {
     match &note.held {
-        Some(contents) => !holds(problem, note.part, contents),
-        None => true,
+        Held::Certain => true,
+        Held::Whole(contents) => !holds(problem, note.part, contents),
+        Held::Cost(cost) => !costs(problem, note.part, cost),
     }
 }
 

@@ -1,10 +1,12 @@
 //! Rows and columns to be looked at.
 
-ghost use Rattle.std.specs.Prelude.{◌≡◌, IfOk};
+ghost use Rattle.std.specs.Prelude.{◌≡◌, ℕ, List, IfOk};
+ghost use Rattle.std.specs.List.{Contains};
+ghost use Rattle.problem_model.specs.declared.part.Part.{Part as PartValue};
 ghost use Rattle.presolve_model.specs.declared.instance.Reach.TheVariants as reach;
 ghost use Rattle.line_groups.specs.Ascending.{AscendsFrom};
 ghost use Rattle.line_groups.specs.Groups.{AreGroupsOf};
-ghost use Rattle.place_laws.specs.Choosing.{all_around, all_places, AreSorted, HoldsAround, HoldsLed, HoldsParts, ids_of as ids_there, IsSorted};
+ghost use Rattle.place_laws.specs.Choosing.{all_around, all_places, columns_with, rows_with, AreSorted, HoldsAround, HoldsLed, HoldsParts, ids_of as ids_there, IsSorted};
 ghost use Rattle.place_laws.specs.Marks.{Marks};
 
 use crate::ids::{add_across, bounds_of, columns_of, ids_below, rows_of, sides_of, sort_ids};
@@ -51,6 +53,20 @@ impl Places {
         sort_ids(&mut rows)?;
         sort_ids(&mut columns)?;
         Ok(Places { rows, columns })
+    }
+
+    /// The rows among them.
+    fn rows(&self) -> &[u32]
+        ensures { result.now ≡ self.now.rows }
+    {
+        self.rows.as_slice()
+    }
+
+    /// The columns among them.
+    fn columns(&self) -> &[u32]
+        ensures { result.now ≡ self.now.columns }
+    {
+        self.columns.as_slice()
     }
 }
 
@@ -125,40 +141,38 @@ fn sole_columns(
     Ok(ids)
 }
 
-/// The rows of parts, and those that are multiples of these.
+/// These rows, and those that are multiples of one of them.
 fn rows_beside(
     alloc: Global,
     problem: &Problem,
     groups: &Parallels,
-    parts: &[Part],
+    rows: &[u32],
 ) -> Result<Vec<u32>, AllocError>
     requires { AreGroupsOf groups.now problem.now }
     ensures sorted { IfOk result (λ ids. AscendsFrom 0 ids.items) }
-    ensures holds { IfOk result (λ ids. HoldsLed problem.now reach.RowsBeside parts.now ids.items) }
+    ensures holds { IfOk result (λ ids. (parts : List PartValue) → ((a : PartValue) (i : ℕ) → Contains parts a → Contains (rows_with a) i → Contains rows.now i) → HoldsLed problem.now reach.RowsBeside parts ids.items) }
 {
     problem.is_sparse();
-    let rows = rows_of(alloc, parts)?;
-    let mut ids = Vec::from_slice(alloc, rows.as_slice())?;
-    groups.add_beside_rows(alloc, rows.as_slice(), &mut ids)?;
+    let mut ids = Vec::from_slice(alloc, rows)?;
+    groups.add_beside_rows(alloc, rows, &mut ids)?;
     sort_ids(&mut ids)?;
     Ok(ids)
 }
 
-/// The columns of parts, and those that are multiples of these.
+/// These columns, and those that are multiples of one of them.
 fn columns_beside(
     alloc: Global,
     problem: &Problem,
     groups: &Parallels,
-    parts: &[Part],
+    columns: &[u32],
 ) -> Result<Vec<u32>, AllocError>
     requires { AreGroupsOf groups.now problem.now }
     ensures sorted { IfOk result (λ ids. AscendsFrom 0 ids.items) }
-    ensures holds { IfOk result (λ ids. HoldsLed problem.now reach.ColumnsBeside parts.now ids.items) }
+    ensures holds { IfOk result (λ ids. (parts : List PartValue) → ((a : PartValue) (j : ℕ) → Contains parts a → Contains (columns_with a) j → Contains columns.now j) → HoldsLed problem.now reach.ColumnsBeside parts ids.items) }
 {
     problem.is_sparse();
-    let columns = columns_of(alloc, parts)?;
-    let mut ids = Vec::from_slice(alloc, columns.as_slice())?;
-    groups.add_beside_columns(alloc, columns.as_slice(), &mut ids)?;
+    let mut ids = Vec::from_slice(alloc, columns)?;
+    groups.add_beside_columns(alloc, columns, &mut ids)?;
     sort_ids(&mut ids)?;
     Ok(ids)
 }
@@ -226,8 +240,8 @@ impl Around {
         let columns_roused = self::columns_of_sides(alloc, problem, roused)?;
         let rows_of_both = rows_of_both(alloc, problem, roused, columns_roused.as_slice())?;
         let sole_columns = sole_columns(alloc, problem, noted, rows_of_bounds.as_slice())?;
-        let rows_beside = rows_beside(alloc, problem, groups, noted)?;
-        let columns_beside = columns_beside(alloc, problem, groups, noted)?;
+        let rows_beside = rows_beside(alloc, problem, groups, own.rows())?;
+        let columns_beside = columns_beside(alloc, problem, groups, own.columns())?;
         Ok(Around {
             own,
             rows_of_bounds,
@@ -244,8 +258,8 @@ impl Around {
         ensures { result.now ≡ ids_there self.now rule }
     {
         match reach_of(rule) {
-            Reach::OwnRow => self.own.rows.as_slice(),
-            Reach::OwnColumn => self.own.columns.as_slice(),
+            Reach::OwnRow => self.own.rows(),
+            Reach::OwnColumn => self.own.columns(),
             Reach::RowsOfBounds => self.rows_of_bounds.as_slice(),
             Reach::ColumnsOfSides => self.columns_of_sides.as_slice(),
             Reach::RowsOfBoth => self.rows_of_both.as_slice(),

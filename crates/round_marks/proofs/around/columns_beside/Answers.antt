@@ -5,7 +5,8 @@ use Rattle.round_marks.proofs.around.columns_beside.Goals as goal
 
 pub returns-clause-holds : goal.returns-clause-holds
 returns-clause-holds c =
-    columns_led c.args.groups.now c.args.problem.now c.is_sparse.ensures c.requires c.args.parts.now c.in_ok-columns.columns.items c.add_beside_columns.new.ids.items c.sort_ids.new.ids.items c.in_ok-columns.ensures
-    (λ k d. c.in_ok-add_beside_columns.ensures.kept k (subst (λ (ks : List ℕ). Contains ks k) (sym c.in_ok-ids.ensures.items) (subst (λ (ks : List ℕ). Contains ks k) (sym c.as_slice.ensures.value) d)))
-    (λ k m d e. c.in_ok-add_beside_columns.ensures.holds k m (subst (λ (ks : List ℕ). Contains ks k) (sym c.as_slice-2.ensures.value) d) e)
+    λ parts among.
+    columns_led c.args.groups.now c.args.problem.now c.is_sparse.ensures c.requires parts c.args.columns.now c.add_beside_columns.new.ids.items c.sort_ids.new.ids.items among
+    (λ k d. c.in_ok-add_beside_columns.ensures.kept k (subst (λ (ks : List ℕ). Contains ks k) (sym c.in_ok-ids.ensures.items) d))
+    (λ k m d e. c.in_ok-add_beside_columns.ensures.holds k m d e)
     c.in_ok-sort_ids.ensures.kept
