@@ -22,13 +22,9 @@
 //! A line of text has `|` in front, or `>` where no line feed ends it. Lines that begin with `#`, and empty ones, are for the reader.
 #![tactic(auto)]
 
-mod again;
 mod request;
-mod rule;
 mod runs;
 mod script;
-mod shown;
-mod sums;
 
 use anyhow::Result;
 use script::Script;

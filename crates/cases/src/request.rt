@@ -1,8 +1,8 @@
 //! What is asked of the files of a case.
 
 use crate::runs::Case;
-use crate::{again, rule};
 use anyhow::{Result, anyhow};
+use case_parts::{again, rule};
 use mps_profile::dialect::Dialect;
 use presolve_model::Reduction;
 

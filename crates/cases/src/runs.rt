@@ -1,7 +1,7 @@
 //! The files, faults and words of a case, and what runs of it print.
 
-use crate::shown;
 use anyhow::{Context, Result, ensure};
+use case_parts::shown;
 use file_ports::{Held, MemFiles, MemSink, names_differ};
 use papilo::run::run;
 use std::alloc::{AllocError, Global};

@@ -2,8 +2,8 @@
 
 use crate::request::Request;
 use crate::runs::Case;
-use crate::{again, rule, sums};
 use anyhow::{Context, Result, anyhow};
+use case_parts::{again, rule, sums};
 use fractions::Numbers;
 use std::alloc::Global;
 use std::fs;

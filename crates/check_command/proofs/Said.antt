@@ -1,7 +1,7 @@
 -- What is said of the solution is said of both texts.
 use Rattle.std.proofs.Common.{inr}
 use Rattle.file_ports.specs.Ports.{Moment}
-use Rattle.command_line.specs.Line.{CheckNames}
+use Rattle.command_words.specs.Names.{CheckNames}
 use Rattle.lp_model.specs.ProgramData.{ProgramData}
 use Rattle.endings.specs.Ending.{status_of, text_of}
 use Rattle.endings.specs.declared.ending.Ending.{Ending}

@@ -2,7 +2,7 @@
 use Rattle.std.specs.Prelude.{◌≡◌, ◌≢◌, ◌⊎◌, ◌==◌, ℕ, List, Some, None}
 use Rattle.rational.specs.Number.{Number}
 use Rattle.file_ports.specs.Ports.{Moment, Told}
-use Rattle.command_line.specs.Line.{CheckNames}
+use Rattle.command_words.specs.Names.{CheckNames}
 use Rattle.lp_model.specs.ProgramData.{ProgramData}
 use Rattle.lp_model.specs.Vectors.{Vector, vector_of}
 use Rattle.lp_model.specs.Meaning.{meaning}

@@ -1,13 +1,13 @@
 //! The command `check IN SOL [--fixed]`.
 
 ghost use Rattle.std.specs.Prelude.{◌≡◌, ◌≤◌, ◌⊎◌, length, option_map, IfOk, IfSome, OnErr, IsErrOf};
-ghost use Rattle.command_line.specs.Seen.{check_names_of};
+ghost use Rattle.command_words.specs.Seen.{check_names_of};
 ghost use Rattle.endings.specs.Ending.{status_of, text_of};
 ghost use Rattle.endings.specs.Moments.{FailsToRead, Finds, IsQuiet};
 ghost use Rattle.check_command.specs.Checked.{EndsCheck, check_dialect};
 
 use crate::judging::judge;
-use command_line::CheckWords;
+use command_words::CheckWords;
 use endings::{Ending, INPUT_LIMIT, SOLUTION_LIMIT, Unread, format_of, read_within};
 use file_ports::Files;
 use fractions::Numbers;

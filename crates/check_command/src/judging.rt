@@ -2,7 +2,7 @@
 
 ghost use Rattle.std.specs.Prelude.{◌≡◌, ◌<◌, ◌≤◌, ◌^◌, ℕ, List, length, option_map, Some, None, IfOk, IfSome};
 ghost use Rattle.file_ports.specs.Ports.{Moment};
-ghost use Rattle.command_line.specs.Line.{CheckNames};
+ghost use Rattle.command_words.specs.Names.{CheckNames};
 ghost use Rattle.endings.specs.declared.reads.TheConstants.{INPUT_LIMIT, SOLUTION_LIMIT};
 ghost use Rattle.endings.specs.Moments.{Finds, Reads};
 ghost use Rattle.endings.specs.Ending.{status_of, text_of};

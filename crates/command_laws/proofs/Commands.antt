@@ -10,8 +10,9 @@ use Rattle.clap.specs.Simple.{Shape, built, built_leaf, help_shape, inherited, l
 use Rattle.clap.specs.Takes.{is_given, value_passes}
 use Rattle.clap.specs.Walk.{Row, Rule, Text, answers_to, arg_by_id, first_of}
 use Rattle.clap.specs.declared.builder.value_parser.ValueParser.TheVariants.{Unsigned}
-use Rattle.command_line.specs.Line.{check_app, dual_app, first_app, limit_in, limit_of, limited_app, line_app, postsolve_app, postsolve_words, presolve_app, presolve_words, request_of}
-use Rattle.command_line.specs.declared.reading.TheConstants.{MOST_RECORDS}
+use Rattle.command_app.specs.Line.{check_app, dual_app, first_app, limited_app, line_app, postsolve_app, postsolve_words, presolve_app, presolve_words}
+use Rattle.command_line.specs.Line.{limit_in, limit_of, request_of}
+use Rattle.command_words.specs.declared.words.TheConstants.{MOST_RECORDS}
 use Rattle.command_laws.proofs.Rows.{Each, HasFirst, either, first_passes, given_first}
 use Rattle.command_laws.proofs.Uses.{IsKnown}
 use Rattle.command_laws.specs.Asking.{HasOneOutput}

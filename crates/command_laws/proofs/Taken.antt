@@ -7,7 +7,8 @@ use Rattle.clap.specs.Simple.{App, Shape, argument_words, built, entered, label_
 use Rattle.clap.specs.Takes.{built_takes, entered_passes, level_passes}
 use Rattle.clap.specs.Walk.{Row, Text, answers_to, nothing_held, rows_after, stop_after, walk}
 use Rattle.clap.specs.Words.{is_simple}
-use Rattle.command_line.specs.Line.{found_in, is_taken, line_app, selected, selected_in}
+use Rattle.command_app.specs.Line.{found_in, is_taken, line_app}
+use Rattle.command_line.specs.Line.{selected, selected_in}
 use Rattle.command_laws.proofs.Commands.{Asks, AsksWhereGiven, commands_ask, line_has_help}
 use Rattle.command_laws.proofs.Rows.{Each, each_found}
 use Rattle.command_laws.proofs.Walking.{level_each, stop_no_help}

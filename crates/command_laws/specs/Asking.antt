@@ -1,7 +1,8 @@
 -- What words that clap takes ask for.
 use Rattle.std.specs.Prelude.{◌≡◌, ◌≢◌, ◌⊎◌, List, Some, None, codes, true}
 use Rattle.clap.specs.Words.{Row, Text, first_of}
-use Rattle.command_line.specs.Line.{found_in, is_taken, selected}
+use Rattle.command_app.specs.Line.{found_in, is_taken}
+use Rattle.command_line.specs.Line.{selected}
 
 -- presolve, with one name for OUT and REC
 abbrev pub HasOneOutput : Text → List Row → Type 0

@@ -1,3 +1,2 @@
-mod Simple
 mod Pairs
 mod Limits

@@ -6,7 +6,7 @@ use Rattle.clap.specs.ValueTests.{accepts}
 use Rattle.clap.specs.declared.builder.value_parser.ValueParser.TheVariants.{Unsigned}
 use Rattle.clap.proofs.ValueTestLemmas.{accepts-Accepts, Accepts-accepts}
 use Rattle.command_line.specs.Line.{limit_in}
-use Rattle.command_line.specs.declared.reading.TheConstants.{MOST_RECORDS}
+use Rattle.command_words.specs.declared.words.TheConstants.{MOST_RECORDS}
 
 -- a number that is given where clap takes the text, and none where it does not
 pub limit_is : (text : List ℕ) (r : Option ℕ)

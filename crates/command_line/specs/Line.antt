@@ -1,85 +1,15 @@
--- The command line, as clap's own definitions speak of it, and what words ask for.
-use Rattle.std.specs.Prelude.{◌≢◌, ◌≤◌, ℕ, List, [], ◌∷◌, codes, true, false, Bool, if◌then◌else◌, Option, Some, None, String, map, string_bytes}
+-- What words ask for.
+use Rattle.std.specs.Prelude.{ℕ, List, [], ◌∷◌, codes, false, Bool, if◌then◌else◌, Option, Some, None}
 use Rattle.std.specs.Option.{option_map}
 use Rattle.std.specs.Str.{bytes_eq}
 use Rattle.std.specs.Str.Parse.{digits_value, without_leading_plus}
-use Rattle.std.specs.declared.alloc.Global.{Global}
-use Rattle.clap.specs.Words.{App, Row, Rule, Text, first_of, new_app, new_rule, subcommand_of, takes, fault_of, Kinds, with_rule, with_subcommand}
+use Rattle.clap.specs.Words.{Row, Text, first_of, Kinds}
 use Rattle.clap.specs.ValueTests.{accepts}
 use Rattle.clap.specs.declared.builder.value_parser.ValueParser.TheVariants.{Unsigned}
-use Rattle.command_line.specs.declared.reading.PresolveOptions.{PresolveOptions}
-use Rattle.command_line.specs.declared.reading.TheConstants.{MOST_RECORDS}
-use Rattle.clap.specs.declared.builder.ArgAction.TheVariants.{Set, SetTrue}
-
--- a required word
-abbrev pub word_rule : Text → Rule
-word_rule id = record (new_rule id) { action = Some Set; required = true }
-
--- a number from 1 up to this, after `--id`
-abbrev pub number_rule : Text → ℕ → Rule
-number_rule id most = record (new_rule id) { long = Some id; parser = Some (Unsigned 1 most) }
-
--- an option `--id`
-abbrev pub flag_rule : Text → Rule
-flag_rule id = record (new_rule id) { long = Some id; action = Some SetTrue }
-
--- presolve IN OUT REC
-unfoldable pub presolve_words : App
-presolve_words = with_rule (with_rule (with_rule (new_app (codes "presolve")) (word_rule (codes "in"))) (word_rule (codes "out"))) (word_rule (codes "rec"))
-
--- presolve IN OUT REC [--limit N]
-unfoldable pub limited_app : App
-limited_app = with_rule presolve_words (number_rule (codes "limit") MOST_RECORDS)
-
--- presolve IN OUT REC [--limit N] [--dual]
-unfoldable pub dual_app : App
-dual_app = with_rule limited_app (flag_rule (codes "dual"))
-
--- presolve IN OUT REC [--limit N] [--dual] [--fractions] [--fixed]
-unfoldable pub presolve_app : App
-presolve_app = with_rule (with_rule dual_app (flag_rule (codes "fractions"))) (flag_rule (codes "fixed"))
-
--- check IN SOL [--fixed]
-unfoldable pub check_app : App
-check_app = with_rule (with_rule (with_rule (new_app (codes "check")) (word_rule (codes "in"))) (word_rule (codes "sol"))) (flag_rule (codes "fixed"))
-
--- postsolve OUT REC SOL
-unfoldable pub postsolve_words : App
-postsolve_words = with_rule (with_rule (with_rule (new_app (codes "postsolve")) (word_rule (codes "out"))) (word_rule (codes "rec"))) (word_rule (codes "sol"))
-
--- postsolve OUT REC SOL RESULT
-unfoldable pub postsolve_app : App
-postsolve_app = with_rule postsolve_words (word_rule (codes "result"))
-
--- presolve and check
-unfoldable pub first_app : App
-first_app = with_subcommand (with_subcommand (new_app (codes "papilo")) presolve_app.top) check_app.top
-
--- the whole: one subcommand for each command
-unfoldable pub line_app : App
-line_app = with_subcommand first_app postsolve_app.top
-
-abbrev pub texts : List (String Global) → List Text
-texts words = map (λ word. string_bytes word) words
-
--- clap takes the words
-unfoldable pub is_taken : List Text → Bool
-is_taken words = takes line_app words
-
--- the kinds of error that clap gives at the words, but for want of memory
-unfoldable pub faults : List Text → Kinds
-faults words = fault_of line_app words
-
--- the subcommand that clap finds, with the values of its arguments
-unfoldable pub found_in : List Text → Option (Text × List Row)
-found_in words = subcommand_of line_app words
-
--- the names that presolve works on, and the options
-pub record PresolveNames : Type 0 where
-  pub input : Text
-  pub output : Text
-  pub records : Text
-  pub options : PresolveOptions
+use Rattle.command_words.specs.Names.{PresolveNames, CheckNames, PostsolveNames, Request, Presolve, Check, Postsolve}
+use Rattle.command_words.specs.declared.words.PresolveOptions.{PresolveOptions}
+use Rattle.command_words.specs.declared.words.TheConstants.{MOST_RECORDS}
+use Rattle.command_app.specs.Line.{faults, found_in}
 
 -- an option is given where clap's value is `true`
 abbrev pub is_on : Option Text → Bool
@@ -102,37 +32,6 @@ options_of rows = option_map (λ limit. record {
   fixed = is_on (first_of (codes "fixed") rows);
   limit = limit;
 }) (limit_of (first_of (codes "limit") rows))
-
--- the names that check works on, and whether IN has the fixed format
-pub record CheckNames : Type 0 where
-  pub input : Text
-  pub solution : Text
-  pub fixed : Bool
-
--- the names that postsolve works on
-pub record PostsolveNames : Type 0 where
-  pub program : Text
-  pub records : Text
-  pub solution : Text
-  pub result : Text
-
--- a command with its names
-pub data Request : Type 0 where
-  Presolve : PresolveNames → Request
-  Check : CheckNames → Request
-  Postsolve : PostsolveNames → Request
-
--- the texts that a command writes go to names that differ
-abbrev pub HasTwoOutputs : Request → Type 0
-HasTwoOutputs (Presolve names) = names.output ≢ names.records
-HasTwoOutputs (Check names) = Unit {0}
-HasTwoOutputs (Postsolve names) = Unit {0}
-
--- a run may make at least one record, and no more than the most
-abbrev pub HasLimit : Request → Type 0
-HasLimit (Presolve names) = (1 ≤ names.options.limit) × (names.options.limit ≤ MOST_RECORDS)
-HasLimit (Check names) = Unit {0}
-HasLimit (Postsolve names) = Unit {0}
 
 -- three names, of which OUT and REC differ, and the options
 abbrev pub presolve_names : Option Text → Option Text → Option Text → Option PresolveOptions → Option PresolveNames

@@ -2,72 +2,17 @@
 ghost use Rattle.std.specs.Prelude.{◌≡◌, ◌≢◌, ◌≤◌, ◌⊎◌, codes, IfSome, None, [], Some, Err, false, option_map, IfOk, OnOk};
 ghost use Rattle.std.specs.Str.Parse.{digits_value, without_leading_plus};
 ghost use Rattle.clap.specs.Words.{IsUnsignedIn, first_of, found_of, rows_of, subcommand_rows_of};
-ghost use Rattle.command_line.specs.Line.{HasLimit, HasTwoOutputs, asked, check_of, faults, is_on, is_taken, limit_in, limit_of, options_of, postsolve_of, presolve_of, request_of, selected, selected_in, texts};
-ghost use Rattle.command_line.specs.Seen.{check_names_of, names_of, postsolve_names_of, seen};
+ghost use Rattle.command_words.specs.Names.{HasLimit, HasTwoOutputs};
+ghost use Rattle.command_app.specs.Line.{faults, is_taken, texts};
+ghost use Rattle.command_line.specs.Line.{asked, check_of, is_on, limit_in, limit_of, options_of, postsolve_of, presolve_of, request_of, selected, selected_in};
+ghost use Rattle.command_words.specs.Seen.{check_names_of, names_of, postsolve_names_of, seen};
 
-use crate::command::matches;
 use clap::ArgMatches;
+use command_app::matches;
+use command_words::{
+    CheckWords, MOST_RECORDS, PostsolveWords, PresolveOptions, PresolveWords, Refusal, Request,
+};
 use std::alloc::Global;
-
-/// The most records that a run may be allowed to make; so many where no limit is given.
-pub const MOST_RECORDS: u64 = 1_000_000_000;
-
-/// The options of `presolve`.
-#[derive(Clone, Copy, Debug, PartialEq, Eq)]
-pub struct PresolveOptions {
-    /// A solution with duals can be brought back too; every column has to be continuous.
-    pub dual: bool,
-    /// Numbers that are no decimal numbers are taken and written too, as `n/d`.
-    pub fractions: bool,
-    /// IN has the fixed format.
-    pub fixed: bool,
-    /// How many reductions may be applied: from 1 to `MOST_RECORDS`.
-    pub limit: u64,
-}
-
-/// The names that `presolve IN OUT REC` works on, of which `output` and `records` differ, and the options.
-#[derive(Clone, Copy, Debug)]
-pub struct PresolveWords<'a> {
-    pub input: &'a str,
-    pub output: &'a str,
-    pub records: &'a str,
-    pub options: PresolveOptions,
-}
-
-/// The names that `check IN SOL` works on, and its option.
-#[derive(Clone, Copy, Debug)]
-pub struct CheckWords<'a> {
-    pub input: &'a str,
-    pub solution: &'a str,
-    /// IN has the fixed format.
-    pub fixed: bool,
-}
-
-/// The names that `postsolve OUT REC SOL RESULT` works on.
-#[derive(Clone, Copy, Debug)]
-pub struct PostsolveWords<'a> {
-    pub program: &'a str,
-    pub records: &'a str,
-    pub solution: &'a str,
-    pub result: &'a str,
-}
-
-/// A command with its words.
-#[derive(Clone, Copy, Debug)]
-pub enum Request<'a> {
-    Presolve(PresolveWords<'a>),
-    Check(CheckWords<'a>),
-    Postsolve(PostsolveWords<'a>),
-}
-
-/// Why there is no request.
-#[derive(Clone, Copy, Debug, PartialEq, Eq)]
-pub enum Refusal {
-    /// `clap` does not take the words, or OUT and REC are equal.
-    Words,
-    /// There is no memory to read them.
-    NoMemory,
-}
 
 // The first value of a name.
 fn value<'a>(found: &ArgMatches<'a>, id: &str) -> Option<&'a str>

@@ -1,6 +1,6 @@
 -- How a program is read, by the options.
 use Rattle.std.specs.Prelude.{Bool, if◌then◌else◌}
-use Rattle.command_line.specs.declared.reading.PresolveOptions.{PresolveOptions}
+use Rattle.command_words.specs.declared.words.PresolveOptions.{PresolveOptions}
 use Rattle.fractions.specs.declared.Numbers.{Numbers}
 use Rattle.fractions.specs.declared.Numbers.TheVariants.{Decimal, Fractions}
 use Rattle.mps_profile.specs.declared.dialect.Dialect.{Dialect}

@@ -3,7 +3,7 @@
 ghost use Rattle.std.specs.Prelude.{◌≡◌};
 ghost use Rattle.endings.specs.Dialects.{dialect_of, format_of};
 
-use command_line::PresolveOptions;
+use command_words::PresolveOptions;
 use fractions::Numbers;
 use mps_reader::{Dialect, Format};
 

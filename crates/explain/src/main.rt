@@ -6,7 +6,7 @@ mod running;
 mod telling;
 mod words;
 
-use command_line::Refusal;
+use command_words::Refusal;
 use endings::INPUT_LIMIT;
 use file_ports::{Files, HostFiles, HostOut, ReadErr, Sink};
 use running::{Told, run};

@@ -3,7 +3,7 @@
 use clap::builder::ValueParser;
 use clap::error::ErrorKind;
 use clap::{Arg, ArgAction, ArgMatches, Command};
-use command_line::{MOST_RECORDS, PresolveOptions, Refusal};
+use command_words::{MOST_RECORDS, PresolveOptions, Refusal};
 use std::alloc::{AllocError, Global};
 
 /// What is asked for.

@@ -10,8 +10,6 @@ mod host;
 mod memory_files;
 mod memory_sink;
 mod sink;
-#[cfg(test)]
-mod tests;
 
 pub use entry::{Held, names_differ};
 pub use files::{Failed, Files, ReadErr};

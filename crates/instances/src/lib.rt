@@ -15,8 +15,6 @@ mod reading;
 mod reads;
 mod scans;
 mod tally;
-#[cfg(test)]
-mod tests;
 
 pub use applying::after;
 pub use chunk::Chunk;

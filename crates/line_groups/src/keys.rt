@@ -11,10 +11,10 @@ ghost use Rattle.problem_model.specs.declared.part.Part.TheVariants as part;
 ghost use Rattle.line_groups.specs.Keys.{key_at, key_of as key_by, mixed as mixed_with, sign_of as sign_as, with_number as number_in, with_parts as parts_in, with_terms as terms_in};
 ghost use Rattle.line_groups.specs.Keys.{first_number as number_first};
 
+use entry_lines::is_live;
 use fractions::frac::Frac;
 use fractions::whole::Whole;
 use lp_model::Term;
-use problem_data::is_live;
 use problem_model::{Line, Part};
 use row_spans::exact::quotient;
 use sparse_problem::Problem;

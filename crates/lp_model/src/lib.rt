@@ -20,6 +20,3 @@ pub use plain::{
 pub use point::{Duals, Pair, Point};
 pub use program::{ColumnDef, Columns, Program, RowDef, Rows, Sense};
 pub use terms::{Term, Terms};
-
-#[cfg(test)]
-mod tests;

@@ -15,8 +15,6 @@ mod reach;
 mod reading;
 mod scaling;
 mod short;
-#[cfg(test)]
-mod tests;
 mod writing;
 
 pub use display::Displayed;

@@ -1,7 +1,7 @@
 -- Which names tell what they told, by how a run ended.
 use Rattle.std.proofs.Common.{◌≡◌, ℕ, List, inl, inr, Option, Some, None, refl, ap}
 use Rattle.file_ports.specs.Ports.{Moment, Told, KeepsOthers}
-use Rattle.command_line.specs.Line.{PostsolveNames, PresolveNames, Request, Presolve, Check, Postsolve}
+use Rattle.command_words.specs.Names.{PostsolveNames, PresolveNames, Request, Presolve, Check, Postsolve}
 use Rattle.endings.specs.Ending.{status_of, text_of}
 use Rattle.endings.specs.Moments.{IsQuiet, KeepsAllBut}
 use Rattle.endings.specs.declared.ending.Ending.{Ending}

@@ -1,7 +1,7 @@
 -- What a run says at a status, of how it ended.
 use Rattle.std.proofs.Common.{◌≡◌, ℕ, List, ◌≤◌, ◌⊎◌, inl, inr, Option, Some, None, arith, subst}
 use Rattle.file_ports.specs.Ports.{Moment}
-use Rattle.command_line.specs.Line.{Request, Presolve, Check, Postsolve}
+use Rattle.command_words.specs.Names.{Request, Presolve, Check, Postsolve}
 use Rattle.endings.specs.Ending.{status_of}
 use Rattle.endings.specs.declared.ending.Ending.{Ending}
 use Rattle.endings.specs.declared.ending.Ending.TheVariants.{Done, Usage, Refused, ReadFault, WriteFault, NoMemory, NoRoom, RecordsRefused, SolutionRefused, Violated, Infeasible, UnboundedOrInfeasible}

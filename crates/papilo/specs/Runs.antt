@@ -1,7 +1,9 @@
 -- How a run ends, by what its words ask for: its status, what it prints, and what it does to files.
 use Rattle.std.specs.Prelude.{◌≡◌, ◌⊎◌, ◌==◌, ℕ, false, List, Option, Some, None}
 use Rattle.file_ports.specs.Ports.{Moment, Rose, Grown, GrownInPart, KeepsOthers}
-use Rattle.command_line.specs.Line.{Request, Presolve, Check, Postsolve, is_taken, selected}
+use Rattle.command_words.specs.Names.{Request, Presolve, Check, Postsolve}
+use Rattle.command_app.specs.Line.{is_taken}
+use Rattle.command_line.specs.Line.{selected}
 use Rattle.endings.specs.Ending.{When, no_memory_line, usage_line}
 use Rattle.endings.specs.Moments.{IsQuiet, IsThere, KeepsAllBut}
 use Rattle.presolve_command.specs.Presolved as presolve

@@ -2,13 +2,14 @@
 
 ghost use Rattle.std.specs.Prelude.{◌≡◌, ◌≢◌, ◌≤◌, ◌⊎◌, ℕ, List};
 ghost use Rattle.file_ports.specs.Ports.{Rose, Grown};
-ghost use Rattle.command_line.specs.Line.{asked, texts};
+ghost use Rattle.command_app.specs.Line.{texts};
+ghost use Rattle.command_line.specs.Line.{asked};
 ghost use Rattle.endings.specs.Ending.{status_of, text_of};
 ghost use Rattle.endings.specs.Moments.{IsQuiet};
 ghost use Rattle.papilo.specs.Runs.{AreRefused, AreThere, Ends, IsUnwritten, KeepsUnasked, Prints};
 
 use check_command::check;
-use command_line::{Refusal, Request};
+use command_words::{Refusal, Request};
 use endings::Ending;
 use file_ports::{Files, Sink};
 use postsolve_command::postsolve;

@@ -10,9 +10,9 @@ ghost use Rattle.rule_words.specs.Entries.{has_none};
 ghost use Rattle.parallel_column_laws.specs.ParallelColumns.{are_times as times_are};
 ghost use Rattle.parallel_columns.specs.Walks.{after_first, begin_alike as begins_alike, first_number as number_first, first_over as over_first, from_live as live_from};
 
+use entry_lines::is_live;
 use fractions::frac::Frac;
 use lp_model::Term;
-use problem_data::is_live;
 use problem_model::Line;
 use row_spans::exact::{product, quotient};
 

@@ -3,7 +3,7 @@ use Rattle.std.proofs.Common.{◌≡◌, ℕ, List, inl, inr, Option, Some, None
 use Rattle.std.specs.Option.{option_map}
 use Rattle.rational.specs.Number.{Number}
 use Rattle.file_ports.specs.Ports.{Moment}
-use Rattle.command_line.specs.Line.{PostsolveNames}
+use Rattle.command_words.specs.Names.{PostsolveNames}
 use Rattle.lp_model.specs.ProgramData.{ProgramData}
 use Rattle.mps_profile.specs.Reading.{first_fault}
 use Rattle.record_reader.specs.Reading as record_texts

@@ -2,7 +2,7 @@
 use Rattle.std.specs.Prelude.{◌≡◌, ◌≢◌, ◌⊎◌, ◌==◌, ℕ, List, [], ◌∷◌, ◌++◌, codes, Option, option_map, Result, Ok, Err}
 use Rattle.rational.specs.Number.{Number}
 use Rattle.file_ports.specs.Ports.{Moment, Unsettled, KeepsOthers, Written}
-use Rattle.command_line.specs.Line.{PostsolveNames}
+use Rattle.command_words.specs.Names.{PostsolveNames}
 use Rattle.lp_model.specs.ProgramData.{ProgramData}
 use Rattle.undo_records.specs.Postsolve.{Postsolve}
 use Rattle.record_reader.specs.Matching.{Matches}

@@ -2,8 +2,8 @@
 
 ghost use Rattle.std.specs.Prelude.{◌≤◌, length, option_map, IfOk, IfSome, OnErr, IsErrOf};
 ghost use Rattle.file_ports.specs.Ports.{Moment, NeverFall};
-ghost use Rattle.command_line.specs.Line.{PostsolveNames};
-ghost use Rattle.command_line.specs.Seen.{postsolve_names_of};
+ghost use Rattle.command_words.specs.Names.{PostsolveNames};
+ghost use Rattle.command_words.specs.Seen.{postsolve_names_of};
 ghost use Rattle.endings.specs.Ending.{status_of, text_of};
 ghost use Rattle.endings.specs.Moments.{Finds, IsQuiet};
 ghost use Rattle.endings.specs.declared.reads.TheConstants.{SOLUTION_LIMIT};
@@ -15,7 +15,7 @@ use crate::given::{
 };
 use crate::lifted::{Texts, lifted_texts};
 use crate::refusal::Refusal;
-use command_line::PostsolveWords;
+use command_words::PostsolveWords;
 use endings::{Ending, SOLUTION_LIMIT, Unread, read_within};
 use file_ports::{Failed, Files};
 use std::alloc::{AllocError, Global};

@@ -2,7 +2,7 @@
 use Rattle.std.proofs.Common.{◌≡◌, ◌≤◌, ℕ, List, length, Result, Ok, Err, Vec, Global, ◌∙◌, sym, subst}
 use Rattle.file_ports.specs.Ports.{Told, Gives}
 use Rattle.lp_model.specs.ProgramData.{ProgramData}
-use Rattle.command_line.specs.declared.reading.PresolveOptions.{PresolveOptions}
+use Rattle.command_words.specs.declared.words.PresolveOptions.{PresolveOptions}
 use Rattle.mps_profile.specs.declared.dialect.Dialect.{Dialect}
 use Rattle.endings.specs.Dialects.{dialect_of}
 use Rattle.endings.specs.Moments.{Reads}

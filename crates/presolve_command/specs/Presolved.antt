@@ -1,7 +1,7 @@
 -- What a presolve says of the files before and after it, by its status and what it prints.
 use Rattle.std.specs.Prelude.{◌≡◌, ◌≢◌, ◌⊎◌, ℕ, ◌==◌, List}
 use Rattle.file_ports.specs.Ports.{Moment, Unsettled, KeepsOthers, Written}
-use Rattle.command_line.specs.Line.{PresolveNames}
+use Rattle.command_words.specs.Names.{PresolveNames}
 use Rattle.endings.specs.Dialects.{dialect_of}
 use Rattle.endings.specs.Ending.{When, infeasible_line, no_memory_line, read_fault_line, unbounded_line, write_fault_line}
 use Rattle.endings.specs.Moments.{FailsToRead, FailsToWrite, IsQuiet, IsThere, KeepsAllBut, Reads}

@@ -10,7 +10,7 @@ use Rattle.mps_profile.specs.Reading.{first_fault}
 use Rattle.mps_profile.specs.Program.{program_of}
 use Rattle.mps_written_lines.specs.Formats.{free_format}
 use Rattle.mps_round_trip.specs.Plain.{Plain}
-use Rattle.command_line.specs.declared.reading.PresolveOptions.{PresolveOptions}
+use Rattle.command_words.specs.declared.words.PresolveOptions.{PresolveOptions}
 use Rattle.presolve_model.specs.declared.instance.Reduction.{Reduction}
 use Rattle.presolve_model.specs.declared.instance.Verdict.{Verdict}
 use Rattle.presolve_model.specs.Accounts.{ReducesPairsTo}

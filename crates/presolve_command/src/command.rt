@@ -2,13 +2,13 @@
 
 ghost use Rattle.std.specs.Prelude.{◌≡◌, ◌≢◌, IfOk, OnOk, OnErr};
 ghost use Rattle.file_ports.specs.Ports.{Written};
-ghost use Rattle.command_line.specs.Seen.{names_of};
+ghost use Rattle.command_words.specs.Seen.{names_of};
 ghost use Rattle.endings.specs.Ending.{status_of, text_of};
 ghost use Rattle.endings.specs.Moments.{IsQuiet, KeepsAllBut};
 ghost use Rattle.presolve_command.specs.Presolved.{EndsPresolve, FailsBetween};
 
 use crate::reduce::{NotReduced, Texts, reduce};
-use command_line::PresolveWords;
+use command_words::PresolveWords;
 use endings::{Ending, INPUT_LIMIT, fault_line};
 use file_ports::{Failed, Files, ReadErr};
 use std::alloc::{AllocError, Global};

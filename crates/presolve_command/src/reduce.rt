@@ -10,7 +10,7 @@ ghost use Rattle.lp_model.specs.Writable.{EntriesAscend, Writable};
 ghost use Rattle.mps_writer.specs.MpsText.{mps_text, WidthsFit};
 
 use crate::report::{Change, Report, report_of};
-use command_line::PresolveOptions;
+use command_words::PresolveOptions;
 use endings::{dialect_of, not_continuous_text};
 use lp_check::first_whole_column;
 use lp_model::{ColumnDef, Program};

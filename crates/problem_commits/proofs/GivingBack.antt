@@ -13,8 +13,8 @@ use Rattle.problem_model.specs.Offsets.{OffsetFits}
 use Rattle.problem_model.specs.Problems.{row_at, IsSparse}
 use Rattle.problem_model.specs.Sparse.{Sparse}
 use Rattle.problem_laws.proofs.EntriesKept.{put_row_live}
-use Rattle.problem_data.specs.declared.entries.Replaced.{Replaced}
-use Rattle.problem_data.specs.Putting.{entries_given, entries_set, GivesBack, IdsAscend}
+use Rattle.entry_lines.specs.declared.entries.Replaced.{Replaced}
+use Rattle.entry_lines.specs.Putting.{entries_given, entries_set, GivesBack, IdsAscend}
 use Rattle.problem_commits.specs.Restoring.{restored, run_of, IsRun, NoneBehind, CanGive, CanRestore, IsTrail, MayGoOn}
 
 -- ---- one more at the end

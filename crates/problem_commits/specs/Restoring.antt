@@ -8,8 +8,8 @@ use Rattle.problem_model.specs.Applied.{applied}
 use Rattle.problem_model.specs.Offsets.{OffsetFits}
 use Rattle.problem_model.specs.Problems.{IsSparse}
 use Rattle.problem_model.specs.Sparse.{Sparse}
-use Rattle.problem_data.specs.declared.entries.Replaced.{Replaced}
-use Rattle.problem_data.specs.Putting.{AreInside, entries_given, IdsAscend}
+use Rattle.entry_lines.specs.declared.entries.Replaced.{Replaced}
+use Rattle.entry_lines.specs.Putting.{AreInside, entries_given, IdsAscend}
 
 -- edits that set entries of column j: the numbers of terms, in the rows that these name
 abbrev pub run_of : ℕ → List Term → List Edit

@@ -4,9 +4,9 @@ ghost use Rattle.std.specs.Prelude.{◌≡◌, ◌↔◌, ℕ, IsTrue, [], ◌�
 ghost use Rattle.problem_model.specs.Matrices.{live_only};
 ghost use Rattle.problem_commits.specs.Lefts.{IsLeft};
 
+use entry_lines::is_live;
 use fractions::ext::Ext;
 use lp_model::Term;
-use problem_data::is_live;
 use problem_model::Line;
 
 /// Whether two terms are the same.

@@ -9,13 +9,13 @@ ghost use Rattle.problem_model.specs.Offsets.{OffsetFits};
 ghost use Rattle.problem_model.specs.Problems.{column_at, row_at};
 ghost use Rattle.problem_model.specs.Sparse.{Sparse};
 ghost use Rattle.lp_model.specs.declared.terms.Term.{Term};
-ghost use Rattle.problem_data.specs.Putting.{entries_set, IdsAscend};
+ghost use Rattle.entry_lines.specs.Putting.{entries_set, IdsAscend};
 ghost use Rattle.problem_commits.specs.Restoring.{CanRestore, GoesOn, HasNoEntry, IsRun, IsTrail, MayGoOn, NoneBehind, restored, run_of};
 
 use crate::edits::make_all;
+use entry_lines::Replaced;
 use fractions::frac::Frac;
 use lp_model::Term;
-use problem_data::Replaced;
 use problem_model::Edit;
 use sparse_problem::Problem;
 use std::alloc::{AllocError, Global};

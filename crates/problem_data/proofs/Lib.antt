@@ -1,12 +1,4 @@
-pub mod Named
-pub mod Places
-pub mod Deleting
-pub mod Counting
-pub mod LiveTerms
 pub mod Edited
-pub mod Crossing
 pub mod MadeProblems
 pub mod WrittenRows
 pub mod Renumbering
-pub mod Below
-pub mod Putting

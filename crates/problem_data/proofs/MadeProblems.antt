@@ -13,8 +13,8 @@ use Rattle.problem_model.specs.Sparse.{Sparse}
 use Rattle.problem_model.specs.Matrices.{line_at, IsMatrix}
 use Rattle.problem_model.specs.Problems.{IsSparse}
 use Rattle.problem_model.specs.Programs.{bounds_of, line_of, sides_of}
-use Rattle.problem_data.specs.Across.{across}
-use Rattle.problem_data.proofs.Crossing.{lines_of, matrix_of}
+use Rattle.entry_lines.specs.Across.{across}
+use Rattle.entry_lines.proofs.Crossing.{lines_of, matrix_of}
 
 -- the parts of a problem, as they are made of a program
 pub record AreParts (program : ProgramData) (p : Sparse) : Type 0 where

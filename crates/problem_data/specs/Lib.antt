@@ -1,6 +1,1 @@
-pub mod Places
-pub mod Losses
-pub mod Across
-pub mod Ranks
 pub mod Renumbered
-pub mod Putting

@@ -6,10 +6,10 @@ ghost use Rattle.lp_model.specs.Turning.{signed};
 ghost use Rattle.problem_model.specs.Programs.{bounds_of, IsProblemOf, sides_of};
 
 use crate::problem::ProblemData;
-use crate::transpose::{columns_of, rows_of};
+use entry_lines::{columns_of, copy_lines, rows_of};
 use fractions::frac::Frac;
 use lp_model::{ColumnDef, Program, RowDef, Sense};
-use problem_model::{Bounds, Line, Sides};
+use problem_model::{Bounds, Sides};
 use std::alloc::{AllocError, Global};
 
 /// A cost of the file in the minimizing sense, or back: the two are negatives of one another for MAX, and the same for MIN.
@@ -62,22 +62,6 @@ fn all_costs(alloc: Global, sense: Sense, columns: &[ColumnDef]) -> Result<Vec<F
         costs.push(in_sense(sense, &column.cost))?;
     }
     Ok(costs)
-}
-
-/// Equal lines.
-fn copy_lines(alloc: Global, lines: &[Line]) -> Result<Vec<Line>, AllocError>
-    ensures { IfOk result (λ copies. copies.items ≡ lines.now) }
-{
-    let mut copies = Vec::with_capacity(alloc, lines.len())?;
-    for line in lines {
-        copies.push(Line {
-            live: line.live,
-            entries: line.entries.copy(alloc)?,
-            live_entries: line.live_entries,
-            changes: line.changes,
-        })?;
-    }
-    Ok(copies)
 }
 
 impl ProblemData {

@@ -5,15 +5,15 @@ ghost use Rattle.std.specs.List.{All};
 ghost use Rattle.problem_model.specs.Edits.{bounds_set, column_deleted, cost_set, offset_set, row_deleted, sides_set};
 ghost use Rattle.problem_model.specs.Parts.{changes_of};
 ghost use Rattle.problem_model.specs.declared.part.Part.TheVariants as part;
-ghost use Rattle.problem_data.specs.Putting.{AreInside, entries_given, entries_set, GivesBack, IdsAscend};
+ghost use Rattle.entry_lines.specs.Putting.{AreInside, entries_given, entries_set, GivesBack, IdsAscend};
 ghost use Rattle.problem_data.specs.Renumbered.{changes_put, IsThere};
 ghost use Rattle.problem_model.specs.Problems.{bounds_at, column_at, column_entries, cost_at, IsSparse, row_at, row_entries, sides_at};
 
-use crate::entries::{Replaced, exchange, exchange_all, give_back, line_with_terms, rows_with};
-use crate::lines::{delete_line, first_live, live_entries_of, live_terms_of, whole_line};
-use crate::living::is_live;
-use crate::moves::{move_bounds, move_sides};
-use crate::numbers::{line_changes, number_line};
+use crate::ends::{move_bounds, move_sides};
+use entry_lines::{
+    Replaced, delete_line, exchange, exchange_all, first_live, give_back, is_live, line_changes,
+    line_with_terms, live_entries_of, live_terms_of, number_line, rows_with, whole_line,
+};
 use fractions::ext::Ext;
 use fractions::frac::Frac;
 use lp_model::{Term, Terms};

@@ -16,10 +16,10 @@ use Rattle.undo_records.specs.Walk.{Walks, AreSound, all_live, cleared, lives, f
 use Rattle.undo_records.specs.declared.label.Label.{Label}
 use Rattle.undo_records.specs.declared.undo.Undo.{Undo}
 use Rattle.undo_records.proofs.Walking.{walks_on}
-use Rattle.record_words.specs.Words.{words_of, first, others}
+use Rattle.record_fields.specs.Words.{words_of, first, others}
 use Rattle.record_words.specs.Undos.{undo_fault, undo_in}
 use Rattle.record_words.specs.Rules.{rule_of}
-use Rattle.record_words.specs.declared.faults.LineFault.{LineFault}
+use Rattle.record_fields.specs.declared.faults.LineFault.{LineFault}
 use Rattle.record_words.proofs.Soundness.{sound_by}
 use Rattle.record_reader.specs.Labels.{label_named, label_of, with_label}
 use Rattle.record_reader.specs.Headings.{is_end}

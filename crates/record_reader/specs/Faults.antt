@@ -4,10 +4,10 @@ use Rattle.undo_records.specs.Postsolve.{Postsolve}
 use Rattle.lp_model.specs.Flags.{Flags}
 use Rattle.undo_records.specs.Walk.{lives}
 use Rattle.rational.specs.Number.{Number}
-use Rattle.record_words.specs.Words.{words_of}
+use Rattle.record_fields.specs.Words.{words_of}
 use Rattle.record_words.specs.Undos.{undo_fault}
-use Rattle.record_words.specs.declared.faults.LineFault.{LineFault}
-use Rattle.record_words.specs.declared.faults.LineFault.TheVariants as line
+use Rattle.record_fields.specs.declared.faults.LineFault.{LineFault}
+use Rattle.record_fields.specs.declared.faults.LineFault.TheVariants as line
 use Rattle.record_reader.specs.Labels.{label_of}
 use Rattle.record_reader.specs.Headings.{is_header, sense_of, duals_of, count_of, offset_of, is_end}
 use Rattle.record_reader.specs.Progress.{Progress}

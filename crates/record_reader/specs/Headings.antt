@@ -10,10 +10,10 @@ use Rattle.number_texts.specs.declared.reading.ReadNumber.{ReadNumber}
 use Rattle.number_texts.specs.declared.reading.ReadNumber.TheVariants.{NotNumber, NumberPast}
 use Rattle.lp_model.specs.declared.program.Sense.{Sense}
 use Rattle.lp_model.specs.declared.program.Sense.TheVariants.{Min, Max}
-use Rattle.record_words.specs.Words.{is_plain}
-use Rattle.record_words.specs.Ratios.{unsigned_part, is_least}
-use Rattle.record_words.specs.declared.faults.LineFault.{LineFault}
-use Rattle.record_words.specs.declared.faults.LineFault.TheVariants as faults
+use Rattle.record_fields.specs.Words.{is_plain}
+use Rattle.record_fields.specs.Ratios.{unsigned_part, is_least}
+use Rattle.record_fields.specs.declared.faults.LineFault.{LineFault}
+use Rattle.record_fields.specs.declared.faults.LineFault.TheVariants as faults
 
 abbrev pub is_header : List ℕ → Bool
 is_header line = bytes_eq line (codes "papilo-records 1")

@@ -6,9 +6,9 @@ use Rattle.undo_records.specs.Postsolve.{Postsolve}
 use Rattle.lp_model.specs.Flags.{Flags}
 use Rattle.undo_records.specs.Walk.{all_live, after}
 use Rattle.undo_records.specs.declared.undo.Undo.{Undo}
-use Rattle.record_words.specs.Words.{words_of}
+use Rattle.record_fields.specs.Words.{words_of}
 use Rattle.record_words.specs.Undos.{undo_in}
-use Rattle.record_words.specs.declared.faults.LineFault.{LineFault}
+use Rattle.record_fields.specs.declared.faults.LineFault.{LineFault}
 use Rattle.record_reader.specs.Labels.{label_of, with_label}
 use Rattle.record_reader.specs.Headings.{sense_of, duals_of, count_of, offset_of}
 use Rattle.record_reader.specs.declared.stages.Stage.{Stage}

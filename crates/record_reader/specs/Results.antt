@@ -4,7 +4,7 @@ use Rattle.rational.specs.Number.{Number}
 use Rattle.text_lines.specs.Lines.{raw_lines_of}
 use Rattle.record_words.specs.declared.lines.LineError.{LineError}
 use Rattle.record_words.specs.declared.lines.LineError.TheVariants as line
-use Rattle.record_words.specs.declared.faults.LineFault.{LineFault}
+use Rattle.record_fields.specs.declared.faults.LineFault.{LineFault}
 use Rattle.record_reader.specs.Progress.{Progress, moved_at, moved}
 use Rattle.record_reader.specs.Faults.{fault_at, line_fault}
 use Rattle.record_reader.specs.Reading.{fault_from, first_fault, progress_from, records_of}

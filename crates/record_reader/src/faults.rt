@@ -5,7 +5,7 @@ ghost use Rattle.record_reader.specs.Faults.{number_of_kind, kind_of};
 ghost use Rattle.record_reader.specs.declared.faults.TakeError.TheVariants.{NoMemory as TakeNoMemory};
 ghost use Rattle.record_reader.specs.declared.faults.RecordError.TheVariants.{NoMemory};
 
-use record_words::LineFault;
+use record_fields::faults::LineFault;
 use std::alloc::AllocError;
 use thiserror::Error;
 

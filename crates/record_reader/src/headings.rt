@@ -5,7 +5,7 @@ ghost use Rattle.std.specs.Option.{option_map};
 ghost use Rattle.fractions.specs.declared.Numbers.TheVariants.{Fractions};
 ghost use Rattle.number_texts.specs.Form.{cut, is_slash, is_point};
 ghost use Rattle.number_texts.specs.Read.{read_of};
-ghost use Rattle.record_words.specs.Ratios.{is_least, unsigned_part};
+ghost use Rattle.record_fields.specs.Ratios.{is_least, unsigned_part};
 ghost use Rattle.record_reader.specs.Headings.{is_header, sense_of, duals_of, counted, count_of, are_decimals, point_form, slash_form, has_written_form, offset_by, offset_of, is_end};
 ghost use Rattle.record_reader.specs.Results.{IsNumber};
 
@@ -14,7 +14,9 @@ use fractions::frac::Frac;
 use lp_model::Sense;
 use number_texts::form::{cut_point, cut_slash, is_digits, number};
 use number_texts::{Numbers, ReadNumber, read, write};
-use record_words::{LineError, LineFault, is_plain};
+use record_fields::faults::LineFault;
+use record_fields::ids::is_plain;
+use record_words::LineError;
 use std::alloc::Global;
 
 /// Whether a line is the header of this version.

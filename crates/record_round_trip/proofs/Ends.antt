@@ -8,10 +8,10 @@ use Rattle.undo_records.specs.declared.side.Side.TheVariants.{Lower, Upper}
 use Rattle.undo_records.specs.declared.side.RowFate.{RowFate}
 use Rattle.undo_records.specs.declared.side.RowFate.TheVariants.{Kept, Dropped}
 use Rattle.record_file.specs.Words.{ratio_word, lower_word, upper_word, letter_word, side_word, bound_word, fate_word}
-use Rattle.record_words.specs.Ends.{is_below, is_above, is_endless, end_of, letter_of, bound_of, fate_of, has_end}
-use Rattle.record_words.specs.Fields.{word_fault}
-use Rattle.record_words.specs.Ratios.{ratio_read, ratio_of, number_fault}
-use Rattle.record_words.specs.declared.rules.Field.TheVariants.{LowerEnd, UpperEnd, SomeEnd, SideLetter, BoundName, Fate}
+use Rattle.record_fields.specs.Ends.{is_below, is_above, is_endless, end_of, letter_of, bound_of, fate_of, has_end}
+use Rattle.record_fields.specs.Fields.{word_fault}
+use Rattle.record_fields.specs.Ratios.{ratio_read, ratio_of, number_fault}
+use Rattle.record_fields.specs.declared.fields.Field.TheVariants.{LowerEnd, UpperEnd, SomeEnd, SideLetter, BoundName, Fate}
 use Rattle.rational.specs.Lowest.{Fits}
 use Rattle.record_round_trip.specs.Ranges.{EndFits}
 use Rattle.record_round_trip.proofs.Numerals.{number_again, number_passes, no_word}

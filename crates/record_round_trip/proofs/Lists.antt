@@ -13,11 +13,11 @@ use Rattle.lp_model.specs.declared.terms.Term.{Term}
 use Rattle.lp_model.specs.Sparse.{Ascends, has}
 use Rattle.number_texts.specs.Form.{number}
 use Rattle.record_file.specs.Words.{ratio_word, pair_words, list_words}
-use Rattle.record_words.specs.Words.{comes_after, same_id}
-use Rattle.record_words.specs.Faults.{unless, lower}
-use Rattle.record_words.specs.Lists.{pairs_of, pairs_fault, has_count, list_fault, term_of, list_of, is_listed}
-use Rattle.record_words.specs.declared.faults.LineFault.{LineFault}
-use Rattle.record_words.specs.declared.faults.LineFault.TheVariants.{BadLine}
+use Rattle.record_fields.specs.Words.{comes_after, same_id}
+use Rattle.record_fields.specs.Faults.{unless, lower}
+use Rattle.record_fields.specs.Lists.{pairs_of, pairs_fault, has_count, list_fault, term_of, list_of, is_listed}
+use Rattle.record_fields.specs.declared.faults.LineFault.{LineFault}
+use Rattle.record_fields.specs.declared.faults.LineFault.TheVariants.{BadLine}
 use Rattle.record_round_trip.specs.Ranges.{IsId, ListFits}
 use Rattle.record_round_trip.proofs.Numerals.{plain_decimal, number_decimal, id_again, id_passes, number_again, entry_passes}
 use Rattle.record_round_trip.proofs.Words.{Whole, decimal_whole, ratio_whole}

@@ -24,9 +24,9 @@ use Rattle.number_texts.proofs.Cutting.{Digits, both_true, None_pass, None_pass-
 use Rattle.number_texts.proofs.Again.{is_digits-is, shown-is}
 use Rattle.number_texts.proofs.Marks.{IsMark, decimal-marks}
 use Rattle.record_file.specs.Words.{ratio_word}
-use Rattle.record_words.specs.Words.{is_plain, is_far, id_of, id_fault}
-use Rattle.record_words.specs.Ratios.{is_least, natural_read, whole_by, quotient_by, least_size, parts_read, unsigned_part, ratio_read, ratio_of, number_fault, entry_fault}
-use Rattle.record_words.specs.declared.faults.LineFault.TheVariants.{BadLine, BadId}
+use Rattle.record_fields.specs.Words.{is_plain, is_far, id_of, id_fault}
+use Rattle.record_fields.specs.Ratios.{is_least, natural_read, whole_by, quotient_by, least_size, parts_read, unsigned_part, ratio_read, ratio_of, number_fault, entry_fault}
+use Rattle.record_fields.specs.declared.faults.LineFault.TheVariants.{BadLine, BadId}
 
 -- ---- decimals
 pub first_digit : (n : ℕ) → 0 < n → n < 10 ^ 64 → 48 < get_or (decimal n) 0 0

@@ -33,12 +33,12 @@ use Rattle.undo_records.proofs.Walking as walking
 use Rattle.record_file.specs.Words.{list_words}
 use Rattle.record_file.specs.Fields.{rule_word, field_words}
 use Rattle.record_file.specs.RecordText.{undo_line}
-use Rattle.record_words.specs.Words.{words_of, same_id}
-use Rattle.record_words.specs.Lists.{is_listed}
-use Rattle.record_words.specs.Fields.{fields_fault}
+use Rattle.record_fields.specs.Words.{words_of, same_id}
+use Rattle.record_fields.specs.Lists.{is_listed}
+use Rattle.record_fields.specs.Fields.{fields_fault}
 use Rattle.record_words.specs.Rules.{rule_of, fields_of, has_list}
 use Rattle.record_words.specs.Undos.{agree, form_fault, names_live, rule_fault, undo_fault, rule_undo, undo_of, undo_in}
-use Rattle.record_words.specs.declared.faults.LineFault.TheVariants.{BadLine, BadId}
+use Rattle.record_fields.specs.declared.faults.LineFault.TheVariants.{BadLine, BadId}
 use Rattle.record_words.specs.declared.rules.Rule.{Rule}
 use Rattle.record_words.specs.declared.rules.Rule.TheVariants.{K1, K2, K3, K4, K5, K6, K7, K8, K9, K10, K11, K12, K13, K14, K15, K16, K17}
 use Rattle.record_round_trip.specs.Ranges.{IsId, ListFits, UndoFits}

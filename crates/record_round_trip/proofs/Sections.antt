@@ -24,10 +24,10 @@ use Rattle.undo_records.specs.declared.label.Label.{Label}
 use Rattle.undo_records.specs.declared.undo.Undo.{Undo}
 use Rattle.record_file.specs.Words.{live_word}
 use Rattle.record_file.specs.RecordText.{line, spaced, header_lines, label_line, offset_line, undo_line, end_line}
-use Rattle.record_words.specs.Words.{is_plain}
+use Rattle.record_fields.specs.Words.{is_plain}
 use Rattle.record_words.specs.Undos.{undo_fault, undo_in}
-use Rattle.record_words.specs.declared.faults.LineFault.{LineFault}
-use Rattle.record_words.specs.declared.faults.LineFault.TheVariants as line_faults
+use Rattle.record_fields.specs.declared.faults.LineFault.{LineFault}
+use Rattle.record_fields.specs.declared.faults.LineFault.TheVariants as line_faults
 use Rattle.record_reader.specs.Faults.{line_fault, unless, offset_fault, kind_in, same_flag, same_flags}
 use Rattle.record_reader.specs.Headings.{counted, count_of, offset_by, offset_of}
 use Rattle.lp_model.specs.Name.{is_break, is_name}

@@ -15,7 +15,7 @@ use Rattle.number_texts.proofs.Cutting.{None_pass, None_pass-append}
 use Rattle.number_texts.proofs.Marks.{IsMark, decimal-marks, written-marks}
 use Rattle.record_file.specs.Words.{ratio_word}
 use Rattle.record_file.specs.RecordText.{Line, spaced}
-use Rattle.record_words.specs.Words.{words_of}
+use Rattle.record_fields.specs.Words.{words_of}
 use Rattle.record_round_trip.proofs.Numerals.{ratio-marks}
 
 -- a space or a line feed

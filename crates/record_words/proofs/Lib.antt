@@ -1,4 +1,1 @@
-pub mod IdOrder
-pub mod FaultLaws
-pub mod WordLaws
 pub mod Soundness

@@ -20,20 +20,20 @@ use Rattle.undo_records.specs.Ids.{is_on, ids_of}
 use Rattle.undo_records.specs.Walk.{NamesLive, rows_named, columns_named}
 use Rattle.undo_records.specs.Sound.{IsSound}
 use Rattle.undo_records.specs.declared.undo.Undo.{Undo}
-use Rattle.record_words.specs.Words.{first, others, skip, is_plain, is_far, id_of, id_fault, same_id, comes_after}
-use Rattle.record_words.specs.Faults.{unless, lower}
-use Rattle.record_words.specs.Ratios.{ratio_read, ratio_of, number_in, number_fault, entry_fault}
-use Rattle.record_words.specs.Ends.{bound_of, has_end}
-use Rattle.record_words.specs.Lists.{pairs_of, pair_fault, pairs_fault, list_fault, term_of, list_of, is_listed}
-use Rattle.record_words.specs.Fields.{word_fault, rest_fault, fields_fault}
+use Rattle.record_fields.specs.Words.{first, others, skip, is_plain, is_far, id_of, id_fault, same_id, comes_after}
+use Rattle.record_fields.specs.Faults.{unless, lower}
+use Rattle.record_fields.specs.Ratios.{ratio_read, ratio_of, number_in, number_fault, entry_fault}
+use Rattle.record_fields.specs.Ends.{bound_of, has_end}
+use Rattle.record_fields.specs.Lists.{pairs_of, pair_fault, pairs_fault, list_fault, term_of, list_of, is_listed}
+use Rattle.record_fields.specs.Fields.{word_fault, rest_fault, fields_fault}
 use Rattle.record_words.specs.Rules.{fields_of, has_list}
 use Rattle.record_words.specs.Undos.{word, id, undo_of, agree, names_live, form_fault, rule_fault, rule_undo}
-use Rattle.record_words.specs.declared.faults.LineFault.{LineFault}
-use Rattle.record_words.specs.declared.faults.LineFault.TheVariants.{BadLine, BadId, NumberPast}
+use Rattle.record_fields.specs.declared.faults.LineFault.{LineFault}
+use Rattle.record_fields.specs.declared.faults.LineFault.TheVariants.{BadLine, BadId, NumberPast}
 use Rattle.record_words.specs.declared.rules.Rule.{Rule}
 use Rattle.record_words.specs.declared.rules.Rule.TheVariants.{K1, K2, K3, K4, K5, K6, K7, K8, K9, K10, K11, K12, K13, K14, K15, K16, K17}
-use Rattle.record_words.specs.declared.rules.Field.{Field}
-use Rattle.record_words.proofs.IdOrder.{same_word}
+use Rattle.record_fields.specs.declared.fields.Field.{Field}
+use Rattle.record_fields.proofs.IdOrder.{same_word}
 
 -- ---- no fault in either
 pub lower_none : (a b : Option LineFault) → lower a b ≡ None → (a ≡ None) × (b ≡ None)

@@ -1,10 +1,3 @@
-pub mod Words
-pub mod Faults
-pub mod Ratios
-pub mod Ends
-pub mod Lists
-pub mod Views
-pub mod Fields
 pub mod Rules
 pub mod Undos
 pub mod Results

@@ -2,7 +2,7 @@
 use Rattle.std.specs.Prelude.{◌≡◌, ℕ, List, Some, None, Result, Ok, Err}
 use Rattle.lp_model.specs.Flags.{Flags}
 use Rattle.undo_records.specs.declared.undo.Undo.{Undo}
-use Rattle.record_words.specs.Words.{words_of}
+use Rattle.record_fields.specs.Words.{words_of}
 use Rattle.record_words.specs.Undos.{rule_fault, undo_of, undo_fault, undo_in}
 use Rattle.record_words.specs.declared.lines.LineError.{LineError}
 use Rattle.record_words.specs.declared.lines.LineError.TheVariants.{Fault, NoMemory}

@@ -3,8 +3,8 @@ use Rattle.std.specs.Prelude.{ℕ, Bool, true, false, List, [], ◌∷◌, Optio
 use Rattle.std.specs.Str.{bytes_eq}
 use Rattle.record_words.specs.declared.rules.Rule.{Rule}
 use Rattle.record_words.specs.declared.rules.Rule.TheVariants.{K1, K2, K3, K4, K5, K6, K7, K8, K9, K10, K11, K12, K13, K14, K15, K16, K17}
-use Rattle.record_words.specs.declared.rules.Field.{Field}
-use Rattle.record_words.specs.declared.rules.Field.TheVariants.{Id, Number, Entry, LowerEnd, UpperEnd, SomeEnd, SideLetter, BoundName, Fate}
+use Rattle.record_fields.specs.declared.fields.Field.{Field}
+use Rattle.record_fields.specs.declared.fields.Field.TheVariants.{Id, Number, Entry, LowerEnd, UpperEnd, SomeEnd, SideLetter, BoundName, Fate}
 
 -- the first rule whose name a word is
 abbrev pub named : List (List ℕ × Rule) → List ℕ → Option Rule

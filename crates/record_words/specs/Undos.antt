@@ -12,15 +12,15 @@ use Rattle.undo_records.specs.declared.side.RowFate.{RowFate}
 use Rattle.undo_records.specs.declared.side.RowFate.TheVariants.{Kept}
 use Rattle.undo_records.specs.declared.undo.Undo.{Undo}
 use Rattle.undo_records.specs.declared.undo.Undo.TheVariants.{EmptyRow, SingletonRow, FixedColumn, RoundBounds, RedundantRow, RedundantSide, ForcingRow, TightenBound, TightenCoefficient, DualFix, Dominated, Doubleton, FreeSingleton, SlackSingleton, ParallelRows, ParallelColumns, EmptyColumn}
-use Rattle.record_words.specs.Words.{first, others, skip, id_of, same_id}
-use Rattle.record_words.specs.Faults.{unless, lower}
-use Rattle.record_words.specs.Ratios.{ratio_of}
-use Rattle.record_words.specs.Ends.{end_of, letter_of, bound_of, fate_of, has_end}
-use Rattle.record_words.specs.Lists.{list_of, is_listed}
-use Rattle.record_words.specs.Fields.{fields_fault}
+use Rattle.record_fields.specs.Words.{first, others, skip, id_of, same_id}
+use Rattle.record_fields.specs.Faults.{unless, lower}
+use Rattle.record_fields.specs.Ratios.{ratio_of}
+use Rattle.record_fields.specs.Ends.{end_of, letter_of, bound_of, fate_of, has_end}
+use Rattle.record_fields.specs.Lists.{list_of, is_listed}
+use Rattle.record_fields.specs.Fields.{fields_fault}
 use Rattle.record_words.specs.Rules.{rule_of, fields_of, has_list}
-use Rattle.record_words.specs.declared.faults.LineFault.{LineFault}
-use Rattle.record_words.specs.declared.faults.LineFault.TheVariants.{BadLine, BadId}
+use Rattle.record_fields.specs.declared.faults.LineFault.{LineFault}
+use Rattle.record_fields.specs.declared.faults.LineFault.TheVariants.{BadLine, BadId}
 use Rattle.record_words.specs.declared.rules.Rule.{Rule}
 use Rattle.record_words.specs.declared.rules.Rule.TheVariants.{K1, K2, K3, K4, K5, K6, K7, K8, K9, K10, K11, K12, K13, K14, K15, K16, K17}
 

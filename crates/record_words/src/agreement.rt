@@ -2,16 +2,16 @@
 
 ghost use Rattle.std.specs.Prelude.{◌≡◌, zero, suc};
 ghost use Rattle.record_words.specs.Undos.{agree, form_fault, word, differ, is_left_out};
-ghost use Rattle.record_words.specs.Words.{skip};
-ghost use Rattle.record_words.specs.Views.{words_left};
+ghost use Rattle.record_fields.specs.Words.{skip};
+ghost use Rattle.record_fields.specs.Views.{words_left};
 
-use crate::ends::{bound_of, has_end};
-use crate::faults::{LineFault, lower, unless};
-use crate::fields::fields_fault;
-use crate::ids::same_id;
-use crate::lists::is_listed;
 use crate::rules::{Rule, fields_of, has_list};
-use crate::words::{Words, next_word};
+use record_fields::ends::{bound_of, has_end};
+use record_fields::faults::{LineFault, lower, unless};
+use record_fields::fields::fields_fault;
+use record_fields::ids::same_id;
+use record_fields::lists::is_listed;
+use record_fields::words::{Words, next_word};
 
 /// The words behind so many.
 fn skip(count: usize, words: Words<'_>) -> Words<'_>

@@ -6,14 +6,14 @@ ghost use Rattle.lp_model.specs.Flags.{Flags};
 ghost use Rattle.undo_records.specs.Walk.{NamesLive};
 ghost use Rattle.record_words.specs.Undos.{names_live, undo_fault, undo_in};
 ghost use Rattle.record_words.specs.Results.{IsUndo, IsRuleUndo};
-ghost use Rattle.record_words.specs.Views.{words_left};
+ghost use Rattle.record_fields.specs.Views.{words_left};
 ghost use Rattle.record_words.specs.declared.lines.LineError.TheVariants.{NoMemory};
 
 use crate::agreement::form_fault;
-use crate::faults::LineFault;
 use crate::rules::{Rule, rule_of};
 use crate::undos::undo_in;
-use crate::words::{Words, next_word, words_of};
+use record_fields::faults::{LineFault, lower, unless};
+use record_fields::words::{Words, next_word, words_of};
 use std::alloc::{AllocError, Global};
 use undo_records::{Undo, Walk};
 
@@ -42,7 +42,7 @@ fn is_live(walk: &Walk, undo: &Undo) -> bool
 }
 
 /// The record that a rule's words are.
-#[tactic(auto, using(crate::proofs::FaultLaws::lower_id))]
+#[tactic(auto, using(record_fields::proofs::FaultLaws::lower_id))]
 fn read_rule(alloc: Global, walk: &Walk, rule: Rule, words: Words<'_>) -> Result<Undo, LineError>
     ensures { IsRuleUndo walk.now rule (words_left words.entry) result }
 {
@@ -53,12 +53,9 @@ fn read_rule(alloc: Global, walk: &Walk, rule: Rule, words: Words<'_>) -> Result
         _ => {}
     }
     let undo = undo_in(alloc, rule, words)?;
-    if !is_live(walk, &undo) {
-        return Err(LineError::Fault(LineFault::BadId));
-    }
-    match fault {
+    match lower(fault, unless(is_live(walk, &undo), LineFault::BadId)) {
         None => Ok(undo),
-        Some(other) => Err(LineError::Fault(other)),
+        Some(worst) => Err(LineError::Fault(worst)),
     }
 }
 

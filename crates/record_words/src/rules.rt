@@ -3,6 +3,8 @@
 ghost use Rattle.std.specs.Prelude.{◌≡◌};
 ghost use Rattle.record_words.specs.Rules.{rule_of, fields_of, has_list};
 
+use record_fields::fields::Field;
+
 /// A rule, by the name that it has in the record text.
 #[derive(Clone, Copy, Debug, PartialEq, Eq)]
 pub enum Rule {
@@ -40,29 +42,6 @@ pub enum Rule {
     K16,
     /// An empty column.
     K17,
-}
-
-/// What a word of a record has to be.
-#[derive(Clone, Copy, Debug, PartialEq, Eq)]
-pub enum Field {
-    /// The id of a row or a column.
-    Id,
-    /// A number.
-    Number,
-    /// A number that is not 0.
-    Entry,
-    /// A number or `-inf`.
-    LowerEnd,
-    /// A number or `inf`.
-    UpperEnd,
-    /// A number or an infinity.
-    SomeEnd,
-    /// `L` or `U`.
-    SideLetter,
-    /// `lower` or `upper`.
-    BoundName,
-    /// `keep` or `drop`.
-    Fate,
 }
 
 /// The fields of a rule's record, but for its list.

@@ -2,19 +2,19 @@
 
 ghost use Rattle.std.specs.Prelude.{◌≡◌, IfOk};
 ghost use Rattle.record_words.specs.Undos.{undo_of, HasIdsAlone};
-ghost use Rattle.record_words.specs.Words.{first, others, id_of};
-ghost use Rattle.record_words.specs.Ratios.{ratio_of};
-ghost use Rattle.record_words.specs.Ends.{end_of};
-ghost use Rattle.record_words.specs.Lists.{list_of};
+ghost use Rattle.record_fields.specs.Words.{first, others, id_of};
+ghost use Rattle.record_fields.specs.Ratios.{ratio_of};
+ghost use Rattle.record_fields.specs.Ends.{end_of};
+ghost use Rattle.record_fields.specs.Lists.{list_of};
 ghost use Rattle.record_words.specs.declared.rules.Rule.TheVariants.{K2, K3, K7, K8, K12, K13, K14, K15, K16};
-ghost use Rattle.record_words.specs.Views.{words_left};
+ghost use Rattle.record_fields.specs.Views.{words_left};
 
-use crate::ends::{bound_of, end_in, fate_of, letter_of};
-use crate::ids::id_in;
-use crate::lists::list_in;
-use crate::ratios::number_in;
 use crate::rules::Rule;
-use crate::words::{Words, next_word};
+use record_fields::ends::{bound_of, end_in, fate_of, letter_of};
+use record_fields::ids::id_in;
+use record_fields::lists::list_in;
+use record_fields::ratios::number_in;
+use record_fields::words::{Words, next_word};
 use std::alloc::{AllocError, Global};
 use undo_records::{
     Dominated, Doubleton, DualFix, EmptyColumn, EmptyRow, EndApart, FixedColumn, ForcingRow,

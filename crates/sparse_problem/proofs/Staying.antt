@@ -11,7 +11,7 @@ use Rattle.problem_model.specs.Matrices.{live_only}
 use Rattle.problem_model.specs.Problems.{column_at, row_at, row_entries}
 use Rattle.problem_model.specs.Raised.{numbered}
 use Rattle.problem_model.specs.Sparse.{Sparse}
-use Rattle.problem_data.specs.Putting.{entries_set}
+use Rattle.entry_lines.specs.Putting.{entries_set}
 use Rattle.row_spans.specs.declared.span.Span.{Span}
 use Rattle.row_spans.specs.Spans.{span_of, spans_of}
 use Rattle.problem_laws.proofs.Entries.{live_only-same}

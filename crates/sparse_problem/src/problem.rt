@@ -7,7 +7,7 @@ ghost use Rattle.problem_model.specs.Edits.{bounds_set, column_deleted, cost_set
 ghost use Rattle.problem_model.specs.Parts.{changes_of};
 ghost use Rattle.problem_model.specs.Problems.{bounds_at, column_at, column_entries, cost_at, IsSparse, row_at, row_entries, sides_at};
 ghost use Rattle.problem_model.specs.Programs.{IsProblemOf, written_program};
-ghost use Rattle.problem_data.specs.Putting.{AreInside, entries_given, entries_set, GivesBack, IdsAscend};
+ghost use Rattle.entry_lines.specs.Putting.{AreInside, entries_given, entries_set, GivesBack, IdsAscend};
 ghost use Rattle.problem_data.specs.Renumbered.{changes_put, IsThere};
 ghost use Rattle.row_spans.specs.Spans.{spans_of};
 ghost use Rattle.kept_sums.specs.KeptSums.{AreSumsOf, crossed_count};
@@ -17,11 +17,12 @@ use crate::kept_rows::{
     forget_all, forget_rows, kept_of, lose_in_rows, move_in_rows, nothing_kept, put, sums_of_row,
 };
 use crate::row_totals::totals_of_row;
+use entry_lines::Replaced;
 use fractions::ext::Ext;
 use fractions::frac::Frac;
 use kept_sums::{KeptSums, RowTotals};
 use lp_model::{Program, Term, Terms};
-use problem_data::{ProblemData, Replaced};
+use problem_data::ProblemData;
 use problem_model::{Bounds, Line, Part, Sides};
 use std::alloc::{AllocError, Global};
 use std::marker::Model;

@@ -2,11 +2,7 @@
 #![tactic(auto)]
 
 mod event;
-#[cfg(test)]
-mod models;
 mod seats;
-#[cfg(test)]
-mod tests;
 mod worker;
 mod world;
 

@@ -27,6 +27,3 @@ pub use side::{RowFate, Side};
 pub use undo::Undo;
 pub use walk::Walk;
 pub use whole_run::are_sound;
-
-#[cfg(test)]
-mod tests;

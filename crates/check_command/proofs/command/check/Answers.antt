@@ -1,5 +1,5 @@
 use Rattle.std.proofs.lemmas.Result.{IfOk-weaker}
-use Rattle.command_line.specs.Seen.{check_names_of}
+use Rattle.command_words.specs.Seen.{check_names_of}
 use Rattle.endings.specs.declared.reads.TheConstants.{INPUT_LIMIT, SOLUTION_LIMIT}
 use Rattle.endings.proofs.Earlier.{finds_there}
 use Rattle.check_command.proofs.command.check.Goals as goal

@@ -1,6 +1,7 @@
 use Rattle.std.proofs.Common.{inl, sym, subst, ◌∙◌}
 use Rattle.file_ports.specs.Ports.{Grown}
-use Rattle.command_line.specs.Line.{asked, texts}
+use Rattle.command_app.specs.Line.{texts}
+use Rattle.command_line.specs.Line.{asked}
 use Rattle.endings.specs.Ending.{status_of, text_of}
 use Rattle.papilo.proofs.Quiet.{kept, quiet}
 use Rattle.papilo.proofs.Said.{ends_at, status_known, there, unwritten}

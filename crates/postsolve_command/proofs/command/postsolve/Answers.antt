@@ -1,5 +1,5 @@
 use Rattle.std.proofs.Common.{◌≡◌, refl}
-use Rattle.command_line.specs.Seen.{postsolve_names_of}
+use Rattle.command_words.specs.Seen.{postsolve_names_of}
 use Rattle.postsolve_command.specs.declared.refusal.Refusal.TheVariants.{Program, Records, Solution, Stopped}
 use Rattle.postsolve_command.proofs.Brought.{found_so, found_there, refused_as}
 use Rattle.postsolve_command.proofs.Before.{kept_since, rose_since, unsettled_since, written_since}

@@ -1,5 +1,5 @@
 use Rattle.std.proofs.Common.{Some, refl, inr}
-use Rattle.command_line.specs.Seen.{names_of}
+use Rattle.command_words.specs.Seen.{names_of}
 use Rattle.endings.specs.declared.reads.TheConstants.{INPUT_LIMIT}
 use Rattle.endings.proofs.Earlier.{finds_there, program_read}
 use Rattle.presolve_command.specs.Presolved.{IsMadeOf}

@@ -3,7 +3,7 @@ use Rattle.std.specs.List.{All}
 use Rattle.lp_model.specs.declared.terms.Term.{Term}
 use Rattle.problem_model.specs.declared.edit.Edit.TheVariants as edit
 use Rattle.problem_model.specs.Problems.{row_at}
-use Rattle.problem_data.specs.Putting.{entries_set}
+use Rattle.entry_lines.specs.Putting.{entries_set}
 use Rattle.problem_commits.proofs.GivingBack.{run_goes_on, run_live, run_same}
 use Rattle.problem_commits.proofs.entries.set_run.Goals as goal
 

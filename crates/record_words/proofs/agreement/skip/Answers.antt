@@ -1,6 +1,6 @@
 use Rattle.std.proofs.Common.{◌≡◌, ◌∙◌, ◌<◌, sym, arith}
-use Rattle.record_words.specs.Views.{words_left}
-use Rattle.record_words.proofs.WordLaws.{skip-next}
+use Rattle.record_fields.specs.Views.{words_left}
+use Rattle.record_fields.proofs.WordLaws.{skip-next}
 use Rattle.record_words.proofs.agreement.skip.Goals as goal
 
 pub loop-preserved : goal.loop-preserved

@@ -1,6 +1,6 @@
 use Rattle.std.proofs.Common.{◌≡◌, ◌-◌}
-use Rattle.record_words.specs.Words.{skip}
-use Rattle.record_words.specs.Views.{words_left}
+use Rattle.record_fields.specs.Words.{skip}
+use Rattle.record_fields.specs.Views.{words_left}
 use Rattle.record_words.proofs.agreement.skip.Given as goal
 
 abbrev pub invariant-loop : goal.invariant-loop

@@ -1,4 +1,4 @@
-use Rattle.record_words.specs.Words.{first, others}
+use Rattle.record_fields.specs.Words.{first, others}
 use Rattle.record_words.specs.Rules.{rule_of}
 use Rattle.record_words.proofs.Soundness.{sound_by}
 use Rattle.record_words.proofs.lines.read_records_are_sound.Goals as goal

@@ -3,7 +3,7 @@ use Rattle.lp_model.specs.declared.program.RowDef.{RowDef}
 use Rattle.lp_model.specs.declared.program.ColumnDef.{ColumnDef}
 use Rattle.lp_model.specs.Turning.{signed}
 use Rattle.problem_model.specs.Programs.{bounds_of, line_of, sides_of}
-use Rattle.problem_data.specs.Across.{across}
+use Rattle.entry_lines.specs.Across.{across}
 use Rattle.problem_data.proofs.MadeProblems.{parts_sparse}
 use Rattle.problem_data.proofs.problem.ProblemData.from_program.Goals as goal
 

@@ -5,9 +5,9 @@ use Rattle.problem_model.specs.declared.line.Line.{Line}
 use Rattle.problem_model.specs.Matrices.{line_at}
 use Rattle.problem_model.specs.Problems.{row_at, column_at}
 use Rattle.problem_model.specs.Sparse.{Sparse}
-use Rattle.problem_data.specs.Putting.{AreWithin, rows_held, held_of, line_puts, entries_set, GivesBack}
+use Rattle.entry_lines.specs.Putting.{AreWithin, rows_held, held_of, line_puts, entries_set, GivesBack}
 use Rattle.problem_data.proofs.Edited.{column_live}
-use Rattle.problem_data.proofs.Putting.{all_rows_live, all_gives_back, all_set, all_sound, counted_within, held_there, rows_inside}
+use Rattle.entry_lines.proofs.Putting.{all_rows_live, all_gives_back, all_set, all_sound, counted_within, held_there, rows_inside}
 use Rattle.problem_data.proofs.problem.ProblemData.set_entries.Goals as goal
 
 pub line_with_terms-requires-clause-counted : goal.line_with_terms-requires-clause-counted

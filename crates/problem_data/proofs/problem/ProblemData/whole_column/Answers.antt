@@ -1,4 +1,4 @@
-use Rattle.problem_data.proofs.LiveTerms.{whole_column_found}
+use Rattle.entry_lines.proofs.LiveTerms.{whole_column_found}
 use Rattle.problem_data.proofs.problem.ProblemData.whole_column.Goals as goal
 
 pub returns : goal.returns

@@ -1,7 +1,7 @@
 use Rattle.std.proofs.Common.{◌∙◌, ap, subst, sym}
 use Rattle.problem_model.specs.Problems.{column_at}
 use Rattle.problem_model.specs.Sparse.{Sparse}
-use Rattle.problem_data.specs.Putting.{entries_set}
+use Rattle.entry_lines.specs.Putting.{entries_set}
 use Rattle.sparse_problem.specs.KeptRows.{AreKept}
 use Rattle.sparse_problem.proofs.Mending.{kept_but}
 use Rattle.sparse_problem.proofs.Staying.{entries_other}

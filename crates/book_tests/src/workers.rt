@@ -1,0 +1,324 @@
+//! Two workers on one book, and a book with none.
+
+use crate::models::{Model, problem};
+use fractions::Numbers;
+use instances::{Chunk, Proposal, Tally, is_enabled, scan};
+use line_groups::Parallels;
+use presolve_model::{Instance, Outcome, Part, Reduction, Rule, Verdict};
+use sparse_problem::Problem;
+use std::alloc::{AllocError, Global};
+use std::process::Abort;
+use std::test::Fail;
+use txn_book::Book;
+use txn_world::{Event, World};
+
+/// x whole in [0, 7/2]; 2x <= 4.
+const PLAIN: Model = Model {
+    entry: (2, 1),
+    side: (4, 1),
+    lower: (0, 1),
+    upper: (7, 2),
+    second: false,
+};
+
+/// What is done, and what is to come of it.
+#[derive(Clone, Copy)]
+enum Step {
+    /// A worker freezes the problem.
+    Freeze(u32),
+    /// A worker proposes all instances of a rule on its frozen version: so many.
+    Find(u32, Rule, usize),
+    /// A worker proposes all instances of a rule on the other problem: so many.
+    FindOther(u32, Rule, usize),
+    /// A worker commits, and this is the answer.
+    Commit(u32, Option<Outcome>),
+}
+
+/// The program of the book, the numbers and the limit, another program, and what the workers do.
+struct Story {
+    model: Model,
+    numbers: Numbers,
+    limit: u64,
+    other: Model,
+    steps: &'static [Step],
+}
+
+const STORIES: [Story; 9] = [
+    // what the other worker read no longer stands; the first proposal is committed first
+    Story {
+        model: PLAIN,
+        numbers: Numbers::Fractions,
+        limit: 9,
+        other: PLAIN,
+        steps: &[
+            Step::Commit(0, None),
+            Step::Freeze(0),
+            Step::Freeze(1),
+            Step::Find(0, Rule::SingletonRow, 1),
+            Step::Find(0, Rule::RoundBounds, 1),
+            Step::Find(1, Rule::RoundBounds, 1),
+            Step::Commit(0, Some(Outcome::Applied { place: 1 })),
+            Step::Commit(1, Some(Outcome::Stale { place: 0 })),
+            Step::Commit(0, Some(Outcome::Stale { place: 0 })),
+            Step::Commit(0, None),
+            Step::Freeze(1),
+            Step::Find(1, Rule::RoundBounds, 0),
+            Step::Find(1, Rule::FixedColumn, 0),
+            Step::Find(1, Rule::EmptyColumn, 1),
+            Step::Find(0, Rule::RoundBounds, 1),
+            Step::Commit(1, Some(Outcome::Applied { place: 2 })),
+            Step::Freeze(1),
+            Step::Find(1, Rule::FixedColumn, 1),
+            Step::Commit(1, Some(Outcome::Applied { place: 3 })),
+            Step::Commit(1, None),
+        ],
+    },
+    // a limit of 1
+    Story {
+        model: Model {
+            side: (5, 1),
+            ..PLAIN
+        },
+        numbers: Numbers::Fractions,
+        limit: 1,
+        other: PLAIN,
+        steps: &[
+            Step::Freeze(0),
+            Step::Find(0, Rule::SingletonRow, 1),
+            Step::Commit(0, Some(Outcome::Applied { place: 1 })),
+            Step::Freeze(0),
+            Step::Find(0, Rule::RoundBounds, 1),
+            Step::Commit(0, Some(Outcome::Full)),
+        ],
+    },
+    // nothing is applied after a verdict, which needs no room
+    Story {
+        model: Model {
+            entry: (-1, 1),
+            side: (-5, 1),
+            ..PLAIN
+        },
+        numbers: Numbers::Fractions,
+        limit: 1,
+        other: PLAIN,
+        steps: &[
+            Step::Freeze(0),
+            Step::Freeze(1),
+            Step::Find(0, Rule::SingletonRow, 1),
+            Step::Find(1, Rule::RoundBounds, 1),
+            Step::Commit(0, Some(Outcome::Applied { place: 1 })),
+            Step::Freeze(0),
+            Step::Find(0, Rule::CrossedBounds, 1),
+            Step::Commit(0, Some(Outcome::Applied { place: 2 })),
+            Step::Commit(
+                1,
+                Some(Outcome::Closed {
+                    verdict: Verdict::CrossedBounds { column: 0 },
+                }),
+            ),
+        ],
+    },
+    // x <= 1/3 is no decimal number
+    Story {
+        model: Model {
+            entry: (3, 1),
+            side: (1, 1),
+            ..PLAIN
+        },
+        numbers: Numbers::Decimal,
+        limit: 9,
+        other: PLAIN,
+        steps: &[
+            Step::Freeze(0),
+            Step::Find(0, Rule::SingletonRow, 1),
+            Step::Commit(0, Some(Outcome::NotDecimal)),
+        ],
+    },
+    // x >= 10^21 is past the range
+    Story {
+        model: Model {
+            entry: (-1, 1000),
+            side: (-1_000_000_000_000_000_000, 1),
+            ..PLAIN
+        },
+        numbers: Numbers::Fractions,
+        limit: 9,
+        other: PLAIN,
+        steps: &[
+            Step::Freeze(0),
+            Step::Find(0, Rule::SingletonRow, 1),
+            Step::Commit(0, Some(Outcome::Past)),
+        ],
+    },
+    // a new bound whose denominator has no room
+    Story {
+        model: Model {
+            entry: (1 << 100, 1),
+            side: (1, 1 << 100),
+            ..PLAIN
+        },
+        numbers: Numbers::Fractions,
+        limit: 9,
+        other: PLAIN,
+        steps: &[
+            Step::Freeze(0),
+            Step::Find(0, Rule::SingletonRow, 1),
+            Step::Commit(0, Some(Outcome::Past)),
+        ],
+    },
+    // another program: its bounds differ
+    Story {
+        model: PLAIN,
+        numbers: Numbers::Fractions,
+        limit: 9,
+        other: Model {
+            upper: (5, 2),
+            ..PLAIN
+        },
+        steps: &[
+            Step::FindOther(1, Rule::RoundBounds, 1),
+            Step::Commit(1, Some(Outcome::Stale { place: 0 })),
+        ],
+    },
+    // another program: its entries are the same, and its sides differ
+    Story {
+        model: PLAIN,
+        numbers: Numbers::Fractions,
+        limit: 9,
+        other: Model {
+            side: (3, 1),
+            ..PLAIN
+        },
+        steps: &[
+            Step::FindOther(1, Rule::SingletonRow, 1),
+            Step::Commit(1, Some(Outcome::Stale { place: 1 })),
+        ],
+    },
+    // another program: what it has at the first id stands here too, and the second id is past the ids
+    Story {
+        model: PLAIN,
+        numbers: Numbers::Fractions,
+        limit: 9,
+        other: Model {
+            second: true,
+            ..PLAIN
+        },
+        steps: &[
+            Step::FindOther(1, Rule::RoundBounds, 2),
+            Step::Commit(1, Some(Outcome::Applied { place: 1 })),
+            Step::Commit(1, Some(Outcome::Stale { place: 0 })),
+        ],
+    },
+];
+
+/// The enabled instances of a rule on a problem.
+fn found_in(
+    alloc: Global,
+    problem: &Problem,
+    tally: &Tally,
+    rule: Rule,
+) -> Result<Vec<Proposal>, AllocError> {
+    let groups = Parallels::of(alloc, problem)?;
+    scan(alloc, problem, &groups, tally, 0, rule, Chunk::new(0))
+}
+
+/// A worker proposes the instances of a rule on a problem.
+fn propose(
+    rt: &impl Abort,
+    alloc: Global,
+    world: &mut World,
+    worker: u32,
+    problem: &Problem,
+    tally: &Tally,
+    (rule, count): (Rule, usize),
+) -> Result<(), Fail> {
+    let found = found_in(alloc, problem, tally, rule)?;
+    assert_eq!(rt; found.len(), count);
+    for proposal in found {
+        let answer = world.step(alloc, Event::Propose(worker, proposal))?;
+        assert_eq!(rt; answer, None);
+    }
+    Ok(())
+}
+
+/// A worker proposes the instances of a rule on its frozen version.
+fn propose_frozen(
+    rt: &impl Abort,
+    alloc: Global,
+    world: &mut World,
+    worker: u32,
+    wanted: (Rule, usize),
+) -> Result<(), Fail> {
+    let Some(version) = world.frozen(worker) else {
+        assert!(rt; false);
+        return Ok(());
+    };
+    let problem = version.problem().copy(alloc)?;
+    let tally = version.tally().copy(alloc)?;
+    propose(rt, alloc, world, worker, &problem, &tally, wanted)
+}
+
+/// A step of a story.
+fn take(
+    rt: &impl Abort,
+    alloc: Global,
+    world: &mut World,
+    other: &Problem,
+    step: Step,
+) -> Result<(), Fail> {
+    match step {
+        Step::Freeze(worker) => {
+            let answer = world.step(alloc, Event::Freeze(worker))?;
+            assert_eq!(rt; answer, None);
+        }
+        Step::Find(worker, rule, count) => {
+            propose_frozen(rt, alloc, world, worker, (rule, count))?;
+        }
+        Step::FindOther(worker, rule, count) => {
+            let tally = Tally::new(alloc, 2)?;
+            propose(rt, alloc, world, worker, other, &tally, (rule, count))?;
+        }
+        Step::Commit(worker, wanted) => {
+            let answer = world.step(alloc, Event::Commit(worker))?;
+            assert_eq!(rt; answer, wanted);
+        }
+    }
+    Ok(())
+}
+
+#[test]
+fn two_workers(rt: HostRuntime) -> Result<(), Fail> {
+    let alloc = rt.alloc();
+    for story in &STORIES {
+        let first = problem(&rt, alloc, story.numbers, &story.model)?;
+        let other = problem(&rt, alloc, story.numbers, &story.other)?;
+        let book = Book::open(alloc, first, story.numbers, story.limit)?;
+        let mut world = World::new(alloc, book);
+        for step in story.steps {
+            take(&rt, alloc, &mut world, &other, *step)?;
+        }
+        world.stands();
+        assert_eq!(rt; world.book().limit(), story.limit);
+    }
+    Ok(())
+}
+
+#[test]
+fn applied_at_once(rt: HostRuntime) -> Result<(), Fail> {
+    let alloc = rt.alloc();
+    let plain = problem(&rt, alloc, Numbers::Fractions, &PLAIN)?;
+    let mut book = Book::open(alloc, plain, Numbers::Fractions, 1)?;
+    let mut changed = Vec::new(alloc);
+    let row = Instance::Reduction(Reduction::SingletonRow { row: 0 });
+    assert!(rt; is_enabled(book.problem(), row));
+    let outcome = book.apply(alloc, row, &mut changed);
+    assert_eq!(rt; outcome, Outcome::Applied { place: 1 });
+    for part in [Part::Row(0), Part::Sides(0), Part::Col(0), Part::Bounds(0)] {
+        assert!(rt; changed.contains(&part));
+    }
+    let column = Instance::Reduction(Reduction::EmptyColumn { column: 0 });
+    assert!(rt; is_enabled(book.problem(), column));
+    let outcome = book.apply(alloc, column, &mut changed);
+    assert_eq!(rt; outcome, Outcome::Full);
+    Ok(())
+}

@@ -1,0 +1,22 @@
+-- The command is one that clap's clauses are exact for.
+use Rattle.std.proofs.Common.{◌≡◌, Bool, true, false, List, refl, sym, subst}
+use Rattle.clap.specs.Words.{is_simple, is_simple_and_free, App, Text, takes}
+use Rattle.command_app.specs.Line.{check_app, dual_app, first_app, limited_app, line_app, postsolve_app, postsolve_words, presolve_app, presolve_words, is_taken}
+
+pub line_is_simple : is_simple line_app ≡ true
+unfolding line_app first_app check_app presolve_app dual_app limited_app presolve_words postsolve_app postsolve_words
+line_is_simple = refl
+
+pub line_is_free : is_simple_and_free line_app ≡ true
+unfolding line_app first_app check_app presolve_app dual_app limited_app presolve_words postsolve_app postsolve_words
+line_is_free = refl
+
+not_true : (b : Bool) → (b ≡ true → ⊥) → b ≡ false
+not_true true never = absurd (never refl)
+not_true false never = refl
+
+-- where the words being taken would mean what is not so, they are not taken
+pub refused_by : (app : App) (words : List Text) (P : Type 0) → app ≡ line_app → (takes app words ≡ true → P) → (P → ⊥) → is_taken words ≡ false
+unfolding is_taken
+refused_by app words P is passes never =
+    not_true (takes line_app words) (λ t. never (passes (let Q : App → Type 0 = λ a. takes a words ≡ true in subst Q (sym is) t)))

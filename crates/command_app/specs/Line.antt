@@ -1,0 +1,70 @@
+-- The command line, as clap's own definitions speak of it.
+use Rattle.std.specs.Prelude.{ℕ, List, codes, true, Bool, Option, Some, String, map, string_bytes}
+use Rattle.std.specs.declared.alloc.Global.{Global}
+use Rattle.clap.specs.Words.{App, Row, Rule, Text, new_app, new_rule, subcommand_of, takes, fault_of, Kinds, with_rule, with_subcommand}
+use Rattle.clap.specs.declared.builder.value_parser.ValueParser.TheVariants.{Unsigned}
+use Rattle.clap.specs.declared.builder.ArgAction.TheVariants.{Set, SetTrue}
+use Rattle.command_words.specs.declared.words.TheConstants.{MOST_RECORDS}
+
+-- a required word
+abbrev pub word_rule : Text → Rule
+word_rule id = record (new_rule id) { action = Some Set; required = true }
+
+-- a number from 1 up to this, after `--id`
+abbrev pub number_rule : Text → ℕ → Rule
+number_rule id most = record (new_rule id) { long = Some id; parser = Some (Unsigned 1 most) }
+
+-- an option `--id`
+abbrev pub flag_rule : Text → Rule
+flag_rule id = record (new_rule id) { long = Some id; action = Some SetTrue }
+
+-- presolve IN OUT REC
+unfoldable pub presolve_words : App
+presolve_words = with_rule (with_rule (with_rule (new_app (codes "presolve")) (word_rule (codes "in"))) (word_rule (codes "out"))) (word_rule (codes "rec"))
+
+-- presolve IN OUT REC [--limit N]
+unfoldable pub limited_app : App
+limited_app = with_rule presolve_words (number_rule (codes "limit") MOST_RECORDS)
+
+-- presolve IN OUT REC [--limit N] [--dual]
+unfoldable pub dual_app : App
+dual_app = with_rule limited_app (flag_rule (codes "dual"))
+
+-- presolve IN OUT REC [--limit N] [--dual] [--fractions] [--fixed]
+unfoldable pub presolve_app : App
+presolve_app = with_rule (with_rule dual_app (flag_rule (codes "fractions"))) (flag_rule (codes "fixed"))
+
+-- check IN SOL [--fixed]
+unfoldable pub check_app : App
+check_app = with_rule (with_rule (with_rule (new_app (codes "check")) (word_rule (codes "in"))) (word_rule (codes "sol"))) (flag_rule (codes "fixed"))
+
+-- postsolve OUT REC SOL
+unfoldable pub postsolve_words : App
+postsolve_words = with_rule (with_rule (with_rule (new_app (codes "postsolve")) (word_rule (codes "out"))) (word_rule (codes "rec"))) (word_rule (codes "sol"))
+
+-- postsolve OUT REC SOL RESULT
+unfoldable pub postsolve_app : App
+postsolve_app = with_rule postsolve_words (word_rule (codes "result"))
+
+-- presolve and check
+unfoldable pub first_app : App
+first_app = with_subcommand (with_subcommand (new_app (codes "papilo")) presolve_app.top) check_app.top
+
+-- the whole: one subcommand for each command
+unfoldable pub line_app : App
+line_app = with_subcommand first_app postsolve_app.top
+
+abbrev pub texts : List (String Global) → List Text
+texts words = map (λ word. string_bytes word) words
+
+-- clap takes the words
+unfoldable pub is_taken : List Text → Bool
+is_taken words = takes line_app words
+
+-- the kinds of error that clap gives at the words, but for want of memory
+unfoldable pub faults : List Text → Kinds
+faults words = fault_of line_app words
+
+-- the subcommand that clap finds, with the values of its arguments
+unfoldable pub found_in : List Text → Option (Text × List Row)
+found_in words = subcommand_of line_app words

@@ -1,0 +1,153 @@
+// The command line, as a command of `clap`.
+ghost use Rattle.std.specs.Prelude.{◌≡◌, ◌≢◌, [], Err, false, IfOk, OnOk, OnErr};
+ghost use Rattle.clap.specs.Words.{app_of, kind_of, rule_of, subcommand_rows_of};
+ghost use Rattle.clap.specs.declared.builder.command.Command.TheViews.{out-Command};
+ghost use Rattle.command_app.specs.Line.{check_app, dual_app, faults, first_app, flag_rule, found_in, is_taken, limited_app, line_app, number_rule, postsolve_app, postsolve_words, presolve_app, presolve_words, texts, word_rule};
+
+use clap::builder::ValueParser;
+use clap::error::ErrorKind;
+use clap::{Arg, ArgAction, ArgMatches, Command, Error};
+use command_words::{MOST_RECORDS, Refusal};
+use std::alloc::{AllocError, Global};
+
+// A word that has to stand.
+fn word<'a>(alloc: Global, id: &'a str) -> Arg<'a>
+    ensures rule { rule_of result ≡ word_rule id.entry.now }
+    ensures local { result.global ≡ false }
+{
+    Arg::new(alloc, id).action(ArgAction::Set).required(true)
+}
+
+// A number from 1 to `most`, behind its name.
+fn number<'a>(alloc: Global, id: &'a str, most: u64) -> Arg<'a>
+    ensures rule { rule_of result ≡ number_rule id.entry.now most }
+    ensures local { result.global ≡ false }
+{
+    Arg::new(alloc, id)
+        .long(id)
+        .value_parser(ValueParser::Unsigned(1, most))
+}
+
+// An option that is given or not.
+fn flag<'a>(alloc: Global, id: &'a str) -> Arg<'a>
+    ensures rule { rule_of result ≡ flag_rule id.entry.now }
+    ensures local { result.global ≡ false }
+{
+    Arg::new(alloc, id).long(id).action(ArgAction::SetTrue)
+}
+
+#[tactic(auto, unfolding(crate::specs::Line::presolve_words))]
+fn presolve_words<'a>(alloc: Global) -> Result<Command<'a>, AllocError>
+    ensures app { IfOk result (λ command. app_of command ≡ presolve_words) }
+    ensures local { IfOk result (λ command. (out-Command command).has_globals ≡ false) }
+{
+    Command::new(alloc, "presolve")
+        .arg(word(alloc, "in"))?
+        .arg(word(alloc, "out"))?
+        .arg(word(alloc, "rec"))
+}
+
+#[tactic(auto, unfolding(crate::specs::Line::limited_app))]
+fn limited<'a>(alloc: Global) -> Result<Command<'a>, AllocError>
+    ensures app { IfOk result (λ command. app_of command ≡ limited_app) }
+    ensures local { IfOk result (λ command. (out-Command command).has_globals ≡ false) }
+{
+    presolve_words(alloc)?.arg(number(alloc, "limit", MOST_RECORDS))
+}
+
+#[tactic(auto, unfolding(crate::specs::Line::dual_app))]
+fn with_dual<'a>(alloc: Global) -> Result<Command<'a>, AllocError>
+    ensures app { IfOk result (λ command. app_of command ≡ dual_app) }
+    ensures local { IfOk result (λ command. (out-Command command).has_globals ≡ false) }
+{
+    limited(alloc)?.arg(flag(alloc, "dual"))
+}
+
+#[tactic(auto, unfolding(crate::specs::Line::presolve_app))]
+fn presolve<'a>(alloc: Global) -> Result<Command<'a>, AllocError>
+    ensures app { IfOk result (λ command. app_of command ≡ presolve_app) }
+    ensures local { IfOk result (λ command. (out-Command command).has_globals ≡ false) }
+{
+    with_dual(alloc)?
+        .arg(flag(alloc, "fractions"))?
+        .arg(flag(alloc, "fixed"))
+}
+
+#[tactic(auto, unfolding(crate::specs::Line::check_app))]
+fn check<'a>(alloc: Global) -> Result<Command<'a>, AllocError>
+    ensures app { IfOk result (λ command. app_of command ≡ check_app) }
+    ensures local { IfOk result (λ command. (out-Command command).has_globals ≡ false) }
+{
+    Command::new(alloc, "check")
+        .arg(word(alloc, "in"))?
+        .arg(word(alloc, "sol"))?
+        .arg(flag(alloc, "fixed"))
+}
+
+#[tactic(auto, unfolding(crate::specs::Line::postsolve_words))]
+fn postsolve_words<'a>(alloc: Global) -> Result<Command<'a>, AllocError>
+    ensures app { IfOk result (λ command. app_of command ≡ postsolve_words) }
+    ensures local { IfOk result (λ command. (out-Command command).has_globals ≡ false) }
+{
+    Command::new(alloc, "postsolve")
+        .arg(word(alloc, "out"))?
+        .arg(word(alloc, "rec"))?
+        .arg(word(alloc, "sol"))
+}
+
+#[tactic(auto, unfolding(crate::specs::Line::postsolve_app))]
+fn postsolve<'a>(alloc: Global) -> Result<Command<'a>, AllocError>
+    ensures app { IfOk result (λ command. app_of command ≡ postsolve_app) }
+    ensures local { IfOk result (λ command. (out-Command command).has_globals ≡ false) }
+{
+    postsolve_words(alloc)?.arg(word(alloc, "result"))
+}
+
+#[tactic(auto, unfolding(crate::specs::Line::first_app))]
+fn first<'a>(alloc: Global) -> Result<Command<'a>, AllocError>
+    ensures app { IfOk result (λ command. app_of command ≡ first_app) }
+    ensures local { IfOk result (λ command. (out-Command command).has_globals ≡ false) }
+{
+    let presolve = presolve(alloc)?;
+    let check = check(alloc)?;
+    Command::new(alloc, "papilo")
+        .subcommand(presolve)?
+        .subcommand(check)
+}
+
+#[tactic(auto, unfolding(crate::specs::Line::line_app))]
+fn line<'a>(alloc: Global) -> Result<Command<'a>, AllocError>
+    ensures app { IfOk result (λ command. app_of command ≡ line_app) }
+{
+    let postsolve = postsolve(alloc)?;
+    first(alloc)?.subcommand(postsolve)
+}
+
+/// What `clap` makes of the words, of which the first is the program's own name.
+///
+/// # Errors
+/// `Words` where `clap` names a fault in them. `NoMemory`.
+#[tactic(auto, using(crate::proofs::Simple::line_is_simple, crate::proofs::Simple::line_is_free), unfolding(crate::specs::Line::is_taken, crate::specs::Line::faults, crate::specs::Line::found_in))]
+pub fn matches<'a>(alloc: Global, words: &'a [String]) -> Result<ArgMatches<'a>, Refusal>
+    ensures rows { IfOk result (λ found. subcommand_rows_of found ≡ found_in (texts words.entry.now)) }
+    ensures taken { OnOk result (faults (texts words.entry.now) ≡ []) }
+    ensures faulty { result ≡ Err Refusal.Words → faults (texts words.entry.now) ≢ [] }
+    ensures untaken { result ≡ Err Refusal.Words → is_taken (texts words.entry.now) ≡ false }
+{
+    let Ok(command) = line(alloc) else {
+        return Err(Refusal::NoMemory);
+    };
+    match command.try_get_matches_from(words) {
+        Ok(found) => Ok(found),
+        Err(error) => Err(reason(&error)),
+    }
+}
+
+fn reason(error: &Error) -> Refusal
+    ensures { result ≡ Refusal.Words → kind_of error.now ≢ ErrorKind.OutOfMemory }
+{
+    match error.kind() {
+        ErrorKind::OutOfMemory => Refusal::NoMemory,
+        _ => Refusal::Words,
+    }
+}

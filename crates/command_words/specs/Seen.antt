@@ -1,0 +1,21 @@
+-- A request as its names.
+use Rattle.command_words.specs.Names.{PresolveNames, CheckNames, PostsolveNames, Request, Presolve, Check, Postsolve}
+use Rattle.command_words.specs.declared.words.PresolveWords.{PresolveWords}
+use Rattle.command_words.specs.declared.words.CheckWords.{CheckWords}
+use Rattle.command_words.specs.declared.words.PostsolveWords.{PostsolveWords}
+use Rattle.command_words.specs.declared.words.Request.TheVariants as words
+use Rattle.command_words.specs.declared.words.Request as declared
+
+abbrev pub names_of : PresolveWords → PresolveNames
+names_of words = record { input = words.input.now; output = words.output.now; records = words.records.now; options = words.options }
+
+abbrev pub check_names_of : CheckWords → CheckNames
+check_names_of words = record { input = words.input.now; solution = words.solution.now; fixed = words.fixed }
+
+abbrev pub postsolve_names_of : PostsolveWords → PostsolveNames
+postsolve_names_of words = record { program = words.program.now; records = words.records.now; solution = words.solution.now; result = words.result.now }
+
+abbrev pub seen : declared.Request → Request
+seen (words.Presolve p) = Presolve (names_of p)
+seen (words.Check c) = Check (check_names_of c)
+seen (words.Postsolve p) = Postsolve (postsolve_names_of p)

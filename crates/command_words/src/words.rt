@@ -1,0 +1,60 @@
+// The commands of the program, with their words.
+/// The most records that a run may be allowed to make; so many where no limit is given.
+pub const MOST_RECORDS: u64 = 1_000_000_000;
+
+/// The options of `presolve`.
+#[derive(Clone, Copy, Debug, PartialEq, Eq)]
+pub struct PresolveOptions {
+    /// A solution with duals can be brought back too; every column has to be continuous.
+    pub dual: bool,
+    /// Numbers that are no decimal numbers are taken and written too, as `n/d`.
+    pub fractions: bool,
+    /// IN has the fixed format.
+    pub fixed: bool,
+    /// How many reductions may be applied: from 1 to `MOST_RECORDS`.
+    pub limit: u64,
+}
+
+/// The names that `presolve IN OUT REC` works on, of which `output` and `records` differ, and the options.
+#[derive(Clone, Copy, Debug)]
+pub struct PresolveWords<'a> {
+    pub input: &'a str,
+    pub output: &'a str,
+    pub records: &'a str,
+    pub options: PresolveOptions,
+}
+
+/// The names that `check IN SOL` works on, and its option.
+#[derive(Clone, Copy, Debug)]
+pub struct CheckWords<'a> {
+    pub input: &'a str,
+    pub solution: &'a str,
+    /// IN has the fixed format.
+    pub fixed: bool,
+}
+
+/// The names that `postsolve OUT REC SOL RESULT` works on.
+#[derive(Clone, Copy, Debug)]
+pub struct PostsolveWords<'a> {
+    pub program: &'a str,
+    pub records: &'a str,
+    pub solution: &'a str,
+    pub result: &'a str,
+}
+
+/// A command with its words.
+#[derive(Clone, Copy, Debug)]
+pub enum Request<'a> {
+    Presolve(PresolveWords<'a>),
+    Check(CheckWords<'a>),
+    Postsolve(PostsolveWords<'a>),
+}
+
+/// Why there is no request.
+#[derive(Clone, Copy, Debug, PartialEq, Eq)]
+pub enum Refusal {
+    /// `clap` does not take the words, or OUT and REC are equal.
+    Words,
+    /// There is no memory to read them.
+    NoMemory,
+}

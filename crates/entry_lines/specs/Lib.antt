@@ -1,0 +1,5 @@
+pub mod Places
+pub mod Losses
+pub mod Across
+pub mod Ranks
+pub mod Putting

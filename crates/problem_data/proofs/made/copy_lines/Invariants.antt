@@ -1,6 +1,0 @@
-use Rattle.std.proofs.Common.{◌≡◌, take}
-use Rattle.problem_data.proofs.made.copy_lines.Given as goal
-
--- the lines so far
-abbrev pub invariant-loop-line : goal.invariant-loop-line
-invariant-loop-line l = l.copies.items ≡ take l.line-index l.lines

@@ -1,0 +1,3 @@
+pub mod IdOrder
+pub mod FaultLaws
+pub mod WordLaws
