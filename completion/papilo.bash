@@ -1,0 +1,20 @@
+# Completion for bash: source completion/papilo.bash, and `papilo` and `papilo-explain` complete commands, options and files.
+_papilo() {
+  local word=${COMP_WORDS[COMP_CWORD]} name=${COMP_WORDS[0]##*/} options=
+  if [[ $name == papilo && $COMP_CWORD == 1 ]]; then
+    mapfile -t COMPREPLY < <(compgen -W 'presolve postsolve check help build --version' -- "$word")
+    return
+  fi
+  case $name:${COMP_WORDS[1]} in
+    papilo-explain:*) options='--limit --fractions --fixed --all --column --row' ;;
+    papilo:presolve) options='--limit --dual --fractions --fixed' ;;
+    papilo:check) options='--fixed' ;;
+    papilo:help) options="status $(printf 'M%d ' {1..19})$(printf 'F%d ' {1..8})$(printf 'S%d ' {1..6})" ;;
+  esac
+  if [[ $word == -* || ${COMP_WORDS[1]} == help ]]; then
+    mapfile -t COMPREPLY < <(compgen -W "$options" -- "$word")
+  else
+    mapfile -t COMPREPLY < <(compgen -f -- "$word")
+  fi
+}
+complete -o filenames -F _papilo papilo papilo-explain ./papilo ./papilo-explain
