@@ -2,6 +2,7 @@
 
 use crate::shown;
 use anyhow::{Result, anyhow, ensure};
+use fault_look::push_look;
 use fractions::Numbers;
 use mps_profile::dialect::{Dialect, Format};
 use mps_reader::{MpsError, read_mps};
@@ -35,6 +36,21 @@ pub fn program(rt: &HostRuntime, bytes: &[u8], dialect: Dialect) -> Result<()> {
         }
         Err(MpsError::NoMemory) => Err(anyhow!("no memory")),
     }
+}
+
+/// Prints a look at the first fault of a text.
+pub fn look(rt: &HostRuntime, bytes: &[u8], dialect: Dialect) -> Result<()> {
+    ensure!(bytes.len() < 1 << 32, "a text that is too long");
+    match read_mps(rt.alloc(), bytes, dialect) {
+        Ok(_) => println!(rt; "no fault")?,
+        Err(MpsError::Fault(fault)) => {
+            let mut text = Vec::new(rt.alloc());
+            push_look(rt.alloc(), &mut text, bytes, fault)?;
+            shown::text(rt, &text)?;
+        }
+        Err(MpsError::NoMemory) => return Err(anyhow!("no memory")),
+    }
+    Ok(())
 }
 
 /// Reads the records of a text and writes them, or prints the text's first fault.

@@ -10,8 +10,10 @@
 //! - `fail reads N`, `fail writes N`, `fail puts N`: the Nth call fails
 //! - `run WORD ..`: runs the presolver with these words
 //! - `program NAME FORMAT NUMBERS`: reads the program of a file's text, and writes it
+//! - `look NAME FORMAT NUMBERS`: shows the first fault of a file's text, with its field marked
 //! - `records NAME`: reads the records of a file's text, and writes them
 //! - `rule NAME WORD ..`: applies the reduction that the words name, as a record names it, to the program of a file's text, by itself
+//! - `scan NAME [J SIDE N]`: tells what is enabled on the problem of a file's text, rule by rule, where that bound was tightened N times
 //! - `sums NAME EDIT; ..`: makes edits, one after the other, of the problem of a file's text, and tells its rows' sums before the first and
 //!   after each: `bounds J L U`, `sides I L U`, `entry I J A`, `row I` or `column J`, by ids, `-` for no end
 //! - `each NAME TAIL`: the last of these again for each line that follows, as if the line, and then the tail, stood behind the

@@ -14,6 +14,8 @@ pub enum Request {
     Run,
     /// The program of a text, written.
     Program(usize, Dialect),
+    /// A look at the first fault of a text.
+    Look(usize, Dialect),
     /// The records of a text, written.
     Records(usize),
     /// A reduction of the program of a text, by itself.
@@ -27,6 +29,7 @@ impl Request {
             Request::Nothing => Err(anyhow!("nothing is asked")),
             Request::Run => case.run(rt),
             Request::Program(place, dialect) => again::program(rt, case.bytes_at(place)?, dialect),
+            Request::Look(place, dialect) => again::look(rt, case.bytes_at(place)?, dialect),
             Request::Records(place) => again::records(rt, case.bytes_at(place)?),
             Request::Rule(place, reduction) => rule::applied(rt, case.bytes_at(place)?, reduction),
         }

@@ -3,7 +3,7 @@
 use crate::request::Request;
 use crate::runs::Case;
 use anyhow::{Context, Result, anyhow};
-use case_parts::{again, rule, sums};
+use case_parts::{again, rule, scans, sums};
 use fractions::Numbers;
 use std::alloc::Global;
 use std::fs;
@@ -71,8 +71,10 @@ impl Script {
             "each" => self.each(rest),
             "begin" => self.beginnings(rt, rest),
             "program" => self.program(rt, rest),
+            "look" => self.look(rt, rest),
             "records" => self.records(rt, rest),
             "rule" => self.rule(rt, rest),
+            "scan" => self.scan(rt, rest),
             "sums" => self.sums(rt, rest),
             "numbers" => {
                 self.text = Text::Number;
@@ -165,6 +167,13 @@ impl Script {
         self.request.answer(rt, &self.case)
     }
 
+    fn look(&mut self, rt: &HostRuntime, rest: &str) -> Result<()> {
+        let (name, dialect) = rest.split_once(' ').context("a name and a dialect")?;
+        let place = self.case.place(name)?;
+        self.request = Request::Look(place, again::dialect(dialect)?);
+        self.request.answer(rt, &self.case)
+    }
+
     fn records(&mut self, rt: &HostRuntime, name: &str) -> Result<()> {
         self.request = Request::Records(self.case.place(name)?);
         self.request.answer(rt, &self.case)
@@ -175,6 +184,12 @@ impl Script {
         println!(rt; "{words}")?;
         self.request = Request::Rule(self.case.place(name)?, rule::reduction(words)?);
         self.request.answer(rt, &self.case)
+    }
+
+    fn scan(&mut self, rt: &HostRuntime, rest: &str) -> Result<()> {
+        let (name, bound) = rest.split_once(' ').unwrap_or((rest, ""));
+        let place = self.case.place(name)?;
+        scans::scanned(rt, self.case.bytes_at(place)?, bound)
     }
 
     fn sums(&mut self, rt: &HostRuntime, rest: &str) -> Result<()> {

@@ -41,7 +41,7 @@ fn answer<R: Eprint, F: Files>(
             return line(
                 alloc,
                 1,
-                b"usage: explain IN [--fractions] [--fixed] [--limit N] [--all] [--column NAME] [--row NAME]\n",
+                b"usage: papilo-explain IN [--fractions] [--fixed] [--limit N] [--all] [--column NAME] [--row NAME]\n",
             );
         }
         Err(Refusal::NoMemory) => return line(alloc, 5, b"no memory\n"),

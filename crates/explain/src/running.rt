@@ -7,6 +7,7 @@ use crate::progress::Progress;
 use crate::telling::tell;
 use crate::words::Words;
 use endings::{dialect_of, fault_line};
+use fault_look::push_look;
 use instances::says_no_point;
 use lp_model::Program;
 use mps_reader::{MpsError, read_mps};
@@ -77,10 +78,14 @@ pub fn run<R: Eprint>(
     };
     match read_mps(alloc, text, dialect) {
         Ok(program) => run_program(rt, alloc, &program, &options, words, is_shown),
-        Err(MpsError::Fault(fault)) => Ok(Told {
-            status: 2,
-            text: fault_line(alloc, fault)?,
-        }),
+        Err(MpsError::Fault(fault)) => {
+            let mut told = fault_line(alloc, fault)?;
+            push_look(alloc, &mut told, text, fault)?;
+            Ok(Told {
+                status: 2,
+                text: told,
+            })
+        }
         Err(MpsError::NoMemory) => Err(AllocError),
     }
 }

@@ -142,6 +142,7 @@ fn push_story_of(
     };
     let line = format!(in alloc; "{what} {name}:\n")?;
     text.extend_from_slice(line.as_bytes())?;
+    let before = text.len();
     push_story(
         alloc,
         text,
@@ -150,7 +151,11 @@ fn push_story_of(
         told.ended.history.as_slice(),
         told.ended.records.as_slice(),
         subject,
-    )
+    )?;
+    if text.len() == before {
+        text.extend_from_slice(b"no reduction names or changes it\n")?;
+    }
+    Ok(())
 }
 
 // What happened to the column and to the row that are asked for.
