@@ -4,13 +4,18 @@
 //! before each term are kept, and a rest is continued from there. `specs/` says what the activities are, and nothing of how they are made.
 #![tactic(auto)]
 
+mod entries;
 mod prefixes;
 mod problem_rows;
+mod rests;
+pub mod row_bounds;
 mod row_sums;
+pub mod rows;
 mod spans;
 mod sums;
 
 pub use problem_rows::{greatest, least};
+pub use rests::{entry_of, rest_of};
 pub use row_sums::RowSums;
 
 #[cfg(test)]

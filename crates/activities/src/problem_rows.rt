@@ -10,13 +10,14 @@ ghost use Rattle.kept_sums.specs.CommonSums.{IsCommonSum};
 ghost use Rattle.activities.specs.Walks.{listed, spans_seen};
 ghost use Rattle.row_spans.specs.declared.span.Extreme.TheVariants.{Least, Greatest};
 
+use crate::entries::number_in;
 use crate::spans::span_of;
 use crate::sums::plus_end;
 use fractions::Past;
 use fractions::ext::Ext;
 use fractions::frac::Frac;
 use kept_sums::{CommonSum, told_activity, told_rest};
-use lp_model::{Term, number_at};
+use lp_model::Term;
 use row_spans::{Extreme, Span, bound_at};
 use sparse_problem::Problem;
 
@@ -117,8 +118,7 @@ fn span_at(problem: &Problem, row: u32, column: u32) -> Option<Span>
     if !problem.is_column_live(column) {
         return None;
     }
-    let entries = problem.rows()[row as usize].entries.as_slice();
-    let value = number_at(entries, column as usize);
+    let value = number_in(problem, row, column);
     if value.is_zero() {
         return None;
     }
@@ -185,7 +185,7 @@ fn row_activity(
     match told(problem, extreme, row, left_out) {
         Some(value) => Ok(value),
         None => {
-            let line = &problem.rows()[row as usize];
+            let line = problem.row_line(row);
             activity_of(problem, extreme, line.entries.as_slice(), left_out)
         }
     }

@@ -51,8 +51,5 @@ fn spans_of_terms(alloc: Global, problem: &Problem, terms: &[Term]) -> Result<Ve
 pub(crate) fn spans_of(alloc: Global, problem: &Problem, row: u32) -> Result<Vec<Span>, AllocError>
     ensures { IfOk result (λ spans. spans.items ≡ spans_with problem.now row) }
 {
-    match problem.rows().get(row as usize) {
-        Some(line) => spans_of_terms(alloc, problem, line.entries.as_slice()),
-        None => Ok(Vec::new(alloc)),
-    }
+    spans_of_terms(alloc, problem, problem.rows().entries(row))
 }

@@ -2,5 +2,5 @@ pub mod Rows
 pub mod RedundantRow
 pub mod RedundantSide
 pub mod ForcingRow
-pub mod TightenedBound
-pub mod OutOfReach
+pub mod BoundTightening
+pub mod InfeasibleRow

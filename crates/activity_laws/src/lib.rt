@@ -11,8 +11,8 @@ ghost use Rattle.rule_words.specs.Owed.{Owes, RuleDecides, RuleOwes};
 ghost use Rattle.activity_laws.specs.RedundantRow as redundant_row;
 ghost use Rattle.activity_laws.specs.RedundantSide as redundant_side;
 ghost use Rattle.activity_laws.specs.ForcingRow as forcing_row;
-ghost use Rattle.activity_laws.specs.TightenedBound as tightened_bound;
-ghost use Rattle.activity_laws.specs.OutOfReach as out_of_reach;
+ghost use Rattle.activity_laws.specs.BoundTightening as bound_tightening;
+ghost use Rattle.activity_laws.specs.InfeasibleRow as infeasible_row;
 
 /// Each row whose sides its columns' bounds keep can be deleted.
 pub fn redundant_rows_can_be_deleted()
@@ -31,11 +31,11 @@ pub fn forcing_rows_fix_their_columns()
 
 /// A bound of a column can become the one that a row implies with the bounds of its other columns, and that is strictly better.
 pub fn bounds_can_be_tightened()
-    ensures owes { (p : Sparse) (i j : ℕ) (side : Side) → IsSparse p → tightened_bound.enabled p i j side ≡ true → Owes p (tightened_bound.edits p i j side) (tightened_bound.record_of p i j side) }
-    ensures improves { (p : Sparse) (i j : ℕ) (side : Side) → tightened_bound.enabled p i j side ≡ true → tightened_bound.Improves p i j side }
+    ensures owes { (p : Sparse) (i j : ℕ) (side : Side) → IsSparse p → bound_tightening.enabled p i j side ≡ true → Owes p (bound_tightening.edits p i j side) (bound_tightening.record_of p i j side) }
+    ensures improves { (p : Sparse) (i j : ℕ) (side : Side) → bound_tightening.enabled p i j side ≡ true → bound_tightening.Improves p i j side }
 {}
 
 /// A row of which a side is out of reach of its columns' bounds says that no point is feasible.
-pub fn rows_out_of_reach_decide()
-    ensures { RuleDecides out_of_reach.enabled NoPoint }
+pub fn infeasible_rows_decide()
+    ensures { RuleDecides infeasible_row.enabled NoPoint }
 {}

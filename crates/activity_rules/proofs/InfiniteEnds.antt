@@ -20,7 +20,7 @@ use Rattle.row_spans.specs.Spans.{AreSpans, end_at, ends_at, others, spans_of}
 use Rattle.row_spans.proofs.Reading.{spans_of-are}
 use Rattle.kept_sums.specs.CommonSums.{infinite_count, IsCommonSum}
 use Rattle.kept_sums.specs.declared.common.CommonSum.{CommonSum}
-use Rattle.activity_laws.specs.TightenedBound.{bounds_of, enabled, implied, is_better, left_over, old_bound}
+use Rattle.activity_laws.specs.BoundTightening.{bounds_of, enabled, implied, is_better, left_over, old_bound}
 use Rattle.activity_rules.specs.Tightened.{at_most_one_infinite, bound_if, found_among, is_looked_at, is_tight, may_tell, may_tighten}
 use Rattle.activity_rules.proofs.Tightened.{all_found}
 

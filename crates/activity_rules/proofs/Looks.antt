@@ -1,33 +1,19 @@
 -- What the looks at a row say of the rules.
-use Rattle.std.proofs.Common.{◌≡◌, ℕ, Bool, true, false, not, ◌&&◌, ◌||◌, nat_eq, Option, Some, None, is_none, Result, Ok, Err, true≢false, List, [], ◌∷◌, length, map, refl, sym, ap, ◌∙◌, arith, ◌+◌}
-use Rattle.std.specs.Prelude.{if◌then◌else◌}
-use Rattle.std.proofs.lemmas.Bool.{ne_eqb}
-use Rattle.lp_model.specs.declared.terms.Term.{Term}
+use Rattle.std.proofs.Common.{◌≡◌, ℕ, Bool, true, false, not, ◌&&◌, ◌||◌, Option, Some, None, is_none, Result, Ok, Err, true≢false, refl, sym, ◌∙◌}
 use Rattle.lp_model.specs.EndTests.{is_crossed, is_in_order}
-use Rattle.problem_model.specs.Problems.{row_at, row_entries, sides_at}
+use Rattle.problem_model.specs.Problems.{row_at, sides_at}
 use Rattle.problem_model.specs.Sparse.{Sparse}
-use Rattle.row_spans.specs.declared.span.Span.{Span}
-use Rattle.row_spans.specs.Spans.{span_of, spans_of}
-use Rattle.kept_sums.specs.KeptSums.{crossed_count}
-use Rattle.activity_laws.specs.Rows.{RowTest, all_in_order, has_some, keeps_lower, on_both, on_row, row_found}
+use Rattle.row_spans.specs.Spans.{spans_of}
+use Rattle.activity_laws.specs.Rows.{RowTest, all_in_order, keeps_lower, on_both, on_row, row_found}
 use Rattle.activity_laws.specs.RedundantRow as redundant_row
 use Rattle.activity_laws.specs.RedundantSide as redundant_side
 use Rattle.activity_laws.specs.ForcingRow as forcing_row
-use Rattle.activity_laws.specs.OutOfReach as out_of_reach
-use Rattle.activity_laws.proofs.Rows.{tested}
-use Rattle.activity_rules.specs.Looks.{has_room, is_uncrossed, on_one}
+use Rattle.activity_laws.specs.InfeasibleRow as infeasible_row
+use Rattle.activities.proofs.RowLooks.{split}
+use Rattle.activities.specs.Rows.{is_uncrossed}
+use Rattle.activity_rules.specs.Looks.{has_room, on_one}
 use Rattle.fractions.specs.declared.Past.{Past}
 use Rattle.rational.specs.Number.{Number}
-
--- the tests in another order
-regroup : (a b c d : Bool) → (a && (b && (c && d))) ≡ ((a && (b && c)) && d)
-regroup false b c d = refl
-regroup true false c d = refl
-regroup true true c d = refl
-
--- a test of a row: nothing is crossed, and it holds
-pub split : (test : RowTest) (p : Sparse) (i : ℕ) → on_row test (row_found p i) ≡ (is_uncrossed p i && test (sides_at p i).lower (sides_at p i).upper (spans_of p i))
-split test p i = tested test p i ∙ regroup (row_at p i).live (is_in_order (sides_at p i).lower (sides_at p i).upper) (all_in_order (spans_of p i)) (test (sides_at p i).lower (sides_at p i).upper (spans_of p i))
 
 -- the same with the crossed ends looked at last
 later : (a x d : Bool) → ((a && x) && d) ≡ (a && (d && (a && x)))
@@ -50,8 +36,8 @@ redundant_side_is = tested_first redundant_side.has_redundant_side
 pub forcing_row_is : (p : Sparse) (i : ℕ) → forcing_row.enabled p i ≡ ((row_at p i).live && (forcing_row.is_forcing_row (sides_at p i).lower (sides_at p i).upper (spans_of p i) && is_uncrossed p i))
 forcing_row_is = tested_first forcing_row.is_forcing_row
 
-pub out_of_reach_is : (p : Sparse) (i : ℕ) → out_of_reach.enabled p i ≡ ((row_at p i).live && (out_of_reach.is_out_of_reach (sides_at p i).lower (sides_at p i).upper (spans_of p i) && is_uncrossed p i))
-out_of_reach_is = tested_first out_of_reach.is_out_of_reach
+pub infeasible_row_is : (p : Sparse) (i : ℕ) → infeasible_row.enabled p i ≡ ((row_at p i).live && (infeasible_row.is_infeasible_row (sides_at p i).lower (sides_at p i).upper (spans_of p i) && is_uncrossed p i))
+infeasible_row_is = tested_first infeasible_row.is_infeasible_row
 
 -- ---- one activity looked at before the other
 -- a test of the least one or of the greatest
@@ -122,14 +108,6 @@ both_first f g (Err e) (Ok y) = by (g y)
     by false = refl
 both_first f g (Err e) (Err h) = refl
 
--- a row has an entry where it has some terms
-some_of : (p : Sparse) (ts : List Term) → has_some (map (span_of p) ts) ≡ not (nat_eq (length ts) 0)
-some_of p [] = refl
-some_of p (t ∷ ts) = sym (ap not (ne_eqb (length (t ∷ ts)) 0 (λ e. absurd (omega (arith, e)))))
-
-pub has_some_is : (p : Sparse) (i : ℕ) → has_some (spans_of p i) ≡ not (nat_eq (length (row_entries p i)) 0)
-has_some_is p i = some_of p (row_entries p i)
-
 -- nothing is above no upper side, nor below no lower one
 above_none : (v : Option Number) → is_crossed v None ≡ false
 above_none None = refl
@@ -144,15 +122,3 @@ pub none_below : (l : Option Number) (a : Result (Option Number) Past) → is_no
 none_below None (Ok v) h = refl
 none_below None (Err e) h = refl
 none_below (Some l) a h = absurd (true≢false (sym h))
-
--- ---- counted crossed bounds
-pub none_crossed : (ss : List Span) → nat_eq (crossed_count ss) 0 ≡ all_in_order ss
-none_crossed [] = refl
-none_crossed (s ∷ ss) = by (is_in_order s.lower s.upper) (crossed_count ss) (none_crossed ss)
-  where
-    by : (b : Bool) (n : ℕ) → nat_eq n 0 ≡ all_in_order ss → nat_eq ((if b then 0 else 1) + n) 0 ≡ (b && all_in_order ss)
-    by true n h = ap (λ (m : ℕ). nat_eq m 0) (plain n) ∙ h
-      where
-        plain : (m : ℕ) → 0 + m ≡ m
-        plain m = omega arith
-    by false n h = ne_eqb (1 + n) 0 (omega arith)

@@ -24,8 +24,9 @@ use Rattle.row_spans.specs.Exact.{fits, sum_fits, if_room}
 use Rattle.kept_sums.specs.KeptSides.{EndKept, Keeps, opposite}
 use Rattle.row_spans.specs.RowSums.{rest}
 use Rattle.row_spans.specs.Spans.{end_at}
-use Rattle.activity_laws.specs.TightenedBound.{if_made, implied, is_better, left_over, old_bound, over_entry}
-use Rattle.activity_rules.specs.Tightened.{bound_if, is_tight, source_of, IsSlack}
+use Rattle.activity_laws.specs.BoundTightening.{if_made, implied, is_better, left_over, old_bound, over_entry}
+use Rattle.activities.specs.Rows.{source_of}
+use Rattle.activity_rules.specs.Tightened.{bound_if, is_tight, IsSlack}
 
 none_better : (side : Side) (old : Option Number) → is_better side old None ≡ false
 none_better Lower old = refl

@@ -12,14 +12,15 @@ use Rattle.undo_records.specs.declared.side.Side.TheVariants.{Lower, Upper}
 use Rattle.problem_model.specs.declared.line.Sides.{Sides}
 use Rattle.problem_model.specs.Problems.{bounds_at, column_at, row_at, row_entries, sides_at, IsSparse}
 use Rattle.problem_model.specs.Sparse.{Sparse}
-use Rattle.problem_laws.proofs.Entries.{dense-live_only, has-live_only, row_entries-ascend, row_entries-tell}
-use Rattle.problem_laws.proofs.Terms.{dense-absent, dense-named, dense-cons_other, dense-cons_same, has-cons_other, has-cons_same, not_both}
+use Rattle.problem_laws.proofs.Entries.{has-live_only, row_entries-tell}
+use Rattle.problem_laws.proofs.Terms.{dense-absent, dense-cons_other, dense-cons_same, has-cons_other, has-cons_same, not_both}
 use Rattle.lp_model.specs.EndTests.{is_in_order}
 use Rattle.row_spans.specs.declared.span.Span.{Span}
 use Rattle.row_spans.specs.Spans.{AreSpans, span_of, spans_of}
 use Rattle.activity_laws.specs.Rows.{all_in_order}
-use Rattle.activity_laws.specs.TightenedBound.{bounds_of, enabled, entry_at, has_two, implied, is_better, is_tightened_at, is_tightened_bound, old_bound}
+use Rattle.activity_laws.specs.BoundTightening.{bounds_of, enabled, entry_at, has_two, implied, is_better, is_tightened_at, is_bound_tightening, old_bound}
 use Rattle.activity_laws.proofs.Rows.{tested}
+use Rattle.activities.proofs.RowLooks.{entry_in}
 use Rattle.activity_rules.specs.Tightened.{bound_if, found_among, found_at, gets_better, is_looked_at, is_tight}
 
 -- ---- two entries or more
@@ -52,13 +53,6 @@ at_entry p j side l u ss (t ∷ ts) = by (cases_eq t.id j) (at_entry p j side l 
 pub column_on : (p : Sparse) (i j : ℕ) → has j (row_entries p i) ≡ true → (column_at p j).live ≡ true
 column_on p i j e = (and_parts (column_at p j).live (has j (row_at p i).entries) (sym (has-live_only p.matrix.columns j (row_at p i).entries) ∙ e)).0
 
-pub none_in : (p : Sparse) (i j : ℕ) → (column_at p j).live ≡ false → dense (row_entries p i) j ≡ zero_ℚ
-none_in p i j e = dense-live_only p.matrix.columns j (row_at p i).entries ∙ ap (λ (on : Bool). if on then dense (row_at p i).entries j else zero_ℚ) e
-
--- and the entry isn't 0
-pub entry_in : (p : Sparse) (i j : ℕ) → IsSparse p → has j (row_entries p i) ≡ true → dense (row_entries p i) j ≢ zero_ℚ
-entry_in p i j s e = dense-named j (row_entries p i) 0 (length p.matrix.columns) (row_entries-ascend p i s) e
-
 pub named_where : (p : Sparse) (i j : ℕ) (z : Bool) (a : Number) → IsSparse p → a ≡ dense (row_entries p i) j → IsTrue z ↔ (a ≡ zero_ℚ) → not z ≡ has j (row_entries p i)
 named_where p i j z a s f t = by z (has j (row_entries p i)) refl t
   where
@@ -75,12 +69,12 @@ regroup true false c d e = refl
 regroup true true false d e = refl
 regroup true true true d e = refl
 
-pub tightened_bound_is : (p : Sparse) (i j : ℕ) (side : Side) → enabled p i j side ≡ (is_looked_at p i && (has j (row_entries p i) && gets_better p i j side))
-tightened_bound_is p i j side =
+pub bound_tightening_is : (p : Sparse) (i j : ℕ) (side : Side) → enabled p i j side ≡ (is_looked_at p i && (has j (row_entries p i) && gets_better p i j side))
+bound_tightening_is p i j side =
     let l : Option Number = (sides_at p i).lower in
     let u : Option Number = (sides_at p i).upper in
     let ss : List Span = spans_of p i in
-    tested (is_tightened_bound j side) p i
+    tested (is_bound_tightening j side) p i
     ∙ regroup (row_at p i).live (is_in_order l u) (all_in_order ss) (has_two ss) (is_tightened_at side j l u ss (entry_at j ss))
     ∙ ap (λ (b : Bool). is_looked_at p i && b) (at_entry p j side l u ss (row_entries p i))
 
@@ -93,7 +87,7 @@ none_kept P [] h = refl
 none_kept P (x ∷ xs) h = ap (λ (b : Bool). cond b (x ∷ filter P xs) (filter P xs)) (h x) ∙ none_kept P xs h
 
 pub none_at : (p : Sparse) (i : ℕ) (x : List Bound) → is_looked_at p i ≡ false → x ≡ x ++ filter (λ y. enabled p i y.0 y.1) (bounds_of (row_entries p i))
-none_at p i x e = sym (ap (λ (l : List Bound). x ++ l) (none_kept (λ y. enabled p i y.0 y.1) (bounds_of (row_entries p i)) (λ y. tightened_bound_is p i y.0 y.1 ∙ ap (λ (b : Bool). b && (has y.0 (row_entries p i) && gets_better p i y.0 y.1)) e)) ∙ append-nil x)
+none_at p i x e = sym (ap (λ (l : List Bound). x ++ l) (none_kept (λ y. enabled p i y.0 y.1) (bounds_of (row_entries p i)) (λ y. bound_tightening_is p i y.0 y.1 ∙ ap (λ (b : Bool). b && (has y.0 (row_entries p i) && gets_better p i y.0 y.1)) e)) ∙ append-nil x)
 
 -- no entry is 0
 pub none_zero : (m : ℕ) (ss : List Span) (k : ℕ) (s : Span) → AreSpans m ss → k < length ss → s ≡ get_or ss k s → s.value ≢ zero_ℚ
@@ -124,7 +118,7 @@ module _ (p : Sparse) (i : ℕ) (looked : is_looked_at p i ≡ true) where
 
   bound_is : (t : Term) (side : Side) → InRow t → enabled p i t.id side ≡ is_tight ends spans (span_of p t) side
   unfolding InRow
-  bound_is t side h = tightened_bound_is p i t.id side
+  bound_is t side h = bound_tightening_is p i t.id side
       ∙ ap₂ (λ (x y : Bool). x && (y && gets_better p i t.id side)) looked h.0
       ∙ ap (λ (a : Number). is_better side (old_bound side (bounds_at p t.id).lower (bounds_at p t.id).upper) (implied side t.id a ends.lower ends.upper spans)) h.1
 

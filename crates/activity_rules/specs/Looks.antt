@@ -8,10 +8,6 @@ use Rattle.problem_model.specs.Sparse.{Sparse}
 use Rattle.row_spans.specs.Spans.{spans_of}
 use Rattle.activity_laws.specs.Rows.{all_in_order}
 
--- the row is live, and neither its sides nor the bounds of its columns are crossed
-abbrev pub is_uncrossed : Sparse → ℕ → Bool
-is_uncrossed p i = (row_at p i).live && (is_in_order (sides_at p i).lower (sides_at p i).upper && all_in_order (spans_of p i))
-
 -- a test of one activity, where it has room
 abbrev pub on_one : (Option Number → Bool) → Result (Option Number) Past → Bool
 on_one test (Ok v) = test v

@@ -13,8 +13,8 @@ use Rattle.row_spans.specs.declared.span.Extreme.TheVariants.{Least, Greatest}
 use Rattle.kept_sums.specs.KeptSides.{KeepsTurned}
 use Rattle.row_spans.specs.RowSums.{all_finite, rest}
 use Rattle.row_spans.specs.Spans.{ends_at, spans_of}
-use Rattle.activity_laws.specs.TightenedBound.{has_two, implied, is_better, new_bound, old_bound}
-use Rattle.activity_rules.specs.Looks.{is_uncrossed}
+use Rattle.activity_laws.specs.BoundTightening.{has_two, implied, is_better, new_bound, old_bound}
+use Rattle.activities.specs.Rows.{is_uncrossed}
 
 -- nothing of a row is crossed, and it has two entries or more
 abbrev pub is_looked_at : Sparse → ℕ → Bool
@@ -54,13 +54,6 @@ may_tell extreme (Some b) ss = at_most_one_infinite (ends_at extreme ss)
 -- this holds of the lower side, or of the upper one
 abbrev pub may_tighten : Sides → List Span → Bool
 may_tighten b ss = may_tell Greatest b.lower ss || may_tell Least b.upper ss
-
--- the rest that goes with the side from which a bound follows: for an entry above 0 the lower bound follows from the lower side
-abbrev pub source_of : Side → Bool → Extreme
-source_of Lower true = Greatest
-source_of Lower false = Least
-source_of Upper true = Least
-source_of Upper false = Greatest
 
 -- the row keeps a side with the entry's column at its other end beside the rest that goes with the side
 abbrev pub IsSlack : Extreme → Number → Span → List Span → Type 0

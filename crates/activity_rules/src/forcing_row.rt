@@ -14,7 +14,7 @@ ghost use Rattle.activity_laws.specs.ForcingRow.{at_lower, enabled, edits, edits
 ghost use Rattle.undo_records.specs.declared.side.Side.TheVariants.{Lower, Upper};
 ghost use Rattle.undo_records.specs.declared.undo.Undo.TheVariants as undone;
 
-use crate::rows::{has_entries, is_uncrossed};
+use activities::rows::{has_entries, is_uncrossed};
 use activities::{RowSums, greatest, least};
 use fractions::ext::Ext;
 use problem_model::{Edit, Refusal};

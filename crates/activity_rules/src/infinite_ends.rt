@@ -84,7 +84,7 @@ fn is_finite_but_one(problem: &Problem, row: u32, extreme: Extreme) -> bool
     match told_but_one(problem, row, extreme) {
         Some(told) => told,
         None => {
-            let line = &problem.rows()[row as usize];
+            let line = problem.row_line(row);
             are_finite_but_one(problem, extreme, line.entries.as_slice())
         }
     }

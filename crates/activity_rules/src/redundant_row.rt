@@ -10,7 +10,7 @@ ghost use Rattle.activity_rules.specs.Looks.{on_one};
 ghost use Rattle.activity_laws.specs.Rows.{keeps_lower as lower_is_kept, keeps_upper as upper_is_kept, on_activities};
 ghost use Rattle.activity_laws.specs.RedundantRow.{enabled, edits, record_of, Computes};
 
-use crate::rows::{has_entries, is_uncrossed, keeps_lower, keeps_upper};
+use activities::rows::{has_entries, is_uncrossed, keeps_lower, keeps_upper};
 use activities::{greatest, least};
 use fractions::ext::Ext;
 use problem_model::{Edit, Refusal};

@@ -7,7 +7,7 @@ ghost use Rattle.row_spans.specs.Spans.{spans_of};
 ghost use Rattle.activity_laws.specs.Rows.{keeps_lower as lower_kept, keeps_upper as upper_kept, on_activities};
 ghost use Rattle.activity_laws.specs.RedundantSide.{differ, enabled, edits, lower_is_kept, record_of, side_dropped, Computes};
 
-use crate::rows::{has_entries, is_uncrossed, keeps_lower, keeps_upper};
+use activities::rows::{has_entries, is_uncrossed, keeps_lower, keeps_upper};
 use activities::{greatest, least};
 use fractions::ext::Ext;
 use problem_model::{Edit, Refusal};

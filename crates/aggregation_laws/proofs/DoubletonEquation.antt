@@ -23,13 +23,13 @@ use Rattle.lp_model.specs.Reductions.{Reduces, ReducesPairs}
 use Rattle.lp_model.specs.Sparse.{Ascends, dense, has}
 use Rattle.lp_model.specs.Vectors.{Vector}
 use Rattle.lp_theory.specs.Elsewhere.{substituted}
-use Rattle.lp_substitutions.specs.DoubletonEquation.{IsDoubletonEquation, doubleton_offset, doubleton_substituted, image_lower, image_upper, substituted_by, undo_doubleton}
-use Rattle.lp_substitutions.proofs.DoubletonEquation.{doubleton_reduces}
+use Rattle.lp_substitutions.specs.DoubletonEquation.{IsDoubletonEquation, doubleton_equation_offset, doubleton_equation_substituted, image_lower, image_upper, substituted_by, undo_doubleton_equation}
+use Rattle.lp_substitutions.proofs.DoubletonEquation.{doubleton_equation_reduces}
 use Rattle.undo_records.specs.Lift.{undone}
 use Rattle.undo_records.specs.Ids.{ids_of, is_on}
 use Rattle.undo_records.specs.declared.undo.Undo.{Undo}
-use Rattle.undo_records.specs.declared.undo.Undo.TheVariants.{Doubleton}
-use Rattle.postsolve_dual.specs.LiftPair.{undone_pair}
+use Rattle.undo_records.specs.declared.undo.Undo.TheVariants.{DoubletonEquation}
+use Rattle.undo_pairs.specs.LiftPair.{undone_pair}
 use Rattle.pair_laws.specs.Records as records
 use Rattle.pair_laws.proofs.ColumnPairs.{equation_pair}
 use Rattle.problem_model.specs.declared.edit.Edit.{Edit}
@@ -61,7 +61,7 @@ use Rattle.rule_words.specs.Owed.{Owes}
 use Rattle.rule_words.proofs.Coefficients.{coefficient_in_column, coefficient_in_row, end_live}
 use Rattle.rule_words.proofs.EndTestsSay.{AreFixed, fixed_ends, not_true}
 use Rattle.rule_words.proofs.Named.{lives, one_on, two_sided}
-use Rattle.aggregation_laws.specs.DoubletonEquation.{are_at, column_joined, edits, enabled, entry_at, equal_of, factor, is_doubleton, is_made_whole, joined_cost, joined_lower, joined_upper, new_entry, others, record_of, shift, stays_whole}
+use Rattle.aggregation_laws.specs.DoubletonEquation.{are_at, column_joined, edits, enabled, entry_at, equal_of, factor, is_doubleton_equation, is_made_whole, joined_cost, joined_lower, joined_upper, new_entry, others, record_of, shift, stays_whole}
 use Rattle.aggregation_laws.proofs.Entries.{set_added, set_all, set_allowed, set_column, set_columns, set_first, set_flags, set_rows, set_sided, with_column}
 
 -- ---- two entries
@@ -118,7 +118,7 @@ pub record Said (row first second : Bool) (ts : List Term) (l u : Option Number)
   pub whole : IsTrue w → IsTrue x × IsWhole (dense ts k /ℚ dense ts j) × IsWhole (unwrap_or l zero_ℚ /ℚ dense ts j)
 
 says : (row first second : Bool) (ts : List Term) (l u m o n q : Option Number) (w y : Bool) (j k : ℕ)
-    → is_doubleton j k (if row then holding.Entries ts else holding.Gone) (if row then holding.Sides l u else holding.Gone)
+    → is_doubleton_equation j k (if row then holding.Entries ts else holding.Gone) (if row then holding.Sides l u else holding.Gone)
     (if first then holding.Bounds m o w else holding.Gone) (if second then holding.Bounds n q y else holding.Gone) ≡ true
     → Said row first second ts l u w y j k
 says true true true ts l u m o n q w y j k e =
@@ -195,8 +195,8 @@ module _ (p : Sparse) (s : IsSparse p) (i j k : ℕ) (f : SaidOf p i j k) where
   b_is : b ≡ M.coefficient i k
   b_is = sym (in_row k)
 
-  is_doubleton_equation : IsDoubletonEquation M i j k r
-  is_doubleton_equation = record {
+  shows_doubleton_equation : IsDoubletonEquation M i j k r
+  shows_doubleton_equation = record {
     row = row_inside p i f.row_on;
     first = column_inside p j f.first_on;
     second = column_inside p k f.second_on;
@@ -320,7 +320,7 @@ module _ (p : Sparse) (s : IsSparse p) (i j k : ℕ) (f : SaidOf p i j k) where
     costs = λ c. (apart_puts M.costs zero_ℚ (joined_cost p i j k) c ∙ ap (λ (d : Number). put (put M.costs j zero_ℚ) k d c) cost_is) t;
   }
 
-  shows : programs_edited M (edits p i j k) ≡ doubleton_substituted M i j k r
+  shows : programs_edited M (edits p i j k) ≡ doubleton_equation_substituted M i j k r
   shows =
       programs_more entries (sides ++ joined) M
       ∙ ap (λ (N : LinearProgram). programs_edited N (sides ++ joined)) shows_entries
@@ -351,22 +351,22 @@ module _ (p : Sparse) (s : IsSparse p) (i j k : ℕ) (f : SaidOf p i j k) where
       (column_stays k ∙ f.second_on, (column_stays k ∙ f.second_on, (tt, (row_there, (losing-live (row_deleted p2 i).matrix.rows p2.matrix.columns i j ∙ column_stays j ∙ f.first_on, tt))))))
 
   -- ---- what they add
-  adds : doubleton_offset M i j r ≡ added_by (edits p i j k)
+  adds : doubleton_equation_offset M i j r ≡ added_by (edits p i j k)
   adds = sym (added_more entries (sides ++ joined) ∙ ap₂ (λ x y. x +ℚ y) (set_added k (new_entry p k (factor p i j k)) ts) (added_more sides joined ∙ ap (λ x. x +ℚ added_by joined) (sweep_added low high ts))
       ∙ ring rational ((cost_at p j *ℚ shift p i j) ∷ []) (num (pos 0) :+ (num (pos 0) :+ (num (pos 0) :+ (num (pos 0) :+ (v 0 :+ (num (pos 0) :+ (num (pos 0) :+ num (pos 0)))))))) (v 0) refl
       ∙ sym (ap₂ (λ (on : Bool) (x : Number). (if on then cost_at p j else zero_ℚ) *ℚ (r /ℚ x)) f.first_on (sym a_is)))
 
   reduces : Reduces Min M (shown (committed p (edits p i j k))) (undone (record_of p i j k)) (added_by (edits p i j k))
-  reduces = by_edits p (edits p i j k) (doubleton_substituted M i j k r) (undone (record_of p i j k)) (doubleton_offset M i j r) s allowed shows adds
-      (subst (λ (g : Vector → Vector). Reduces Min M (doubleton_substituted M i j k r) g (doubleton_offset M i j r)) (sym (ap₂ (λ (x y : Number). undo_doubleton j k x y r) a_is b_is))
-      (doubleton_reduces M i j k r is_doubleton_equation Min))
+  reduces = by_edits p (edits p i j k) (doubleton_equation_substituted M i j k r) (undone (record_of p i j k)) (doubleton_equation_offset M i j r) s allowed shows adds
+      (subst (λ (g : Vector → Vector). Reduces Min M (doubleton_equation_substituted M i j k r) g (doubleton_equation_offset M i j r)) (sym (ap₂ (λ (x y : Number). undo_doubleton_equation j k x y r) a_is b_is))
+      (doubleton_equation_reduces M i j k r shows_doubleton_equation Min))
 
   -- ---- the record holds what is shown
   terms_have : dense ts ≡ put (λ m. M.coefficient m j) i zero_ℚ
   terms_have z m = (dense-without i (column_entries p j) m ∙ (λ t. put (λ x. in_column x j f.first_on t) i zero_ℚ m)) z
 
-  record_is : records.doubleton M i j k r ts ≡ record_of p i j k
-  record_is z = Doubleton (record {
+  record_is : records.doubleton_equation M i j k r ts ≡ record_of p i j k
+  record_is z = DoubletonEquation (record {
     row = i;
     column = j;
     kept = k;
@@ -380,8 +380,8 @@ module _ (p : Sparse) (s : IsSparse p) (i j k : ℕ) (f : SaidOf p i j k) where
   })
 
   pairs : ReducesPairs Min M (shown (committed p (edits p i j k))) (undone_pair (record_of p i j k))
-  pairs = pairs_by_edits p (edits p i j k) (doubleton_substituted M i j k r) (undone_pair (record_of p i j k)) s allowed shows
-      (subst (λ (u : Undo). ReducesPairs Min M (doubleton_substituted M i j k r) (undone_pair u)) record_is (equation_pair M i j k r ts is_doubleton_equation terms_ascend terms_have))
+  pairs = pairs_by_edits p (edits p i j k) (doubleton_equation_substituted M i j k r) (undone_pair (record_of p i j k)) s allowed shows
+      (subst (λ (u : Undo). ReducesPairs Min M (doubleton_equation_substituted M i j k r) (undone_pair u)) record_is (equation_pair M i j k r ts shows_doubleton_equation terms_ascend terms_have))
 
   -- ---- the rest of what is owed
   joined_sided : (c : Number) (l u : Option Number) (o : Number) → All EditIsSided (column_joined i j k c l u o)

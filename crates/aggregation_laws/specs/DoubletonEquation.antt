@@ -2,10 +2,9 @@
 use Rattle.std.specs.Prelude.{ℕ, ⊤, Bool, false, not, ◌&&◌, ◌||◌, nat_eq, List, [], ◌∷◌, ◌++◌, map, All, Option, Some, None, unwrap_or, Result, Ok, Err}
 use Rattle.rational.specs.Number.{Number, zero_ℚ, ◌-ℚ◌, ◌*ℚ◌}
 use Rattle.rational.specs.Division.{◌/ℚ◌}
-use Rattle.rational.specs.Ends.{less, meet_low, meet_high}
+use Rattle.rational.specs.Ends.{meet_low, meet_high}
 use Rattle.rational.specs.Floor.{is_whole}
 use Rattle.rational.specs.Lowest.{Fits}
-use Rattle.fractions.specs.EndWords.{LessFits}
 use Rattle.fractions.specs.declared.Past.{Past}
 use Rattle.lp_model.specs.EndTests.{is_fixed, is_in_order}
 use Rattle.lp_model.specs.Sparse.{dense, without}
@@ -15,7 +14,7 @@ use Rattle.undo_records.specs.Fitting.{LessProductFits, QuotientFits}
 use Rattle.undo_records.specs.declared.undo.Undo.{Undo}
 use Rattle.undo_records.specs.declared.undo.Undo.TheVariants as undo
 use Rattle.problem_model.specs.declared.edit.Edit.{Edit}
-use Rattle.problem_model.specs.declared.edit.Edit.TheVariants.{SetEntry, SetSides, SetCost, SetBounds, AddOffset, DeleteRow, DeleteColumn}
+use Rattle.problem_model.specs.declared.edit.Edit.TheVariants.{SetEntry, SetCost, SetBounds, AddOffset, DeleteRow, DeleteColumn}
 use Rattle.problem_model.specs.declared.part.Contents.{Contents}
 use Rattle.problem_model.specs.declared.part.Contents.TheVariants.{Entries, Sides, Bounds}
 use Rattle.problem_model.specs.declared.part.Part.{Part}
@@ -24,6 +23,7 @@ use Rattle.problem_model.specs.Problems.{row_entries, column_entries, sides_at, 
 use Rattle.problem_model.specs.Sparse.{Sparse}
 use Rattle.row_spans.specs.Exact.{exact_quotient}
 use Rattle.rule_words.specs.Reading.{found_on, no_more}
+use Rattle.rule_words.specs.MovedSides.{sides_less, SidesFit}
 
 -- it reads the row, its sides, and the bounds of both columns
 abbrev pub heads : ℕ → ℕ → ℕ → List Part
@@ -44,13 +44,13 @@ abbrev pub stays_whole : Bool → Bool → Number → Number → Number → Bool
 stays_whole first second a b r = not first || (second && (is_made_whole (exact_quotient b a) && is_made_whole (exact_quotient r a)))
 
 -- both sides are one number, and no bounds are crossed
-abbrev pub is_doubleton : ℕ → ℕ → Contents → Contents → Contents → Contents → Bool
-is_doubleton j k (Entries ts) (Sides l u) (Bounds m v w) (Bounds n x y) =
+abbrev pub is_doubleton_equation : ℕ → ℕ → Contents → Contents → Contents → Contents → Bool
+is_doubleton_equation j k (Entries ts) (Sides l u) (Bounds m v w) (Bounds n x y) =
     are_at j k ts && (is_fixed l u false && (is_in_order m v && (is_in_order n x && stays_whole w y (dense ts j) (dense ts k) (unwrap_or l zero_ℚ))))
-is_doubleton j k row sides first second = false
+is_doubleton_equation j k row sides first second = false
 
 abbrev pub holds : ℕ → ℕ → List Contents → Bool
-holds j k (row ∷ sides ∷ first ∷ second ∷ []) = is_doubleton j k row sides first second
+holds j k (row ∷ sides ∷ first ∷ second ∷ []) = is_doubleton_equation j k row sides first second
 holds j k other = false
 
 abbrev pub enabled : Sparse → ℕ → ℕ → ℕ → Bool
@@ -81,10 +81,6 @@ new_entry p k q t = dense (column_entries p k) t.id -ℚ t.value *ℚ q
 abbrev pub entry_less : Sparse → ℕ → Number → Term → Edit
 entry_less p k q t = SetEntry t.id k (new_entry p k q t)
 
--- and the term times s the sides of its row
-abbrev pub sides_less : Sparse → Number → Term → Edit
-sides_less p s t = SetSides t.id (less (sides_at p t.id).lower (t.value *ℚ s)) (less (sides_at p t.id).upper (t.value *ℚ s))
-
 -- what k costs for both
 abbrev pub joined_cost : Sparse → ℕ → ℕ → ℕ → Number
 joined_cost p i j k = cost_at p k -ℚ cost_at p j *ℚ factor p i j k
@@ -108,14 +104,12 @@ edits p i j k =
 
 -- the record keeps the equation, k's old bounds, and the rest of column j
 abbrev pub record_of : Sparse → ℕ → ℕ → ℕ → Undo
-record_of p i j k = undo.Doubleton (record { row = i; column = j; kept = k; value = entry_at p i j; kept_value = entry_at p i k; equal = equal_of p i; lower = (bounds_at p k).lower; upper = (bounds_at p k).upper; cost = cost_at p j; entries = others p i j })
+record_of p i j k = undo.DoubletonEquation (record { row = i; column = j; kept = k; value = entry_at p i j; kept_value = entry_at p i k; equal = equal_of p i; lower = (bounds_at p k).lower; upper = (bounds_at p k).upper; cost = cost_at p j; entries = others p i j })
 
--- for a term: the products and differences
+-- for a term: the new entry and the new sides of its row
 pub record TermComputes (p : Sparse) (k : ℕ) (q s : Number) (t : Term) : Type 0 where
   pub entry : LessProductFits (dense (column_entries p k) t.id) t.value q
-  pub product : Fits (t.value *ℚ s)
-  pub lower : LessFits (sides_at p t.id).lower (t.value *ℚ s)
-  pub upper : LessFits (sides_at p t.id).upper (t.value *ℚ s)
+  pub sides : SidesFit p s t
 
 -- (r - a v) / b
 abbrev pub ImageFits : Number → Number → Number → Option Number → Type 0

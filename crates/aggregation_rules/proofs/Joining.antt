@@ -17,10 +17,11 @@ use Rattle.problem_model.specs.Problems.{IsSparse, row_at, column_entries, bound
 use Rattle.problem_model.specs.Sparse.{Sparse}
 use Rattle.problem_laws.proofs.Entries.{column_entries-ascend, column_entries-live}
 use Rattle.problem_laws.proofs.Terms.{ascends-filter}
-use Rattle.aggregation_laws.specs.DoubletonEquation.{column_joined, edits, entry_less, factor, joined_cost, joined_lower, joined_upper, others, shift, sides_less, Computes, ImageFits}
+use Rattle.aggregation_laws.specs.DoubletonEquation.{column_joined, edits, entry_less, factor, joined_cost, joined_lower, joined_upper, others, shift, Computes, ImageFits}
 use Rattle.aggregation_rules.specs.declared.equation.Equation.{Equation}
 use Rattle.aggregation_rules.specs.Looks.{equation_at}
-use Rattle.aggregation_rules.specs.Parts.{EntryFits, SidesFit}
+use Rattle.aggregation_rules.specs.Parts.{EntryFits}
+use Rattle.rule_words.specs.MovedSides.{sides_less, SidesFit}
 
 -- ---- the other entries of the column that goes
 pub others_live : (p : Sparse) (i j : ℕ) (ts : List Term) → ts ≡ others p i j → All (λ (t : Term). (row_at p t.id).live ≡ true) ts
@@ -44,9 +45,7 @@ module _ (p : Sparse) (i j k : ℕ) (x : Equation) (q s : Number) (e : x ≡ equ
     sides_quotient = subst (λ (y : Equation). Fits (y.equal /ℚ y.value)) e b;
     terms = λ n d l. record {
       entry = (subst (λ (z : Number). All (EntryFits p k z) (others p i j)) factor_is (subst (All (EntryFits p k q)) f entries)) n d l;
-      product = (all_sides n d l).0;
-      lower = (all_sides n d l).1;
-      upper = (all_sides n d l).2;
+      sides = all_sides n d l;
     };
     cost = subst (LessProductFits (cost_at p k) (cost_at p j)) factor_is cost;
     amount = subst (λ (z : Number). Fits (cost_at p j *ℚ z)) shift_is amount;

@@ -14,7 +14,7 @@ use Rattle.problem_model.specs.declared.part.Contents.TheVariants as holding
 use Rattle.problem_laws.proofs.Entries.{row_entries-ascend}
 use Rattle.problem_laws.proofs.Terms.{dense-cons_other, not_both}
 use Rattle.rule_words.proofs.EndTestsSay.{not_true}
-use Rattle.aggregation_laws.specs.DoubletonEquation.{are_at, enabled, entry_at, is_doubleton, stays_whole}
+use Rattle.aggregation_laws.specs.DoubletonEquation.{are_at, enabled, entry_at, is_doubleton_equation, stays_whole}
 use Rattle.aggregation_laws.proofs.DoubletonEquation.{IsPair, pair_is}
 use Rattle.aggregation_rules.proofs.Sign.{same_test}
 use Rattle.aggregation_rules.specs.Looks.{is_in_range, is_pair, keeps_whole}
@@ -114,7 +114,7 @@ regroup true false c d e = refl
 regroup false b c d e = refl
 
 looks : (row first second : Bool) (ts : List Term) (l u m o n q : Option Number) (w y : Bool) (j k : ℕ)
-    → is_doubleton j k (if row then holding.Entries ts else holding.Gone) (if row then holding.Sides l u else holding.Gone)
+    → is_doubleton_equation j k (if row then holding.Entries ts else holding.Gone) (if row then holding.Sides l u else holding.Gone)
     (if first then holding.Bounds m o w else holding.Gone) (if second then holding.Bounds n q y else holding.Gone)
     ≡ ((row && (first && (second && are_at j k ts))) && ((is_fixed l u false && (is_in_order m o && is_in_order n q)) && stays_whole w y (dense ts j) (dense ts k) (unwrap_or l zero_ℚ)))
 looks true true true ts l u m o n q w y j k = regroup (are_at j k ts) (is_fixed l u false) (is_in_order m o) (is_in_order n q) (stays_whole w y (dense ts j) (dense ts k) (unwrap_or l zero_ℚ))

@@ -1,7 +1,6 @@
 -- A walk along terms by ascending id.
-use Rattle.std.proofs.Common.{◌≡◌, ◌≢◌, ℕ, true, zero, suc, ◌+◌, ◌<◌, ◌≤◌, List, [], ◌∷◌, ◌++◌, length, get_or, map, take, drop, ◌-◌, sym, ap, ◌∙◌, subst, arith}
+use Rattle.std.proofs.Common.{◌≡◌, ◌≢◌, ℕ, true, zero, suc, ◌+◌, ◌<◌, ◌≤◌, List, [], ◌∷◌, ◌++◌, length, get_or, take, drop, ◌-◌, sym, ap, ◌∙◌, subst, arith}
 use Rattle.std.specs.List.{All}
-use Rattle.std.proofs.lemmas.List.{append_assoc, map-append}
 use Rattle.std.proofs.Math.Seq.{take-length}
 use Rattle.rational.specs.Number.{Number, zero_ℚ, ◌-ℚ◌, ◌*ℚ◌}
 use Rattle.lp_model.specs.declared.terms.Term.{Term}
@@ -13,7 +12,6 @@ use Rattle.problem_model.specs.Problems.{row_at, column_at, column_entries}
 use Rattle.problem_model.specs.Sparse.{Sparse}
 use Rattle.problem_laws.proofs.Entries.{column_entries-dense}
 use Rattle.problem_laws.proofs.Terms.{ascends-wider, dense-absent, dense-cons_other, dense-cons_same, has-below}
-use Rattle.singleton_rules.proofs.Terms.{taken}
 use Rattle.aggregation_laws.specs.DoubletonEquation.{entry_less}
 use Rattle.aggregation_rules.specs.Parts.{EntryFits}
 
@@ -43,10 +41,6 @@ ids_rise m n (t ∷ ts) zero zero y x a g l = omega arith
 ids_rise m n (t ∷ ts) zero (suc d) y x a g l = let h = ids_from (suc t.id) n ts d x a.3 (omega (arith, l)) in omega (arith, h)
 ids_rise m n (t ∷ ts) (suc i) zero y x a g l = absurd (omega (arith, g))
 ids_rise m n (t ∷ ts) (suc i) (suc d) y x a g l = ids_rise (suc t.id) n ts i d y x a.3 (omega (arith, g)) (omega (arith, l))
-
--- one more after those that were there
-pub made_after : {X Y : Type 0} (f : X → Y) (xs : List X) (i : ℕ) (x : X) (first old new : List Y) → i < length xs → x ≡ get_or xs i x → old ≡ first ++ map f (take i xs) → new ≡ old ++ f x ∷ [] → new ≡ first ++ map f (take (i + 1) xs)
-made_after f xs i x first old new l e h n = n ∙ ap (λ ys. ys ++ f x ∷ []) h ∙ append_assoc first (map f (take i xs)) (f x ∷ []) ∙ ap (λ ys. first ++ ys) (sym (map-append f (take i xs) (x ∷ [])) ∙ ap (map f) (sym (taken xs i x l e)))
 
 -- the first term, and those after it
 pub after_is : (t : Term) (rs : List Term) → 1 ≤ length rs → t ≡ get_or rs 0 t → rs ≡ t ∷ take (length rs - 1) (drop 1 rs)

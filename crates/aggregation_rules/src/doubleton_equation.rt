@@ -10,11 +10,11 @@ use crate::equation::{Equation, equation_of, is_in_range, is_pair, keeps_whole};
 use crate::new_bounds::{Range, new_bounds};
 use crate::new_entries::new_entries;
 use crate::new_numbers::{Costs, new_costs, quotients_of};
-use crate::new_sides::add_sides;
 use crate::record::record_for;
 use lp_model::{Term, Terms};
 use problem_model::{Edit, Refusal};
 use rule_words::Change;
+use singleton_rules::moved_sides::add_sides;
 use sparse_problem::Problem;
 use std::alloc::{AllocError, Global};
 

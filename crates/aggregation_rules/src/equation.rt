@@ -27,7 +27,7 @@ fn entries_of_row(problem: &Problem, row: u32) -> &[Term]
     requires { (row_at problem.now row).live ≡ true }
     ensures { result.now ≡ (row_at problem.now row).entries }
 {
-    problem.rows()[row as usize].entries.as_slice()
+    problem.row_line(row).entries.as_slice()
 }
 
 /// The entry of a row in a column: 0 where it has none there.

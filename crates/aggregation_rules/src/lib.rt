@@ -7,5 +7,4 @@ mod equation;
 mod new_bounds;
 mod new_entries;
 mod new_numbers;
-mod new_sides;
 mod record;

@@ -54,7 +54,7 @@ fn entries_of_column(problem: &Problem, column: u32) -> &[Term]
     requires { (column_at problem.now column).live ≡ true }
     ensures { result.now ≡ (column_at problem.now column).entries }
 {
-    problem.columns()[column as usize].entries.as_slice()
+    problem.column_line(column).entries.as_slice()
 }
 
 /// Adds the kept column's entry in a term's row, where it was `before`.

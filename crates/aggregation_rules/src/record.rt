@@ -8,7 +8,7 @@ use crate::equation::Equation;
 use lp_model::Terms;
 use sparse_problem::Problem;
 use std::alloc::{AllocError, Global};
-use undo_records::{Doubleton, EndApart, NumberApart, TermsApart, Undo};
+use undo_records::{DoubletonEquation, EndApart, NumberApart, TermsApart, Undo};
 
 /// The record of an equation by which a column went, with its other entries and the bounds that the kept column had.
 pub fn record_for(
@@ -22,10 +22,10 @@ pub fn record_for(
 ) -> Result<Undo, AllocError>
     requires first { (column_at problem.now column).live ≡ true }
     requires second { (column_at problem.now other).live ≡ true }
-    ensures { IfOk result (λ u. u ≡ undone.Doubleton (record { row = row; column = column; kept = other; value = equation.now.value; kept_value = equation.now.kept_value; equal = equation.now.equal; lower = (bounds_at problem.now other).lower; upper = (bounds_at problem.now other).upper; cost = cost_at problem.now column; entries = entries })) }
+    ensures { IfOk result (λ u. u ≡ undone.DoubletonEquation (record { row = row; column = column; kept = other; value = equation.now.value; kept_value = equation.now.kept_value; equal = equation.now.equal; lower = (bounds_at problem.now other).lower; upper = (bounds_at problem.now other).upper; cost = cost_at problem.now column; entries = entries })) }
 {
     let bounds = problem.bounds(other);
-    Ok(Undo::Doubleton(Doubleton {
+    Ok(Undo::DoubletonEquation(DoubletonEquation {
         row,
         column,
         kept: other,

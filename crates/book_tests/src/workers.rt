@@ -2,9 +2,10 @@
 
 use crate::models::{Model, problem};
 use fractions::Numbers;
-use instances::{Chunk, Proposal, Tally, is_enabled, scan};
+use instances::{Chunk, Proposal, Tally, Version, scan};
 use line_groups::Parallels;
 use presolve_model::{Instance, Outcome, Part, Reduction, Rule, Verdict};
+use rule_table::is_enabled;
 use sparse_problem::Problem;
 use std::alloc::{AllocError, Global};
 use std::process::Abort;
@@ -55,17 +56,17 @@ const STORIES: [Story; 9] = [
             Step::Freeze(0),
             Step::Freeze(1),
             Step::Find(0, Rule::SingletonRow, 1),
-            Step::Find(0, Rule::RoundBounds, 1),
-            Step::Find(1, Rule::RoundBounds, 1),
+            Step::Find(0, Rule::RoundedBounds, 1),
+            Step::Find(1, Rule::RoundedBounds, 1),
             Step::Commit(0, Some(Outcome::Applied { place: 1 })),
             Step::Commit(1, Some(Outcome::Stale { place: 0 })),
             Step::Commit(0, Some(Outcome::Stale { place: 0 })),
             Step::Commit(0, None),
             Step::Freeze(1),
-            Step::Find(1, Rule::RoundBounds, 0),
+            Step::Find(1, Rule::RoundedBounds, 0),
             Step::Find(1, Rule::FixedColumn, 0),
             Step::Find(1, Rule::EmptyColumn, 1),
-            Step::Find(0, Rule::RoundBounds, 1),
+            Step::Find(0, Rule::RoundedBounds, 1),
             Step::Commit(1, Some(Outcome::Applied { place: 2 })),
             Step::Freeze(1),
             Step::Find(1, Rule::FixedColumn, 1),
@@ -87,7 +88,7 @@ const STORIES: [Story; 9] = [
             Step::Find(0, Rule::SingletonRow, 1),
             Step::Commit(0, Some(Outcome::Applied { place: 1 })),
             Step::Freeze(0),
-            Step::Find(0, Rule::RoundBounds, 1),
+            Step::Find(0, Rule::RoundedBounds, 1),
             Step::Commit(0, Some(Outcome::Full)),
         ],
     },
@@ -105,7 +106,7 @@ const STORIES: [Story; 9] = [
             Step::Freeze(0),
             Step::Freeze(1),
             Step::Find(0, Rule::SingletonRow, 1),
-            Step::Find(1, Rule::RoundBounds, 1),
+            Step::Find(1, Rule::RoundedBounds, 1),
             Step::Commit(0, Some(Outcome::Applied { place: 1 })),
             Step::Freeze(0),
             Step::Find(0, Rule::CrossedBounds, 1),
@@ -176,7 +177,7 @@ const STORIES: [Story; 9] = [
             ..PLAIN
         },
         steps: &[
-            Step::FindOther(1, Rule::RoundBounds, 1),
+            Step::FindOther(1, Rule::RoundedBounds, 1),
             Step::Commit(1, Some(Outcome::Stale { place: 0 })),
         ],
     },
@@ -204,35 +205,31 @@ const STORIES: [Story; 9] = [
             ..PLAIN
         },
         steps: &[
-            Step::FindOther(1, Rule::RoundBounds, 2),
+            Step::FindOther(1, Rule::RoundedBounds, 2),
             Step::Commit(1, Some(Outcome::Applied { place: 1 })),
             Step::Commit(1, Some(Outcome::Stale { place: 0 })),
         ],
     },
 ];
 
-/// The enabled instances of a rule on a problem.
-fn found_in(
-    alloc: Global,
-    problem: &Problem,
-    tally: &Tally,
-    rule: Rule,
-) -> Result<Vec<Proposal>, AllocError> {
-    let groups = Parallels::of(alloc, problem)?;
-    scan(alloc, problem, &groups, tally, 0, rule, Chunk::new(0))
+/// The enabled instances of a rule on a problem that is no version of the book's.
+fn found_on(alloc: Global, problem: &Problem, rule: Rule) -> Result<Vec<Proposal>, AllocError> {
+    let problem = problem.copy(alloc)?;
+    let groups = Parallels::of(alloc, &problem)?;
+    let tally = Tally::new(alloc, 2)?;
+    let version = Version::new(problem, groups, tally, 0);
+    scan(alloc, &version, rule, Chunk::new(0))
 }
 
-/// A worker proposes the instances of a rule on a problem.
+/// A worker proposes what was found: so many.
 fn propose(
     rt: &impl Abort,
     alloc: Global,
     world: &mut World,
     worker: u32,
-    problem: &Problem,
-    tally: &Tally,
-    (rule, count): (Rule, usize),
+    found: Vec<Proposal>,
+    count: usize,
 ) -> Result<(), Fail> {
-    let found = found_in(alloc, problem, tally, rule)?;
     assert_eq!(rt; found.len(), count);
     for proposal in found {
         let answer = world.step(alloc, Event::Propose(worker, proposal))?;
@@ -247,15 +244,14 @@ fn propose_frozen(
     alloc: Global,
     world: &mut World,
     worker: u32,
-    wanted: (Rule, usize),
+    (rule, count): (Rule, usize),
 ) -> Result<(), Fail> {
     let Some(version) = world.frozen(worker) else {
         assert!(rt; false);
         return Ok(());
     };
-    let problem = version.problem().copy(alloc)?;
-    let tally = version.tally().copy(alloc)?;
-    propose(rt, alloc, world, worker, &problem, &tally, wanted)
+    let found = scan(alloc, version, rule, Chunk::new(0))?;
+    propose(rt, alloc, world, worker, found, count)
 }
 
 /// A step of a story.
@@ -275,8 +271,8 @@ fn take(
             propose_frozen(rt, alloc, world, worker, (rule, count))?;
         }
         Step::FindOther(worker, rule, count) => {
-            let tally = Tally::new(alloc, 2)?;
-            propose(rt, alloc, world, worker, other, &tally, (rule, count))?;
+            let found = found_on(alloc, other, rule)?;
+            propose(rt, alloc, world, worker, found, count)?;
         }
         Step::Commit(worker, wanted) => {
             let answer = world.step(alloc, Event::Commit(worker))?;
@@ -311,14 +307,14 @@ fn applied_at_once(rt: HostRuntime) -> Result<(), Fail> {
     let mut changed = Vec::new(alloc);
     let row = Instance::Reduction(Reduction::SingletonRow { row: 0 });
     assert!(rt; is_enabled(book.problem(), row));
-    let outcome = book.apply(alloc, row, &mut changed);
+    let outcome = book.apply(alloc, 0, row, &mut changed);
     assert_eq!(rt; outcome, Outcome::Applied { place: 1 });
     for part in [Part::Row(0), Part::Sides(0), Part::Col(0), Part::Bounds(0)] {
         assert!(rt; changed.contains(&part));
     }
     let column = Instance::Reduction(Reduction::EmptyColumn { column: 0 });
     assert!(rt; is_enabled(book.problem(), column));
-    let outcome = book.apply(alloc, column, &mut changed);
+    let outcome = book.apply(alloc, 1, column, &mut changed);
     assert_eq!(rt; outcome, Outcome::Full);
     Ok(())
 }

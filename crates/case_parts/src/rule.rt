@@ -1,14 +1,15 @@
 //! One reduction of a program, by itself.
 
 use anyhow::{Context, Result, anyhow, ensure};
+use applying::after;
 use fractions::Numbers;
 use fractions::ext::Ext;
 use fractions::frac::Frac;
-use instances::{after, is_enabled};
 use mps_profile::dialect::{Dialect, Format};
 use mps_reader::{MpsError, read_mps};
 use presolve_model::{Instance, Reduction};
 use problem_model::Refusal;
+use rule_table::is_enabled;
 use sparse_problem::Problem;
 use std::alloc::Global;
 use std::str;
@@ -27,11 +28,11 @@ pub fn reduction(words: &str) -> Result<Reduction> {
             column: second,
             other: third,
         }),
-        "K13" => Ok(Reduction::FreeColumn {
+        "K13" => Ok(Reduction::FreeColumnSingleton {
             column: first,
             row: second,
         }),
-        "K14" => Ok(Reduction::SlackColumn {
+        "K14" => Ok(Reduction::SlackColumnSingleton {
             column: first,
             row: second,
         }),

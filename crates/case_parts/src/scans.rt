@@ -1,14 +1,11 @@
 //! What a scan of a problem finds.
 
-ghost use Rattle.line_groups.specs.Groups.{AreGroupsOf};
-
 use crate::rule::problem_of;
 use anyhow::{Context, Result, ensure};
-use instances::{
-    Chunk, Proposal, Tally, is_enabled, reading_for, reduction_rules, scan, scan_at, verdict_rules,
-};
+use instances::{Chunk, Proposal, Tally, Version, reading_for, scan, scan_at};
 use line_groups::Parallels;
 use presolve_model::Rule;
+use rule_table::{is_enabled, reduction_rules, verdict_rules};
 use sparse_problem::Problem;
 use std::alloc::Global;
 use undo_records::Side;
@@ -49,25 +46,17 @@ fn shown(rt: &HostRuntime, problem: &Problem, found: &[Proposal]) -> Result<()> 
 }
 
 /// Prints what a scan of a rule finds, by all ids at once and past the last id.
-fn scanned_rule(
-    rt: &HostRuntime,
-    problem: &Problem,
-    groups: &Parallels,
-    tally: &Tally,
-    rule: Rule,
-) -> Result<()>
-    requires { AreGroupsOf groups.now problem.now }
-{
+fn scanned_rule(rt: &HostRuntime, version: &Version, rule: Rule) -> Result<()> {
     let alloc = rt.alloc();
-    let found = scan(alloc, problem, groups, tally, 0, rule, Chunk::new(0))?;
-    let past = scan(alloc, problem, groups, tally, 0, rule, Chunk::new(1))?;
-    let first = scan_at(alloc, problem, groups, tally, 0, rule, &[0])?;
+    let found = scan(alloc, version, rule, Chunk::new(0))?;
+    let past = scan(alloc, version, rule, Chunk::new(1))?;
+    let first = scan_at(alloc, version, rule, &[0])?;
     ensure!(past.is_empty(), "something past the last id");
     ensure!(
         first.len() <= found.len(),
         "more at the first id than in all"
     );
-    shown(rt, problem, &found)
+    shown(rt, version.problem(), &found)
 }
 
 /// Prints what is enabled on the problem of a text and open by a tally, rule by rule.
@@ -76,11 +65,12 @@ pub fn scanned(rt: &HostRuntime, bytes: &[u8], words: &str) -> Result<()> {
     let problem = problem_of(alloc, bytes)?;
     let tally = tally_of(alloc, problem.column_count() as u32, words)?;
     let groups = Parallels::of(alloc, &problem)?;
+    let version = Version::new(problem, groups, tally, 0);
     for rule in verdict_rules() {
-        scanned_rule(rt, &problem, &groups, &tally, rule)?;
+        scanned_rule(rt, &version, rule)?;
     }
     for rule in reduction_rules() {
-        scanned_rule(rt, &problem, &groups, &tally, rule)?;
+        scanned_rule(rt, &version, rule)?;
     }
     Ok(())
 }

@@ -9,6 +9,7 @@
 //! - `room NAME N`: a file that is missing and takes up to N bytes
 //! - `fail reads N`, `fail writes N`, `fail puts N`: the Nth call fails
 //! - `run WORD ..`: runs the presolver with these words
+//! - `explain WORD ..`: looks inside a presolve, with these words of `papilo-explain`
 //! - `program NAME FORMAT NUMBERS`: reads the program of a file's text, and writes it
 //! - `look NAME FORMAT NUMBERS`: shows the first fault of a file's text, with its field marked
 //! - `records NAME`: reads the records of a file's text, and writes them

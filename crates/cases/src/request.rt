@@ -12,6 +12,8 @@ pub enum Request {
     Nothing,
     /// A run of the presolver with the case's words.
     Run,
+    /// A look inside a presolve with the case's words.
+    Explain,
     /// The program of a text, written.
     Program(usize, Dialect),
     /// A look at the first fault of a text.
@@ -28,6 +30,7 @@ impl Request {
         match *self {
             Request::Nothing => Err(anyhow!("nothing is asked")),
             Request::Run => case.run(rt),
+            Request::Explain => case.explain(rt),
             Request::Program(place, dialect) => again::program(rt, case.bytes_at(place)?, dialect),
             Request::Look(place, dialect) => again::look(rt, case.bytes_at(place)?, dialect),
             Request::Records(place) => again::records(rt, case.bytes_at(place)?),

@@ -2,6 +2,7 @@
 
 use anyhow::{Context, Result, ensure};
 use case_parts::shown;
+use explain_command::answer;
 use file_ports::{Held, MemFiles, MemSink, names_differ};
 use papilo::run::run;
 use std::alloc::{AllocError, Global};
@@ -80,10 +81,10 @@ impl Case {
         Ok(())
     }
 
-    /// Takes the words of a run, without the program's name.
-    pub fn ask(&mut self, alloc: Global, words: &str) -> Result<(), AllocError> {
+    /// Takes the words of a run of a program.
+    pub fn ask(&mut self, alloc: Global, program: &str, words: &str) -> Result<(), AllocError> {
         self.words.clear();
-        self.words.push(String::from_str(alloc, "papilo")?)?;
+        self.words.push(String::from_str(alloc, program)?)?;
         for word in words.split_whitespace() {
             self.words.push(String::from_str(alloc, word)?)?;
         }
@@ -110,5 +111,16 @@ impl Case {
             }
         }
         Ok(())
+    }
+
+    /// Looks inside a presolve, and prints the status and the text.
+    pub fn explain(&self, rt: &HostRuntime) -> Result<()> {
+        let alloc = rt.alloc();
+        ensure!(names_differ(&self.held), "a file named twice");
+        let mut files = MemFiles::new(alloc, &self.held, &self.reads, &self.writes)?;
+        let told = answer(rt, alloc, &self.words, &mut files, false);
+        let status = told.status;
+        println!(rt; "status {status}")?;
+        shown::text(rt, &told.text)
     }
 }

@@ -67,7 +67,8 @@ impl Script {
             "stars" => self.stars(rest),
             "room" => self.room(rest),
             "fail" => self.fail(rest),
-            "run" => self.run(rt, rest),
+            "run" => self.run(rt, "papilo", rest, Request::Run),
+            "explain" => self.run(rt, "papilo-explain", rest, Request::Explain),
             "each" => self.each(rest),
             "begin" => self.beginnings(rt, rest),
             "program" => self.program(rt, rest),
@@ -133,10 +134,16 @@ impl Script {
         Ok(())
     }
 
-    fn run(&mut self, rt: &HostRuntime, words: &str) -> Result<()> {
+    fn run(
+        &mut self,
+        rt: &HostRuntime,
+        program: &str,
+        words: &str,
+        request: Request,
+    ) -> Result<()> {
         println!(rt; "$ {words}")?;
-        self.case.ask(self.alloc, words)?;
-        self.request = Request::Run;
+        self.case.ask(self.alloc, program, words)?;
+        self.request = request;
         self.request.answer(rt, &self.case)
     }
 

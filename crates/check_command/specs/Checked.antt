@@ -13,10 +13,9 @@ use Rattle.lp_check.specs.Deciding.{Decides}
 use Rattle.lp_check.specs.DecidingPairs.{DecidesPair}
 use Rattle.lp_check.specs.declared.verdicts.Verdict.{Verdict}
 use Rattle.lp_check.specs.declared.pair_verdicts.PairVerdict.{PairVerdict}
-use Rattle.fractions.specs.declared.Numbers.TheVariants.{Fractions}
-use Rattle.mps_profile.specs.declared.dialect.Dialect.{Dialect}
 use Rattle.endings.specs.Continuity.{NamesFirstWhole}
-use Rattle.endings.specs.Dialects.{format_of}
+use Rattle.endings.specs.declared.forms.Form.{Form}
+use Rattle.endings.specs.Forms.{fractions_form}
 use Rattle.endings.specs.Ending.{When, no_memory_line, read_fault_line}
 use Rattle.endings.specs.Moments.{FailsToRead, IsQuiet, IsThere, Reads}
 use Rattle.endings.specs.ProgramTexts.{IsProgramOf, SaysFaultOf}
@@ -27,8 +26,8 @@ use Rattle.endings.specs.SolutionTexts.{IsPairOf, SaysPairFault}
 use Rattle.check_command.specs.VerdictText.{status_of_verdict, verdict_text, status_of_pair_verdict, pair_verdict_text, yes_text}
 
 -- how IN is read
-abbrev pub check_dialect : CheckNames → Dialect
-check_dialect names = record { format = format_of names.fixed; numbers = Fractions }
+abbrev pub check_form : CheckNames → Form
+check_form names = fractions_form names.fixed
 
 -- an ending by a verdict, with its line
 abbrev pub TellsVerdict : ProgramData → Verdict → Ending → Type 0
@@ -93,7 +92,7 @@ SaysSolution program name before now ending = ⊥
 
 -- IN has no fault, and this is its program
 abbrev pub IsProgramIn : CheckNames → Moment → ProgramData → Type 0
-IsProgramIn names before program = Reads INPUT_LIMIT (before.told names.input) (λ text. IsProgramOf (check_dialect names) text program)
+IsProgramIn names before program = Reads INPUT_LIMIT (before.told names.input) (λ text. IsProgramOf (check_form names) text program)
 
 -- IN has no fault, and this status and this line are those of the verdict on what SOL gives
 abbrev pub IsChecked : CheckNames → ℕ → List ℕ → Moment → Type 0
@@ -101,7 +100,7 @@ IsChecked names status printed before = (program : ProgramData) × IsProgramIn n
 
 -- this is said of IN's text, or IN has no fault and a column that has to be whole, and SOL has duals
 abbrev pub RefusesProgram : CheckNames → List ℕ → Moment → Moment → Type 0
-RefusesProgram names said before now = SaysFaultOf INPUT_LIMIT (check_dialect names) names.input said before now
+RefusesProgram names said before now = SaysFaultOf INPUT_LIMIT (check_form names) names.input said before now
     ⊎ ((program : ProgramData) × IsProgramIn names before program × IsNotContinuous program (before.told names.solution) said)
 
 -- IN has no fault, and this is said of SOL's text

@@ -4,14 +4,12 @@ ghost use Rattle.std.specs.Prelude.{◌≡◌, ◌≤◌, ◌⊎◌, length, opt
 ghost use Rattle.command_words.specs.Seen.{check_names_of};
 ghost use Rattle.endings.specs.Ending.{status_of, text_of};
 ghost use Rattle.endings.specs.Moments.{FailsToRead, Finds, IsQuiet};
-ghost use Rattle.check_command.specs.Checked.{EndsCheck, check_dialect};
+ghost use Rattle.check_command.specs.Checked.{EndsCheck};
 
 use crate::judging::judge;
 use command_words::CheckWords;
-use endings::{Ending, INPUT_LIMIT, SOLUTION_LIMIT, Unread, format_of, read_within};
+use endings::{Ending, INPUT_LIMIT, SOLUTION_LIMIT, Unread, fractions_form, read_within};
 use file_ports::Files;
-use fractions::Numbers;
-use mps_reader::Dialect;
 use std::alloc::{AllocError, Global};
 
 /// The bytes of IN and of SOL; none of a name that holds more than is read.
@@ -39,16 +37,6 @@ fn read_both<F: Files>(
     Ok(BothTexts { input, solution })
 }
 
-/// How IN is read.
-fn dialect_of(words: &CheckWords<'_>) -> Dialect
-    ensures { result ≡ check_dialect (check_names_of words.now) }
-{
-    Dialect {
-        format: format_of(words.fixed),
-        numbers: Numbers::Fractions,
-    }
-}
-
 /// Reads a program and a solution, and says whether the solution's point meets the program. No file is written.
 pub fn check<F: Files>(
     alloc: Global,
@@ -58,9 +46,9 @@ pub fn check<F: Files>(
     ensures ends { IfOk result (λ e. EndsCheck (check_names_of words.now) (status_of e) (text_of e) (F.moment files.old) (F.moment files.new)) }
     ensures no_memory { OnErr result (IsQuiet (F.moment files.old) (F.moment files.new)) }
 {
-    let dialect = dialect_of(words);
+    let form = fractions_form(words.fixed);
     match read_both(alloc, words.input, words.solution, files) {
-        Ok(BothTexts { input, solution }) => judge(alloc, input, solution, dialect),
+        Ok(BothTexts { input, solution }) => judge(alloc, input, solution, form),
         Err(Unread::Failed) => Ok(Ending::ReadFault),
         Err(Unread::NoMemory) => Err(AllocError),
     }

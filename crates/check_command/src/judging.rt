@@ -10,14 +10,15 @@ ghost use Rattle.lp_model.specs.Meaning.{meaning};
 ghost use Rattle.lp_model.specs.Optimality.{Continuous};
 ghost use Rattle.lp_model.specs.Writable.{EntriesAscend};
 ghost use Rattle.endings.specs.SolutionTexts.{IsPairOf};
-ghost use Rattle.check_command.specs.Checked.{SaysCheck, SaysSolution, check_dialect};
+ghost use Rattle.check_command.specs.Checked.{SaysCheck, SaysSolution, check_form};
 
 use crate::pair_verdict_text::pair_verdict_ending;
 use crate::verdict_text::verdict_ending;
-use endings::{Ending, fault_line, not_continuous_text, solution_fault_line};
+use endings::{
+    Ending, Form, ProgramError, fault_line, not_continuous_text, read_program, solution_fault_line,
+};
 use lp_check::{check_pair, check_point, first_whole_column};
 use lp_model::{Duals, Pair, Point, Program};
-use mps_reader::{Dialect, MpsError, read_mps};
 use point_text::{SolError, read_pair};
 use std::alloc::{AllocError, Global};
 
@@ -128,10 +129,10 @@ pub fn judge(
     alloc: Global,
     input: Option<Vec<u8>>,
     solution: Option<Vec<u8>>,
-    dialect: Dialect,
+    form: Form,
 ) -> Result<Ending, AllocError>
     requires { IfSome input (λ text. length text.items ≤ INPUT_LIMIT) }
-    ensures { (names : CheckNames) → (before now : Moment) → dialect ≡ check_dialect names
+    ensures { (names : CheckNames) → (before now : Moment) → form ≡ check_form names
         → Finds INPUT_LIMIT names.input before now (option_map (λ text. text.items) input)
         → Finds SOLUTION_LIMIT names.solution before now (option_map (λ text. text.items) solution)
         → IfOk result (λ ending. SaysCheck names (status_of ending) (text_of ending) before now) }
@@ -139,9 +140,9 @@ pub fn judge(
     let Some(text) = input else {
         return Ok(Ending::Refused(Vec::from_slice(alloc, b"error M17\n")?));
     };
-    match read_mps(alloc, &text, dialect) {
+    match read_program(alloc, &text, form) {
         Ok(program) => judge_solution(alloc, &program, solution),
-        Err(MpsError::Fault(fault)) => Ok(Ending::Refused(fault_line(alloc, fault)?)),
-        Err(MpsError::NoMemory) => Err(AllocError),
+        Err(ProgramError::Fault(fault)) => Ok(Ending::Refused(fault_line(alloc, fault)?)),
+        Err(ProgramError::NoMemory) => Err(AllocError),
     }
 }

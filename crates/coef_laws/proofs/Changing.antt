@@ -36,15 +36,15 @@ use Rattle.row_spans.proofs.Reading.{row_is_read}
 use Rattle.activity_laws.specs.Rows.{row_found}
 use Rattle.activity_laws.proofs.Rows.{said}
 use Rattle.coef_laws.specs.declared.tightening.Tightening.{Tightening}
-use Rattle.coef_laws.specs.TightenedCoefficient.{edits, edits_by, enabled, holds, is_tightened, new_coefficient, new_limit, side_set, tightening, tightening_of, turned}
-use Rattle.coef_laws.proofs.TightenedCoefficient.{entry_told, owes, shrinks}
+use Rattle.coef_laws.specs.CoefficientTightening.{edits, edits_by, enabled, holds, is_coefficient_tightening, new_coefficient, new_limit, side_set, tightening, tightening_of, turned}
+use Rattle.coef_laws.proofs.CoefficientTightening.{entry_told, owes, shrinks}
 
 -- ---- where it is enabled the row is live, and has an entry in the column
 pub row_live : (p : Sparse) (i j : ℕ) → enabled p i j ≡ true → (row_at p i).live ≡ true
-row_live p i j e = (said (is_tightened j) p i e).live
+row_live p i j e = (said (is_coefficient_tightening j) p i e).live
 
 pub entry_named : (p : Sparse) (i j : ℕ) → enabled p i j ≡ true → has j (row_entries p i) ≡ true
-entry_named p i j e = by (tightening_of p i j) refl (said (is_tightened j) p i e).holds
+entry_named p i j e = by (tightening_of p i j) refl (said (is_coefficient_tightening j) p i e).holds
   where
     by : (o : Option Tightening) → tightening_of p i j ≡ o → is_some o ≡ true → has j (row_entries p i) ≡ true
     by None f h = absurd (not_true h)

@@ -1,2 +1,2 @@
-pub mod TightenedCoefficient
+pub mod CoefficientTightening
 pub mod Changing

@@ -1,1 +1,1 @@
-pub mod TightenedCoefficient
+pub mod CoefficientTightening

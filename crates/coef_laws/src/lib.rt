@@ -6,7 +6,7 @@ ghost use Rattle.std.specs.Prelude.{◌≡◌, ℕ, true};
 ghost use Rattle.problem_model.specs.Problems.{IsSparse};
 ghost use Rattle.problem_model.specs.Sparse.{Sparse};
 ghost use Rattle.rule_words.specs.Owed.{Owes};
-ghost use Rattle.coef_laws.specs.TightenedCoefficient as tightened_coefficient;
+ghost use Rattle.coef_laws.specs.CoefficientTightening as coefficient_tightening;
 
 mod tightening;
 
@@ -15,6 +15,6 @@ pub use tightening::Tightening;
 /// The coefficient of a whole column in a row with one finite side can shrink, and the side with it, by what the greatest rest of the row
 /// leaves unused; it comes strictly closer to 0, and doesn't become 0.
 pub fn coefficients_can_be_tightened()
-    ensures owes { (p : Sparse) (i j : ℕ) → IsSparse p → tightened_coefficient.enabled p i j ≡ true → Owes p (tightened_coefficient.edits p i j) (tightened_coefficient.record_of p i j) }
-    ensures shrinks { (p : Sparse) (i j : ℕ) → tightened_coefficient.enabled p i j ≡ true → tightened_coefficient.Shrinks p i j }
+    ensures owes { (p : Sparse) (i j : ℕ) → IsSparse p → coefficient_tightening.enabled p i j ≡ true → Owes p (coefficient_tightening.edits p i j) (coefficient_tightening.record_of p i j) }
+    ensures shrinks { (p : Sparse) (i j : ℕ) → coefficient_tightening.enabled p i j ≡ true → coefficient_tightening.Shrinks p i j }
 {}

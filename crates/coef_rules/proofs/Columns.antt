@@ -13,9 +13,9 @@ use Rattle.problem_model.specs.Sparse.{Sparse}
 use Rattle.row_spans.specs.declared.span.Span.{Span}
 use Rattle.row_spans.specs.RowSums.{rest}
 use Rattle.row_spans.specs.Spans.{AreSpans, span_at, span_of, spans_of}
-use Rattle.activity_laws.specs.TightenedBound.{entry_at}
-use Rattle.activity_rules.specs.Looks.{is_uncrossed}
-use Rattle.coef_laws.specs.TightenedCoefficient.{enabled, extreme_of, given, if_finite, one_side, tightened_at, tightened_by, tightened_in, tightening_of, turned, whole_bounds}
+use Rattle.activity_laws.specs.BoundTightening.{entry_at}
+use Rattle.activities.specs.Rows.{is_uncrossed}
+use Rattle.coef_laws.specs.CoefficientTightening.{enabled, extreme_of, given, if_finite, one_side, tightened_at, tightened_by, tightened_in, tightening_of, turned, whole_bounds}
 use Rattle.coef_laws.specs.declared.tightening.Tightening.{Tightening}
 use Rattle.coef_rules.specs.Columns.{any_whole, ids_among, is_whole_column}
 use Rattle.coef_rules.proofs.Looks.{enabled_is}

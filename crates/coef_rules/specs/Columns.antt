@@ -7,7 +7,7 @@ use Rattle.undo_records.specs.declared.side.Side.{Side}
 use Rattle.problem_model.specs.Problems.{bounds_at, column_at}
 use Rattle.problem_model.specs.Sparse.{Sparse}
 use Rattle.row_spans.specs.declared.span.Span.{Span}
-use Rattle.coef_laws.specs.TightenedCoefficient.{tightened_in}
+use Rattle.coef_laws.specs.CoefficientTightening.{tightened_in}
 
 -- the columns of these spans at which a row ss with the side b alone is tightened
 abbrev pub ids_among : Side → Number → List Span → List Span → List ℕ

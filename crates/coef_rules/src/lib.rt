@@ -2,9 +2,9 @@
 //! record, and all columns of a row at which it is enabled.
 #![tactic(auto)]
 
+pub mod coefficient_tightening;
 mod listing;
 mod new_numbers;
-pub mod tightened_coefficient;
 mod values;
 
 pub use listing::add_tightened;

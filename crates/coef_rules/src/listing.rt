@@ -4,12 +4,12 @@ ghost use Rattle.std.specs.Prelude.{◌≡◌, ◌<◌, ◌++◌, ◌∷◌, [],
 ghost use Rattle.std.specs.List.{filter};
 ghost use Rattle.problem_model.specs.Problems.{row_at, row_entries};
 ghost use Rattle.row_spans.specs.Spans.{span_at};
-ghost use Rattle.coef_laws.specs.TightenedCoefficient.{enabled, tightened_in};
+ghost use Rattle.coef_laws.specs.CoefficientTightening.{enabled, tightened_in};
 ghost use Rattle.coef_rules.specs.Columns.{any_whole, ids_among, is_whole_column};
 
 use crate::values::{extreme_of, one_side, tightened_at, whole_bounds};
 use activities::RowSums;
-use activity_rules::rows::is_uncrossed;
+use activities::rows::is_uncrossed;
 use coef_laws::Tightening;
 use fractions::frac::Frac;
 use lp_model::Term;
@@ -88,10 +88,7 @@ fn some_whole(problem: &Problem, terms: &[Term]) -> bool
 fn has_whole(problem: &Problem, row: u32) -> bool
     ensures { result ≡ any_whole problem.now (row_at problem.now row).entries }
 {
-    match problem.rows().get(row as usize) {
-        Some(line) => some_whole(problem, line.entries.as_slice()),
-        None => false,
-    }
+    some_whole(problem, problem.rows().entries(row))
 }
 
 /// Adds the columns of a row whose coefficients there can be tightened, in the order of the row's entries. The row is summed once, and not

@@ -4,7 +4,7 @@ ghost use Rattle.std.specs.Prelude.{◌≡◌, ◌↔◌, IfOk, IsOk};
 ghost use Rattle.rational.specs.Lowest.{Fits};
 ghost use Rattle.rational.specs.Number.{◌*ℚ◌};
 ghost use Rattle.fractions.specs.FracWords.{SumFits};
-ghost use Rattle.coef_laws.specs.TightenedCoefficient.{new_coefficient as coefficient_after, new_limit as limit_after, step as step_by, turned as times};
+ghost use Rattle.coef_laws.specs.CoefficientTightening.{new_coefficient as coefficient_after, new_limit as limit_after, step as step_by, turned as times};
 
 use crate::values::turned;
 use coef_laws::Tightening;

@@ -27,7 +27,7 @@ use Rattle.undo_records.specs.Ids.{AreOthers, IsEntry, ids_of, is_on}
 use Rattle.undo_records.specs.Sound.{IsSound}
 use Rattle.undo_records.specs.Walk.{NamesLive, after}
 use Rattle.undo_records.specs.declared.undo.Undo.{Undo}
-use Rattle.postsolve_dual.specs.LiftPair.{undone_pair}
+use Rattle.undo_pairs.specs.LiftPair.{undone_pair}
 use Rattle.problem_model.specs.declared.edit.Edit.{Edit}
 use Rattle.problem_model.specs.declared.edit.Edit.TheVariants.{AddOffset, DeleteColumn, DeleteRow}
 use Rattle.problem_model.specs.Allowed.{AreAllowed, NoEntries}

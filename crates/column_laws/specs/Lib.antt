@@ -1,3 +1,3 @@
 pub mod SoleEntry
-pub mod FreeColumn
-pub mod SlackColumn
+pub mod FreeColumnSingleton
+pub mod SlackColumnSingleton

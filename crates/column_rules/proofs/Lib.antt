@@ -1,3 +1,3 @@
 pub mod SoleEntries
-pub mod FreeColumns
-pub mod SlackColumns
+pub mod FreeColumnSingletons
+pub mod SlackColumnSingletons

@@ -5,11 +5,11 @@ use Rattle.std.proofs.lemmas.Bool.{and_parts, eq-eqb, ne_eqb}
 use Rattle.std.proofs.lemmas.List.Elements.{All-filter, filter_more}
 use Rattle.rational.specs.Number.{zero_ℚ}
 use Rattle.lp_model.specs.declared.terms.Term.{Term}
-use Rattle.lp_model.specs.Sparse.{has, without}
+use Rattle.lp_model.specs.Sparse.{dense, has, without}
 use Rattle.problem_model.specs.Problems.{IsSparse, column_at, column_entries, first_of, row_at, row_entries}
 use Rattle.problem_model.specs.Sparse.{Sparse}
-use Rattle.problem_laws.proofs.Entries.{live_entries_name, row_entries-live}
-use Rattle.activity_rules.proofs.Tightened.{entry_in}
+use Rattle.problem_laws.proofs.Entries.{column_entries-dense, live_entries_name, live_entries_tell, row_entries-live}
+use Rattle.activities.proofs.RowLooks.{entry_in}
 use Rattle.column_laws.specs.SoleEntry.{entry_of, is_sole_at, others_of}
 use Rattle.column_laws.proofs.SoleEntry.{IsSole}
 
@@ -36,6 +36,10 @@ row_has p j i s row column e = live_entries_name p i j s row column ∙ sole_has
 
 pub entry_some : (p : Sparse) (j i : ℕ) → IsSparse p → (row_at p i).live ≡ true → (column_at p j).live ≡ true → is_sole_at i (column_entries p j) ≡ true → entry_of p j i ≢ zero_ℚ
 entry_some p j i s row column e = entry_in p i j s (row_has p j i s row column e)
+
+-- the column tells it too
+pub value_told : (p : Sparse) (j i : ℕ) → IsSparse p → (row_at p i).live ≡ true → (column_at p j).live ≡ true → dense (column_at p j).entries i ≡ entry_of p j i
+value_told p j i s row column = sym (column_entries-dense p j i row) ∙ sym (live_entries_tell p i j s row column)
 
 -- one term more
 pub without_more : (j : ℕ) (ts : List Term) (n : ℕ) (t : Term) (xs ys : List Term) → n < length ts → t ≡ get_or ts n t → xs ≡ without j (take n ts)

@@ -1,2 +1,2 @@
 pub mod SoleEntries
-pub mod SlackColumns
+pub mod SlackColumnSingletons

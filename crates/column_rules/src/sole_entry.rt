@@ -10,10 +10,9 @@ ghost use Rattle.rule_words.specs.Answers.{Answers};
 ghost use Rattle.column_laws.specs.SoleEntry.{cost_less as less_cost, costs_less as costs_by, entry_of as value_of, is_sole_at as is_sole_there, others_of as others_by, price_of as price_by, CostComputes};
 ghost use Rattle.column_rules.specs.SoleEntries.{IsSoleEntry};
 
-use activity_rules::tightened_bound::entry_of;
 use fractions::Past;
 use fractions::frac::Frac;
-use lp_model::{Term, Terms};
+use lp_model::{Term, Terms, has_id, number_at};
 use problem_model::{Edit, Refusal};
 use sparse_problem::Problem;
 use std::alloc::{AllocError, Global};
@@ -26,26 +25,12 @@ pub struct SoleEntry {
     pub others: Terms,
 }
 
-/// Whether one of these terms has an id.
-fn has_id(terms: &[Term], id: u32) -> bool
-    ensures { result ≡ has id terms.now }
-{
-    let mut rest = terms;
-    while let [term, after @ ..] = rest {
-        if term.id == id {
-            return true;
-        }
-        rest = after;
-    }
-    false
-}
-
 /// The entries of a column, those in deleted rows among them.
 fn entries_of_column(problem: &Problem, column: u32) -> &[Term]
     requires { (column_at problem.now column).live ≡ true }
     ensures { result.now ≡ (column_at problem.now column).entries }
 {
-    problem.columns()[column as usize].entries.as_slice()
+    problem.column_line(column).entries.as_slice()
 }
 
 /// Whether a column has an entry in a row.
@@ -96,7 +81,7 @@ fn others_of(alloc: Global, problem: &Problem, column: u32, row: u32) -> Result<
     terms_without(alloc, terms.as_slice(), column)
 }
 
-/// The entry of a column in the row that alone has one.
+/// The entry of a column in the row that alone has one. It is read of the column, which is short.
 pub fn value_at(problem: &Problem, column: u32, row: u32) -> Frac
     requires row { (row_at problem.now row).live ≡ true }
     requires column { (column_at problem.now column).live ≡ true }
@@ -105,7 +90,7 @@ pub fn value_at(problem: &Problem, column: u32, row: u32) -> Frac
     ensures some { result ≢ zero_ℚ }
 {
     problem.is_sparse();
-    entry_of(problem, row, column)
+    number_at(entries_of_column(problem, column), row as usize)
 }
 
 /// The one entry of a column, which is in this row.

@@ -16,8 +16,8 @@ use Rattle.lp_model.specs.Vectors.{Vector}
 use Rattle.lp_columns.specs.DominatedColumn.{IsDominatedColumn}
 use Rattle.lp_columns.proofs.DominatedColumn.{dominated_column}
 use Rattle.undo_records.specs.Ids.{ids_of, is_on}
-use Rattle.postsolve_dual.specs.LiftPair.{undone_pair}
-use Rattle.pair_laws.proofs.ColumnPairs.{dominated_pair}
+use Rattle.undo_pairs.specs.LiftPair.{undone_pair}
+use Rattle.pair_laws.proofs.ColumnPairs.{dominated_column_pair}
 use Rattle.problem_model.specs.declared.edit.Edit.TheVariants.{SetBounds}
 use Rattle.problem_model.specs.declared.part.Contents.{Contents}
 use Rattle.problem_model.specs.declared.part.Contents.TheVariants as holding
@@ -37,7 +37,7 @@ use Rattle.rule_words.proofs.Coefficients.{end_live}
 use Rattle.rule_words.proofs.EndTestsSay.{not_true, apart_ends, Finite, finite_end}
 use Rattle.rule_words.proofs.Named.{lives, one_on, one_sided, nothing}
 use Rattle.edit_laws.proofs.Reducing.{by_edits, pairs_by_edits}
-use Rattle.dual_laws.specs.DominatedColumn.{all_take_over, enabled, edits, is_dominated, record_of, rows_of_both, share, takes_over}
+use Rattle.dual_laws.specs.DominatedColumn.{all_take_over, enabled, edits, is_dominated_column, record_of, rows_of_both, share, takes_over}
 use Rattle.dual_laws.specs.Locks.{are_uncrossed}
 use Rattle.dual_laws.proofs.Locks.{column_has, cost_live, none_is}
 
@@ -67,7 +67,7 @@ module _ (j k : ℕ) (row ts us : List Term) (c d : Number) (l u m n : Option Nu
   abbrev over : Bool
   over = all_take_over (dense ts) (dense us) (rows_of_both ts us) sides
 
-  parts_said : is_dominated (holding.Entries row) (holding.Column ts c) (holding.Column us d) (holding.Bounds l u w) (holding.Bounds m n x) sides j k ≡ true
+  parts_said : is_dominated_column (holding.Entries row) (holding.Column ts c) (holding.Column us d) (holding.Bounds l u w) (holding.Bounds m n x) sides j k ≡ true
       → Said true true true j k row ts us c d u w m n x sides (unwrap_or m zero_ℚ)
   parts_said e =
       let e1 = and_parts (not (nat_eq j k)) (share row j k && (is_none u && (is_apart m n && (is_place m x && (le_ℚ c d && ((not w || x) && (are_uncrossed sides && over))))))) e in
@@ -95,7 +95,7 @@ module _ (j k : ℕ) (row ts us : List Term) (c d : Number) (l u m n : Option Nu
       }
 
 says : (f : Part → Contents) (j k : ℕ) (row ts us : List Term) (c d : Number) (l u m n : Option Number) (w x : Bool) (r a b : Bool)
-    → is_dominated (if r then holding.Entries row else holding.Gone) (if a then holding.Column ts c else holding.Gone) (if b then holding.Column us d else holding.Gone) (if a then holding.Bounds l u w else holding.Gone) (if b then holding.Bounds m n x else holding.Gone)
+    → is_dominated_column (if r then holding.Entries row else holding.Gone) (if a then holding.Column ts c else holding.Gone) (if b then holding.Column us d else holding.Gone) (if a then holding.Bounds l u w else holding.Gone) (if b then holding.Bounds m n x else holding.Gone)
     (map f (map part.Sides (rows_of_both (terms_in (if a then holding.Column ts c else holding.Gone)) (terms_in (if b then holding.Column us d else holding.Gone))))) j k ≡ true
     → Said r a b j k row ts us c d u w m n x (map f (map part.Sides (rows_of_both ts us))) (unwrap_or m zero_ℚ)
 says f j k row ts us c d l u m n w x true true true e = parts_said j k row ts us c d l u m n w x (map f (map part.Sides (rows_of_both ts us))) e
@@ -244,7 +244,7 @@ owes p i j k s e = let r = said p i j k e in let w : Number = unwrap_or (bounds_
   reduces = by_edits p (edits p k) (with_bounds (shown p) k (Some w) (Some w)) (λ x. x) zero_ℚ s (r.second_live, tt)
       (ap (λ (o : Option Number). with_bounds (shown p) k o o) r.place.value) nothing (dominated_column (shown p) j k w (shows p s i j k r));
   pairs = λ continuous. pairs_by_edits p (edits p k) (with_bounds (shown p) k (Some w) (Some w)) (undone_pair (record_of i j k)) s (r.second_live, tt)
-      (ap (λ (o : Option Number). with_bounds (shown p) k o o) r.place.value) (dominated_pair (shown p) i j k w (shows p s i j k r));
+      (ap (λ (o : Option Number). with_bounds (shown p) k o o) r.place.value) (dominated_column_pair (shown p) i j k w (shows p s i j k r));
   sided = λ numbers h. one_sided (SetBounds k (bounds_at p k).lower (bounds_at p k).lower) tt;
   sound = (row_inside p i r.row_live, (column_inside p j r.first_live, column_inside p k r.second_live, r.differ));
   names = (one_on p.matrix.rows i r.row_live, two_on p.matrix.columns j k r.first_live r.second_live);

@@ -12,13 +12,13 @@ use Rattle.problem_model.specs.declared.part.Contents.TheVariants as holding
 use Rattle.problem_model.specs.declared.part.Part.TheVariants as part
 use Rattle.rule_words.specs.Reading.{sides_named, sides_of, terms_in}
 use Rattle.dual_laws.specs.declared.form.Form.TheVariants.{NoEnds, Sides, Bounds}
-use Rattle.dual_laws.specs.DominatedColumn as dominated
-use Rattle.dual_laws.specs.FixedByCost as fixed
+use Rattle.dual_laws.specs.DominatedColumn as dominated_column
+use Rattle.dual_laws.specs.DualFixing as fixed
 use Rattle.dual_laws.specs.declared.form.Form.{Form}
 use Rattle.dual_laws.specs.Forms.{EachLets, Gives, LetsByCost, LetsInPairs, line_of, Seen, seen}
 use Rattle.std.proofs.lemmas.Bool.{and_parts}
 use Rattle.dual_laws.specs.Locks.{all_take, are_uncrossed, is_uncrossed, takes_down, takes_up}
-use Rattle.dual_laws.specs.Ray as ray
+use Rattle.dual_laws.specs.UnboundedColumn as unbounded_column
 
 -- what a function of contents says, by the entries that they hold
 abbrev pub RestsOnLines : {X : Type 0} → (List Contents → X) → Type 0
@@ -163,11 +163,11 @@ fixed_seen (holding.Column ts c, f) (y, Bounds nl nu o apart lower upper w) ss =
     apart && (all_uncrossed ss && ((lower && (not (lt_ℚ c zero_ℚ) && all_go down ts ss)) || (upper && (not (lt_ℚ zero_ℚ c) && all_go up ts ss))))
 fixed_seen a b ss = false
 
-fixed_rests : (a b : Contents) (ss : List Contents) → fixed.is_fixed_by_cost a b ss ≡ fixed_seen (seen a) (seen b) (map seen ss)
+fixed_rests : (a b : Contents) (ss : List Contents) → fixed.is_dual_fixing a b ss ≡ fixed_seen (seen a) (seen b) (map seen ss)
 fixed_rests (holding.Column ts c) (holding.Bounds l u w) ss = by (all_uncrossed_seen ss) (all_go_seen takes_down down down_seen ts ss) (all_go_seen takes_up up up_seen ts ss)
   where
     by : are_uncrossed ss ≡ all_uncrossed (map seen ss) → all_take takes_down ts ss ≡ all_go down ts (map seen ss) → all_take takes_up ts ss ≡ all_go up ts (map seen ss)
-        → fixed.is_fixed_by_cost (holding.Column ts c) (holding.Bounds l u w) ss ≡ fixed_seen (seen (holding.Column ts c)) (seen (holding.Bounds l u w)) (map seen ss)
+        → fixed.is_dual_fixing (holding.Column ts c) (holding.Bounds l u w) ss ≡ fixed_seen (seen (holding.Column ts c)) (seen (holding.Bounds l u w)) (map seen ss)
     by x y z = λ t. is_apart l u && (x t && ((is_place l w && (not (lt_ℚ c zero_ℚ) && y t)) || (is_place u w && (not (lt_ℚ zero_ℚ c) && z t))))
 fixed_rests a b ss = refl
 
@@ -199,51 +199,51 @@ holds_fixed_lets (a ∷ b ∷ ss) [] h e = absurd h
 holds_fixed_lets (a ∷ []) ts h e = absurd (true≢false (sym e))
 holds_fixed_lets [] ts h e = absurd (true≢false (sym e))
 
-pub fixed_by_cost_rests : RestsOnSeen LetsByCost fixed.holds
-fixed_by_cost_rests = record { by = holds_fixed; is = fixed_holds; lets = holds_fixed_lets }
+pub dual_fixing_rests : RestsOnSeen LetsByCost fixed.holds
+dual_fixing_rests = record { by = holds_fixed; is = fixed_holds; lets = holds_fixed_lets }
 
 -- ---- V3
-abbrev ray_seen : Seen → Seen → List Seen → Bool
-ray_seen (holding.Column ts c, f) (y, Bounds nl nu o apart lower upper w) ss =
+abbrev unbounded_column_seen : Seen → Seen → List Seen → Bool
+unbounded_column_seen (holding.Column ts c, f) (y, Bounds nl nu o apart lower upper w) ss =
     o && (all_uncrossed ss && ((lt_ℚ c zero_ℚ && (nu && all_go up ts ss)) || (lt_ℚ zero_ℚ c && (nl && all_go down ts ss))))
-ray_seen a b ss = false
+unbounded_column_seen a b ss = false
 
-ray_is : (a b : Contents) (ss : List Contents) → ray.is_ray a b ss ≡ ray_seen (seen a) (seen b) (map seen ss)
-ray_is (holding.Column ts c) (holding.Bounds l u w) ss = by (all_uncrossed_seen ss) (all_go_seen takes_down down down_seen ts ss) (all_go_seen takes_up up up_seen ts ss)
+unbounded_column_is : (a b : Contents) (ss : List Contents) → unbounded_column.is_unbounded_column a b ss ≡ unbounded_column_seen (seen a) (seen b) (map seen ss)
+unbounded_column_is (holding.Column ts c) (holding.Bounds l u w) ss = by (all_uncrossed_seen ss) (all_go_seen takes_down down down_seen ts ss) (all_go_seen takes_up up up_seen ts ss)
   where
     by : are_uncrossed ss ≡ all_uncrossed (map seen ss) → all_take takes_down ts ss ≡ all_go down ts (map seen ss) → all_take takes_up ts ss ≡ all_go up ts (map seen ss)
-        → ray.is_ray (holding.Column ts c) (holding.Bounds l u w) ss ≡ ray_seen (seen (holding.Column ts c)) (seen (holding.Bounds l u w)) (map seen ss)
+        → unbounded_column.is_unbounded_column (holding.Column ts c) (holding.Bounds l u w) ss ≡ unbounded_column_seen (seen (holding.Column ts c)) (seen (holding.Bounds l u w)) (map seen ss)
     by x y z = λ t. is_in_order l u && (x t && ((lt_ℚ c zero_ℚ && (is_none u && z t)) || (lt_ℚ zero_ℚ c && (is_none l && y t))))
-ray_is a b ss = refl
+unbounded_column_is a b ss = refl
 
-abbrev holds_ray : List Seen → Bool
-holds_ray (a ∷ b ∷ ss) = ray_seen a b ss
-holds_ray other = false
+abbrev holds_unbounded_column : List Seen → Bool
+holds_unbounded_column (a ∷ b ∷ ss) = unbounded_column_seen a b ss
+holds_unbounded_column other = false
 
-ray_holds : (cs : List Contents) → ray.holds cs ≡ holds_ray (map seen cs)
-ray_holds (a ∷ b ∷ ss) = ray_is a b ss
-ray_holds (a ∷ []) = refl
-ray_holds [] = refl
+unbounded_column_holds : (cs : List Contents) → unbounded_column.holds cs ≡ holds_unbounded_column (map seen cs)
+unbounded_column_holds (a ∷ b ∷ ss) = unbounded_column_is a b ss
+unbounded_column_holds (a ∷ []) = refl
+unbounded_column_holds [] = refl
 
-ray_lets : (x : Contents) (e f : Form) (b d : Seen) (ss ts : List Seen) → LetsByCost b.1 d.1 → EachSidesLet ss ts → Gives (ray_seen (x, e) b ss) (ray_seen (x, f) d ts)
-ray_lets (holding.Column us c) e f (y, Bounds nl nu o apt lo hi w) (z, Bounds ml mu oo aq lp uq v) ss ts h k =
+unbounded_column_lets : (x : Contents) (e f : Form) (b d : Seen) (ss ts : List Seen) → LetsByCost b.1 d.1 → EachSidesLet ss ts → Gives (unbounded_column_seen (x, e) b ss) (unbounded_column_seen (x, f) d ts)
+unbounded_column_lets (holding.Column us c) e f (y, Bounds nl nu o apt lo hi w) (z, Bounds ml mu oo aq lp uq v) ss ts h k =
     both_given o _ oo _ h.2
     (both_given (all_uncrossed ss) _ (all_uncrossed ts) _ (all_uncrossed_lets ss ts k)
     (either_given _ _ _ _ (both_given _ _ _ _ (same_given (lt_ℚ c zero_ℚ)) (both_given nu _ mu _ h.1 (all_go_lets up up_lets us ss ts k)))
     (both_given _ _ _ _ (same_given (lt_ℚ zero_ℚ c)) (both_given nl _ ml _ h.0 (all_go_lets down down_lets us ss ts k)))))
-ray_lets (holding.Column us c) e f (y, Bounds nl nu o apt lo hi w) (z, g) ss ts h k = absurd h
-ray_lets x e f b d ss ts h k = no_flag (ray_seen (x, f) d ts)
+unbounded_column_lets (holding.Column us c) e f (y, Bounds nl nu o apt lo hi w) (z, g) ss ts h k = absurd h
+unbounded_column_lets x e f b d ss ts h k = no_flag (unbounded_column_seen (x, f) d ts)
 
-holds_ray_lets : (ss ts : List Seen) → EachLets LetsByCost ss ts → holds_ray ss ≡ true → holds_ray ts ≡ true
-holds_ray_lets (a ∷ b ∷ ss) (c ∷ d ∷ ts) (h, (k, l)) e =
-    subst (λ (x : Contents). ray_seen (x, c.1) d ts ≡ true) h.0 (ray_lets a.0 a.1 c.1 b d ss ts k.1 (each_sides LetsByCost cost_sides ss ts l) e)
-holds_ray_lets (a ∷ b ∷ ss) (c ∷ []) h e = absurd h.1
-holds_ray_lets (a ∷ b ∷ ss) [] h e = absurd h
-holds_ray_lets (a ∷ []) ts h e = absurd (true≢false (sym e))
-holds_ray_lets [] ts h e = absurd (true≢false (sym e))
+holds_unbounded_column_lets : (ss ts : List Seen) → EachLets LetsByCost ss ts → holds_unbounded_column ss ≡ true → holds_unbounded_column ts ≡ true
+holds_unbounded_column_lets (a ∷ b ∷ ss) (c ∷ d ∷ ts) (h, (k, l)) e =
+    subst (λ (x : Contents). unbounded_column_seen (x, c.1) d ts ≡ true) h.0 (unbounded_column_lets a.0 a.1 c.1 b d ss ts k.1 (each_sides LetsByCost cost_sides ss ts l) e)
+holds_unbounded_column_lets (a ∷ b ∷ ss) (c ∷ []) h e = absurd h.1
+holds_unbounded_column_lets (a ∷ b ∷ ss) [] h e = absurd h
+holds_unbounded_column_lets (a ∷ []) ts h e = absurd (true≢false (sym e))
+holds_unbounded_column_lets [] ts h e = absurd (true≢false (sym e))
 
-pub ray_rests : RestsOnSeen LetsByCost ray.holds
-ray_rests = record { by = holds_ray; is = ray_holds; lets = holds_ray_lets }
+pub unbounded_column_rests : RestsOnSeen LetsByCost unbounded_column.holds
+unbounded_column_rests = record { by = holds_unbounded_column; is = unbounded_column_holds; lets = holds_unbounded_column_lets }
 
 -- ---- the sides that both read
 terms_rest : (c : Contents) → terms_in c ≡ terms_in (line_of c)
@@ -261,20 +261,20 @@ pub sides_named_rest : RestsOnLines sides_named
 sides_named_rest = (sides_named, named_rests)
 
 -- ---- K11
-both_rest : (cs : List Contents) → dominated.more cs ≡ dominated.more (map line_of cs)
-both_rest (row ∷ j ∷ k ∷ others) = ap₂ (λ (ts us : List Term). map part.Sides (dominated.rows_of_both ts us)) (terms_rest j) (terms_rest k)
+both_rest : (cs : List Contents) → dominated_column.more cs ≡ dominated_column.more (map line_of cs)
+both_rest (row ∷ j ∷ k ∷ others) = ap₂ (λ (ts us : List Term). map part.Sides (dominated_column.rows_of_both ts us)) (terms_rest j) (terms_rest k)
 both_rest (row ∷ j ∷ []) = refl
 both_rest (row ∷ []) = refl
 both_rest [] = refl
 
-pub dominated_more_rests : RestsOnLines dominated.more
-dominated_more_rests = (dominated.more, both_rest)
+pub dominated_column_more_rests : RestsOnLines dominated_column.more
+dominated_column_more_rests = (dominated_column.more, both_rest)
 
 abbrev over : Number → Number → Seen → Bool
 over a b (x, Sides nl nu o) = (nu || le_ℚ a b) && (nl || le_ℚ b a)
 over a b (x, f) = false
 
-over_seen : (a b : Number) (s : Contents) → dominated.takes_over a b s ≡ over a b (seen s)
+over_seen : (a b : Number) (s : Contents) → dominated_column.takes_over a b s ≡ over a b (seen s)
 over_seen a b (holding.Sides l u) = refl
 over_seen a b s = refl
 
@@ -283,7 +283,7 @@ all_over a b [] ss = true
 all_over a b (i ∷ is) [] = false
 all_over a b (i ∷ is) (s ∷ ss) = over (a i) (b i) s && all_over a b is ss
 
-all_over_seen : (a b : Vector) (is : List ℕ) (ss : List Contents) → dominated.all_take_over a b is ss ≡ all_over a b is (map seen ss)
+all_over_seen : (a b : Vector) (is : List ℕ) (ss : List Contents) → dominated_column.all_take_over a b is ss ≡ all_over a b is (map seen ss)
 all_over_seen a b [] ss = refl
 all_over_seen a b (i ∷ is) [] = refl
 all_over_seen a b (i ∷ is) (s ∷ ss) = ap₂ (λ (x y : Bool). x && y) (over_seen (a i) (b i) s) (all_over_seen a b is ss)
@@ -300,57 +300,57 @@ all_over_lets a b (i ∷ is) [] ts h = no_flag (all_over a b (i ∷ is) ts)
 all_over_lets a b (i ∷ is) (s ∷ ss) [] h = absurd h
 all_over_lets a b (i ∷ is) (s ∷ ss) (t ∷ ts) (h, k) = both_given (over (a i) (b i) s) (all_over a b is ss) (over (a i) (b i) t) (all_over a b is ts) (over_lets (a i) (b i) s t h) (all_over_lets a b is ss ts k)
 
-abbrev dominated_seen : Seen → Seen → Seen → Seen → Seen → List Seen → ℕ → ℕ → Bool
-dominated_seen (holding.Entries row, e) (holding.Column ts c, f) (holding.Column us d, g) (y, Bounds nl nu o apart lower upper w) (z, Bounds ml mu oo apart_too lower_too upper_too x) ss j k =
-    not (nat_eq j k) && (dominated.share row j k && (nu && (apart_too && (lower_too && (le_ℚ c d && ((not w || x) && (all_uncrossed ss && all_over (dense ts) (dense us) (dominated.rows_of_both ts us) ss)))))))
-dominated_seen a b c d e ss j k = false
+abbrev dominated_column_seen : Seen → Seen → Seen → Seen → Seen → List Seen → ℕ → ℕ → Bool
+dominated_column_seen (holding.Entries row, e) (holding.Column ts c, f) (holding.Column us d, g) (y, Bounds nl nu o apart lower upper w) (z, Bounds ml mu oo apart_too lower_too upper_too x) ss j k =
+    not (nat_eq j k) && (dominated_column.share row j k && (nu && (apart_too && (lower_too && (le_ℚ c d && ((not w || x) && (all_uncrossed ss && all_over (dense ts) (dense us) (dominated_column.rows_of_both ts us) ss)))))))
+dominated_column_seen a b c d e ss j k = false
 
-dominated_is : (a b c d e : Contents) (ss : List Contents) (j k : ℕ) → dominated.is_dominated a b c d e ss j k ≡ dominated_seen (seen a) (seen b) (seen c) (seen d) (seen e) (map seen ss) j k
-dominated_is (holding.Entries row) (holding.Column ts c) (holding.Column us d) (holding.Bounds l u w) (holding.Bounds m v x) ss j k = by (all_uncrossed_seen ss) (all_over_seen (dense ts) (dense us) (dominated.rows_of_both ts us) ss)
+dominated_column_is : (a b c d e : Contents) (ss : List Contents) (j k : ℕ) → dominated_column.is_dominated_column a b c d e ss j k ≡ dominated_column_seen (seen a) (seen b) (seen c) (seen d) (seen e) (map seen ss) j k
+dominated_column_is (holding.Entries row) (holding.Column ts c) (holding.Column us d) (holding.Bounds l u w) (holding.Bounds m v x) ss j k = by (all_uncrossed_seen ss) (all_over_seen (dense ts) (dense us) (dominated_column.rows_of_both ts us) ss)
   where
-    by : are_uncrossed ss ≡ all_uncrossed (map seen ss) → dominated.all_take_over (dense ts) (dense us) (dominated.rows_of_both ts us) ss ≡ all_over (dense ts) (dense us) (dominated.rows_of_both ts us) (map seen ss)
-        → dominated.is_dominated (holding.Entries row) (holding.Column ts c) (holding.Column us d) (holding.Bounds l u w) (holding.Bounds m v x) ss j k
-        ≡ dominated_seen (seen (holding.Entries row)) (seen (holding.Column ts c)) (seen (holding.Column us d)) (seen (holding.Bounds l u w)) (seen (holding.Bounds m v x)) (map seen ss) j k
-    by y z = λ t. not (nat_eq j k) && (dominated.share row j k && (is_none u && (is_apart m v && (is_place m x && (le_ℚ c d && ((not w || x) && (y t && z t)))))))
-dominated_is a b c d e ss j k = refl
+    by : are_uncrossed ss ≡ all_uncrossed (map seen ss) → dominated_column.all_take_over (dense ts) (dense us) (dominated_column.rows_of_both ts us) ss ≡ all_over (dense ts) (dense us) (dominated_column.rows_of_both ts us) (map seen ss)
+        → dominated_column.is_dominated_column (holding.Entries row) (holding.Column ts c) (holding.Column us d) (holding.Bounds l u w) (holding.Bounds m v x) ss j k
+        ≡ dominated_column_seen (seen (holding.Entries row)) (seen (holding.Column ts c)) (seen (holding.Column us d)) (seen (holding.Bounds l u w)) (seen (holding.Bounds m v x)) (map seen ss) j k
+    by y z = λ t. not (nat_eq j k) && (dominated_column.share row j k && (is_none u && (is_apart m v && (is_place m x && (le_ℚ c d && ((not w || x) && (y t && z t)))))))
+dominated_column_is a b c d e ss j k = refl
 
-abbrev holds_dominated : ℕ → ℕ → List Seen → Bool
-holds_dominated j k (a ∷ b ∷ c ∷ d ∷ e ∷ ss) = dominated_seen a b c d e ss j k
-holds_dominated j k other = false
+abbrev holds_dominated_column : ℕ → ℕ → List Seen → Bool
+holds_dominated_column j k (a ∷ b ∷ c ∷ d ∷ e ∷ ss) = dominated_column_seen a b c d e ss j k
+holds_dominated_column j k other = false
 
-dominated_holds : (j k : ℕ) (cs : List Contents) → dominated.holds j k cs ≡ holds_dominated j k (map seen cs)
-dominated_holds j k (a ∷ b ∷ c ∷ d ∷ e ∷ ss) = dominated_is a b c d e ss j k
-dominated_holds j k (a ∷ b ∷ c ∷ d ∷ []) = refl
-dominated_holds j k (a ∷ b ∷ c ∷ []) = refl
-dominated_holds j k (a ∷ b ∷ []) = refl
-dominated_holds j k (a ∷ []) = refl
-dominated_holds j k [] = refl
+dominated_column_holds : (j k : ℕ) (cs : List Contents) → dominated_column.holds j k cs ≡ holds_dominated_column j k (map seen cs)
+dominated_column_holds j k (a ∷ b ∷ c ∷ d ∷ e ∷ ss) = dominated_column_is a b c d e ss j k
+dominated_column_holds j k (a ∷ b ∷ c ∷ d ∷ []) = refl
+dominated_column_holds j k (a ∷ b ∷ c ∷ []) = refl
+dominated_column_holds j k (a ∷ b ∷ []) = refl
+dominated_column_holds j k (a ∷ []) = refl
+dominated_column_holds j k [] = refl
 
-dominated_lets : (x y z : Contents) (d e f d' e' f' : Form) (m n m' n' : Seen) (ss ts : List Seen) (j k : ℕ) → LetsInPairs m.1 m'.1 → LetsInPairs n.1 n'.1 → EachSidesLet ss ts
-    → Gives (dominated_seen (x, d) (y, e) (z, f) m n ss j k) (dominated_seen (x, d') (y, e') (z, f') m' n' ts j k)
-dominated_lets (holding.Entries row) (holding.Column us c) (holding.Column vs g) d e f d' e' f' (p, Bounds nl nu o apt lo hi w) (q, Bounds ml mu oo aq lp uq x) (p', Bounds nl' nu' o' apt' lo' hi' w') (q', Bounds ml' mu' oo' aq' lp' uq' x') ss ts j k h l sides =
-    both_given _ _ _ _ (same_given (not (nat_eq j k))) (both_given _ _ _ _ (same_given (dominated.share row j k)) (both_given nu _ nu' _ h.0 (both_given aq _ aq' _ l.1 (both_given lp _ lp' _ l.2
+dominated_column_lets : (x y z : Contents) (d e f d' e' f' : Form) (m n m' n' : Seen) (ss ts : List Seen) (j k : ℕ) → LetsInPairs m.1 m'.1 → LetsInPairs n.1 n'.1 → EachSidesLet ss ts
+    → Gives (dominated_column_seen (x, d) (y, e) (z, f) m n ss j k) (dominated_column_seen (x, d') (y, e') (z, f') m' n' ts j k)
+dominated_column_lets (holding.Entries row) (holding.Column us c) (holding.Column vs g) d e f d' e' f' (p, Bounds nl nu o apt lo hi w) (q, Bounds ml mu oo aq lp uq x) (p', Bounds nl' nu' o' apt' lo' hi' w') (q', Bounds ml' mu' oo' aq' lp' uq' x') ss ts j k h l sides =
+    both_given _ _ _ _ (same_given (not (nat_eq j k))) (both_given _ _ _ _ (same_given (dominated_column.share row j k)) (both_given nu _ nu' _ h.0 (both_given aq _ aq' _ l.1 (both_given lp _ lp' _ l.2
     (both_given _ _ _ _ (same_given (le_ℚ c g)) (both_given (not w || x) _ (not w' || x') _ (λ t. subst (λ (v : Bool). (not w' || v) ≡ true) l.3 (subst (λ (v : Bool). (not v || x) ≡ true) h.3 t))
-    (both_given (all_uncrossed ss) _ (all_uncrossed ts) _ (all_uncrossed_lets ss ts sides) (all_over_lets (dense us) (dense vs) (dominated.rows_of_both us vs) ss ts sides))))))))
-dominated_lets (holding.Entries row) (holding.Column us c) (holding.Column vs g) d e f d' e' f' (p, Bounds nl nu o apt lo hi w) (q, Bounds ml mu oo aq lp uq x) (p', Bounds nl' nu' o' apt' lo' hi' w') (q', b) ss ts j k h l sides = absurd l
-dominated_lets (holding.Entries row) (holding.Column us c) (holding.Column vs g) d e f d' e' f' (p, Bounds nl nu o apt lo hi w) (q, Bounds ml mu oo aq lp uq x) (p', a) n' ss ts j k h l sides = absurd h
-dominated_lets x y z d e f d' e' f' m n m' n' ss ts j k h l sides = no_flag (dominated_seen (x, d') (y, e') (z, f') m' n' ts j k)
+    (both_given (all_uncrossed ss) _ (all_uncrossed ts) _ (all_uncrossed_lets ss ts sides) (all_over_lets (dense us) (dense vs) (dominated_column.rows_of_both us vs) ss ts sides))))))))
+dominated_column_lets (holding.Entries row) (holding.Column us c) (holding.Column vs g) d e f d' e' f' (p, Bounds nl nu o apt lo hi w) (q, Bounds ml mu oo aq lp uq x) (p', Bounds nl' nu' o' apt' lo' hi' w') (q', b) ss ts j k h l sides = absurd l
+dominated_column_lets (holding.Entries row) (holding.Column us c) (holding.Column vs g) d e f d' e' f' (p, Bounds nl nu o apt lo hi w) (q, Bounds ml mu oo aq lp uq x) (p', a) n' ss ts j k h l sides = absurd h
+dominated_column_lets x y z d e f d' e' f' m n m' n' ss ts j k h l sides = no_flag (dominated_column_seen (x, d') (y, e') (z, f') m' n' ts j k)
 
-holds_dominated_lets : (j k : ℕ) (ss ts : List Seen) → EachLets LetsInPairs ss ts → holds_dominated j k ss ≡ true → holds_dominated j k ts ≡ true
-holds_dominated_lets j k (a ∷ b ∷ c ∷ d ∷ e ∷ ss) (a' ∷ b' ∷ c' ∷ d' ∷ e' ∷ ts) (ha, (hb, (hc, (hd, (he, l))))) t =
-    let keep = dominated_lets a.0 b.0 c.0 a.1 b.1 c.1 a'.1 b'.1 c'.1 d e d' e' ss ts j k hd.1 he.1 (each_sides LetsInPairs pair_sides ss ts l) in
-    subst (λ (z : Contents). dominated_seen a' b' (z, c'.1) d' e' ts j k ≡ true) hc.0
-    (subst (λ (y : Contents). dominated_seen a' (y, b'.1) (c.0, c'.1) d' e' ts j k ≡ true) hb.0 (subst (λ (x : Contents). dominated_seen (x, a'.1) (b.0, b'.1) (c.0, c'.1) d' e' ts j k ≡ true) ha.0 (keep t)))
-holds_dominated_lets j k (a ∷ b ∷ c ∷ d ∷ e ∷ ss) (a' ∷ b' ∷ c' ∷ d' ∷ []) (ha, (hb, (hc, (hd, h)))) t = absurd h
-holds_dominated_lets j k (a ∷ b ∷ c ∷ d ∷ e ∷ ss) (a' ∷ b' ∷ c' ∷ []) (ha, (hb, (hc, h))) t = absurd h
-holds_dominated_lets j k (a ∷ b ∷ c ∷ d ∷ e ∷ ss) (a' ∷ b' ∷ []) (ha, (hb, h)) t = absurd h
-holds_dominated_lets j k (a ∷ b ∷ c ∷ d ∷ e ∷ ss) (a' ∷ []) (ha, h) t = absurd h
-holds_dominated_lets j k (a ∷ b ∷ c ∷ d ∷ e ∷ ss) [] h t = absurd h
-holds_dominated_lets j k (a ∷ b ∷ c ∷ d ∷ []) ts h t = absurd (true≢false (sym t))
-holds_dominated_lets j k (a ∷ b ∷ c ∷ []) ts h t = absurd (true≢false (sym t))
-holds_dominated_lets j k (a ∷ b ∷ []) ts h t = absurd (true≢false (sym t))
-holds_dominated_lets j k (a ∷ []) ts h t = absurd (true≢false (sym t))
-holds_dominated_lets j k [] ts h t = absurd (true≢false (sym t))
+holds_dominated_column_lets : (j k : ℕ) (ss ts : List Seen) → EachLets LetsInPairs ss ts → holds_dominated_column j k ss ≡ true → holds_dominated_column j k ts ≡ true
+holds_dominated_column_lets j k (a ∷ b ∷ c ∷ d ∷ e ∷ ss) (a' ∷ b' ∷ c' ∷ d' ∷ e' ∷ ts) (ha, (hb, (hc, (hd, (he, l))))) t =
+    let keep = dominated_column_lets a.0 b.0 c.0 a.1 b.1 c.1 a'.1 b'.1 c'.1 d e d' e' ss ts j k hd.1 he.1 (each_sides LetsInPairs pair_sides ss ts l) in
+    subst (λ (z : Contents). dominated_column_seen a' b' (z, c'.1) d' e' ts j k ≡ true) hc.0
+    (subst (λ (y : Contents). dominated_column_seen a' (y, b'.1) (c.0, c'.1) d' e' ts j k ≡ true) hb.0 (subst (λ (x : Contents). dominated_column_seen (x, a'.1) (b.0, b'.1) (c.0, c'.1) d' e' ts j k ≡ true) ha.0 (keep t)))
+holds_dominated_column_lets j k (a ∷ b ∷ c ∷ d ∷ e ∷ ss) (a' ∷ b' ∷ c' ∷ d' ∷ []) (ha, (hb, (hc, (hd, h)))) t = absurd h
+holds_dominated_column_lets j k (a ∷ b ∷ c ∷ d ∷ e ∷ ss) (a' ∷ b' ∷ c' ∷ []) (ha, (hb, (hc, h))) t = absurd h
+holds_dominated_column_lets j k (a ∷ b ∷ c ∷ d ∷ e ∷ ss) (a' ∷ b' ∷ []) (ha, (hb, h)) t = absurd h
+holds_dominated_column_lets j k (a ∷ b ∷ c ∷ d ∷ e ∷ ss) (a' ∷ []) (ha, h) t = absurd h
+holds_dominated_column_lets j k (a ∷ b ∷ c ∷ d ∷ e ∷ ss) [] h t = absurd h
+holds_dominated_column_lets j k (a ∷ b ∷ c ∷ d ∷ []) ts h t = absurd (true≢false (sym t))
+holds_dominated_column_lets j k (a ∷ b ∷ c ∷ []) ts h t = absurd (true≢false (sym t))
+holds_dominated_column_lets j k (a ∷ b ∷ []) ts h t = absurd (true≢false (sym t))
+holds_dominated_column_lets j k (a ∷ []) ts h t = absurd (true≢false (sym t))
+holds_dominated_column_lets j k [] ts h t = absurd (true≢false (sym t))
 
-pub dominated_rests : (j k : ℕ) → RestsOnSeen LetsInPairs (dominated.holds j k)
-dominated_rests j k = record { by = holds_dominated j k; is = dominated_holds j k; lets = holds_dominated_lets j k }
+pub dominated_column_rests : (j k : ℕ) → RestsOnSeen LetsInPairs (dominated_column.holds j k)
+dominated_column_rests j k = record { by = holds_dominated_column j k; is = dominated_column_holds j k; lets = holds_dominated_column_lets j k }

@@ -54,13 +54,13 @@ share row j k = nat_le (length row) 64 && (has j row && has k row)
 
 -- j has no upper bound and costs no more than k, which has a finite lower bound below its upper one; a whole j asks for a whole k, and a
 -- whole k for a whole lower bound; no bounds and no sides are crossed, and each row takes j for k
-abbrev pub is_dominated : Contents → Contents → Contents → Contents → Contents → List Contents → ℕ → ℕ → Bool
-is_dominated (Entries row) (Column ts c) (Column us d) (Bounds l u w) (Bounds m v x) sides j k =
+abbrev pub is_dominated_column : Contents → Contents → Contents → Contents → Contents → List Contents → ℕ → ℕ → Bool
+is_dominated_column (Entries row) (Column ts c) (Column us d) (Bounds l u w) (Bounds m v x) sides j k =
     not (nat_eq j k) && (share row j k && (is_none u && (is_apart m v && (is_place m x && (le_ℚ c d && ((not w || x) && (are_uncrossed sides && all_take_over (dense ts) (dense us) (rows_of_both ts us) sides)))))))
-is_dominated row column other bounds others sides j k = false
+is_dominated_column row column other bounds others sides j k = false
 
 abbrev pub holds : ℕ → ℕ → List Contents → Bool
-holds j k (row ∷ a ∷ b ∷ c ∷ d ∷ sides) = is_dominated row a b c d sides j k
+holds j k (row ∷ a ∷ b ∷ c ∷ d ∷ sides) = is_dominated_column row a b c d sides j k
 holds j k other = false
 
 abbrev pub enabled : Sparse → ℕ → ℕ → ℕ → Bool
@@ -71,7 +71,7 @@ abbrev pub edits : Sparse → ℕ → List Edit
 edits p k = SetBounds k (bounds_at p k).lower (bounds_at p k).lower ∷ []
 
 abbrev pub record_of : ℕ → ℕ → ℕ → Undo
-record_of i j k = undo.Dominated (record { row = i; better = j; column = k })
+record_of i j k = undo.DominatedColumn (record { row = i; better = j; column = k })
 
 -- nothing is computed
 abbrev pub Computes : Sparse → ℕ → Type 0

@@ -1,5 +1,5 @@
 pub mod Locks
-pub mod FixedByCost
+pub mod DualFixing
 pub mod DominatedColumn
-pub mod Ray
+pub mod UnboundedColumn
 pub mod Forms

@@ -10,13 +10,13 @@ ghost use Rattle.lp_model.specs.Verdicts.{NoPointOrEndless};
 ghost use Rattle.problem_model.specs.Problems.{IsSparse};
 ghost use Rattle.problem_model.specs.Sparse.{Sparse};
 ghost use Rattle.rule_words.specs.Owed.{Owes, RuleDecides, RuleOwes};
-ghost use Rattle.dual_laws.specs.FixedByCost as fixed_by_cost;
+ghost use Rattle.dual_laws.specs.DualFixing as dual_fixing;
 ghost use Rattle.dual_laws.specs.DominatedColumn as dominated_column;
-ghost use Rattle.dual_laws.specs.Ray as ray;
+ghost use Rattle.dual_laws.specs.UnboundedColumn as unbounded_column;
 
 /// Each column that no row locks in the direction in which it doesn't cost more can be fixed at its bound there.
-pub fn columns_can_be_fixed_by_cost()
-    ensures { RuleOwes fixed_by_cost.enabled fixed_by_cost.edits fixed_by_cost.record_of }
+pub fn columns_can_be_dual_fixed()
+    ensures { RuleOwes dual_fixing.enabled dual_fixing.edits dual_fixing.record_of }
 {}
 
 /// Each column that another one without an upper bound dominates can be fixed at its lower bound.
@@ -25,6 +25,6 @@ pub fn dominated_columns_can_be_fixed()
 {}
 
 /// A column that no row locks in a direction in which it has no bound and costs less says that each feasible point gives one of any cost.
-pub fn rays_decide()
-    ensures { RuleDecides ray.enabled (NoPointOrEndless Min) }
+pub fn unbounded_columns_decide()
+    ensures { RuleDecides unbounded_column.enabled (NoPointOrEndless Min) }
 {}

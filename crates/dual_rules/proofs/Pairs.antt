@@ -21,7 +21,7 @@ use Rattle.problem_model.specs.Parts.{contents_of}
 use Rattle.problem_model.specs.Problems.{bounds_at, column_at, column_entries, cost_at, row_at, row_entries, sides_at, IsSparse}
 use Rattle.problem_model.specs.Sparse.{Sparse}
 use Rattle.rule_words.specs.Reading.{terms_in}
-use Rattle.dual_laws.specs.DominatedColumn.{all_take_over, enabled, is_dominated, pairs_of, rows_of_both, share, takes_over}
+use Rattle.dual_laws.specs.DominatedColumn.{all_take_over, enabled, is_dominated_column, pairs_of, rows_of_both, share, takes_over}
 use Rattle.dual_laws.specs.Locks.{are_uncrossed}
 use Rattle.problem_laws.proofs.Entries.{live_entries_name, live_entries_tell, row_entries-live, row_entries-tell}
 use Rattle.problem_laws.proofs.Terms.{has-cons_same, not_both}
@@ -46,7 +46,7 @@ regroup true true true true true false w m = refl
 regroup true true true true true true w m = refl
 
 by_parts : (f : Part → Contents) (j k : ℕ) (row ts us : List Term) (c d : Number) (l u m n : Option Number) (w x : Bool) (r a b : Bool)
-    → is_dominated (if r then holding.Entries row else holding.Gone) (if a then holding.Column ts c else holding.Gone) (if b then holding.Column us d else holding.Gone) (if a then holding.Bounds l u w else holding.Gone) (if b then holding.Bounds m n x else holding.Gone)
+    → is_dominated_column (if r then holding.Entries row else holding.Gone) (if a then holding.Column ts c else holding.Gone) (if b then holding.Column us d else holding.Gone) (if a then holding.Bounds l u w else holding.Gone) (if b then holding.Bounds m n x else holding.Gone)
     (map f (map part.Sides (rows_of_both (terms_in (if a then holding.Column ts c else holding.Gone)) (terms_in (if b then holding.Column us d else holding.Gone))))) j k
     ≡ ((r && (a && b)) && (share row j k && ((not (nat_eq j k) && (is_none u && (is_apart m n && (is_place m x && (le_ℚ c d && (not w || x)))))) && (are_uncrossed (map f (map part.Sides (rows_of_both ts us)))
     && all_take_over (dense ts) (dense us) (rows_of_both ts us) (map f (map part.Sides (rows_of_both ts us)))))))

@@ -77,7 +77,7 @@ pub fn entries(problem: &Problem, column: u32) -> &[Term]
     requires { (column_at problem.now column).live ≡ true }
     ensures { result.now ≡ (column_at problem.now column).entries }
 {
-    problem.columns()[column as usize].entries.as_slice()
+    problem.column_line(column).entries.as_slice()
 }
 
 /// The entries of a column, those in deleted rows among them; none if it isn't live.

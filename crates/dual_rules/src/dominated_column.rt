@@ -17,13 +17,13 @@ use crate::both_columns::{add_sides_besides, add_sides_of, rows_admit, takes_ove
 use crate::directions::{entries, entries_if_live};
 use crate::footprints::{Footprint, footprint_of, footprints_admit};
 use fractions::frac::Frac;
-use lp_model::Term;
 use lp_model::ends::{apart, place};
+use lp_model::{Term, has_id};
 use problem_model::{Edit, Part, Refusal, Sides};
 use rule_words::Change;
 use sparse_problem::Problem;
 use std::alloc::{AllocError, Global};
-use undo_records::{Dominated, Undo};
+use undo_records::{DominatedColumn, Undo};
 
 /// The most entries of a row of which pairs are looked at.
 const MOST_ENTRIES: usize = 64;
@@ -64,26 +64,12 @@ fn rows_take_over(problem: &Problem, column: u32, other: u32) -> bool
     rows_admit(problem, entries(problem, column), entries(problem, other))
 }
 
-/// Whether an entry has this id.
-fn has_id(terms: &[Term], id: u32) -> bool
-    ensures { result ≡ has id terms.now }
-{
-    let mut rest = terms;
-    while let [term, after @ ..] = rest {
-        if term.id == id {
-            return true;
-        }
-        rest = after;
-    }
-    false
-}
-
 /// The entries of a row, those in deleted columns among them.
 fn entries_of_row(problem: &Problem, row: u32) -> &[Term]
     requires { (row_at problem.now row).live ≡ true }
     ensures { result.now ≡ (row_at problem.now row).entries }
 {
-    problem.rows()[row as usize].entries.as_slice()
+    problem.row_line(row).entries.as_slice()
 }
 
 /// Whether a row has an entry in a live column.
@@ -139,7 +125,7 @@ pub fn change(
         .map_err(AllocError::from)?;
     Ok(Change {
         edits,
-        undo: Undo::Dominated(Dominated {
+        undo: Undo::DominatedColumn(DominatedColumn {
             row,
             better: column,
             column: other,

@@ -2,10 +2,9 @@
 use Rattle.std.proofs.Common.{◌≡◌, ℕ, ◌≤◌, List, length, Option, Some, None, arith, subst}
 use Rattle.file_ports.specs.Ports.{Moment, Told, Rose, Gives, IsLonger}
 use Rattle.lp_model.specs.ProgramData.{ProgramData}
-use Rattle.mps_profile.specs.Reading.{first_fault}
-use Rattle.mps_profile.specs.declared.dialect.Dialect.{Dialect}
-use Rattle.mps_reader.specs.declared.faults.MpsFault.{MpsFault}
-use Rattle.endings.specs.ProgramTexts.{IsProgramOf}
+use Rattle.endings.specs.declared.forms.Form.{Form}
+use Rattle.endings.specs.declared.forms.ProgramFault.{ProgramFault}
+use Rattle.endings.specs.ProgramTexts.{IsFaultOf, IsProgramOf}
 use Rattle.endings.specs.Moments.{Finds, IsThere, Reads}
 
 pub rose_earlier : (a b c : ℕ) → a ≤ b → Rose b c → Rose a c
@@ -17,18 +16,18 @@ given_reads limit None bytes P gives most h = tt
 given_reads limit (Some None) bytes P gives most h = gives
 given_reads limit (Some (Some held)) bytes P gives most h = (subst (λ (b : List ℕ). length b ≤ limit) gives most, subst P gives h)
 
-pub program_read : (limit : ℕ) (told : Told) (d e : Dialect) (held text : List ℕ) (program : ProgramData) → Gives told held → length held ≤ limit → d ≡ e → text ≡ held
+pub program_read : (limit : ℕ) (told : Told) (d e : Form) (held text : List ℕ) (program : ProgramData) → Gives told held → length held ≤ limit → d ≡ e → text ≡ held
     → IsProgramOf d text program → Reads limit told (λ t. IsProgramOf e t program)
 program_read limit told d e held text program gives most same is h =
-    let P : Dialect → Type 0 = λ x. IsProgramOf x text program in
+    let P : Form → Type 0 = λ x. IsProgramOf x text program in
     let Q : List ℕ → Type 0 = λ t. IsProgramOf e t program in
     given_reads limit told held Q gives most (subst Q is (subst P same h))
 
-pub fault_read : (limit : ℕ) (told : Told) (d e : Dialect) (held text : List ℕ) (fault : MpsFault) → Gives told held → length held ≤ limit → d ≡ e → text ≡ held
-    → first_fault d text ≡ Some (fault.kind, fault.line) → Reads limit told (λ t. first_fault e t ≡ Some (fault.kind, fault.line))
+pub fault_read : (limit : ℕ) (told : Told) (d e : Form) (held text : List ℕ) (fault : ProgramFault) → Gives told held → length held ≤ limit → d ≡ e → text ≡ held
+    → IsFaultOf d text fault → Reads limit told (λ t. IsFaultOf e t fault)
 fault_read limit told d e held text fault gives most same is h =
-    let P : Dialect → Type 0 = λ x. first_fault x text ≡ Some (fault.kind, fault.line) in
-    let Q : List ℕ → Type 0 = λ t. first_fault e t ≡ Some (fault.kind, fault.line) in
+    let P : Form → Type 0 = λ x. IsFaultOf x text fault in
+    let Q : List ℕ → Type 0 = λ t. IsFaultOf e t fault in
     given_reads limit told held Q gives most (subst Q is (subst P same h))
 
 -- what was read is there

@@ -1,6 +1,6 @@
 pub mod Ending
 pub mod Moments
 pub mod Continuity
-pub mod Dialects
+pub mod Forms
 pub mod ProgramTexts
 pub mod SolutionTexts

@@ -1,5 +1,5 @@
 -- What is said of the text of a program: what it gives, or its first fault.
-use Rattle.std.specs.Prelude.{◌≡◌, ◌⊎◌, ℕ, List, [], ◌∷◌, ◌++◌, codes, Some, None, slice_index_or}
+use Rattle.std.specs.Prelude.{◌≡◌, ◌⊎◌, ℕ, List, [], ◌∷◌, ◌++◌, codes, Some, None, Result, Ok, Err, slice_index_or}
 use Rattle.std.specs.Fmt.{decimal}
 use Rattle.file_ports.specs.Ports.{Moment}
 use Rattle.lp_model.specs.ProgramData.{ProgramData}
@@ -7,22 +7,50 @@ use Rattle.lp_model.specs.Names.{names_of_columns}
 use Rattle.mps_profile.specs.Faults.{number_of_kind}
 use Rattle.mps_profile.specs.Program.{program_of}
 use Rattle.mps_profile.specs.Reading.{first_fault}
-use Rattle.mps_profile.specs.declared.dialect.Dialect.{Dialect}
-use Rattle.mps_reader.specs.declared.faults.MpsFault.{MpsFault}
+use Rattle.mps_profile.specs.declared.faults.MpsFaultKind.{MpsFaultKind}
+use Rattle.text_lines.specs.declared.fault.Fault.{Fault}
+use Rattle.endings.specs.declared.forms.Form.{Form}
+use Rattle.endings.specs.declared.forms.ProgramFault.{ProgramFault}
+use Rattle.endings.specs.declared.forms.ProgramFault.TheVariants.{Mps}
+use Rattle.endings.specs.declared.forms.ProgramError.{ProgramError}
+use Rattle.endings.specs.declared.forms.ProgramError.TheVariants as ended
+use Rattle.endings.specs.Forms.{dialect_in}
 use Rattle.endings.specs.Moments.{IsOverlong, Reads}
 
+-- a text has no fault
+abbrev pub HasNoFault : Form → List ℕ → Type 0
+HasNoFault form text = first_fault (dialect_in form) text ≡ None
+
+-- the program of a text that has no fault
+abbrev pub program_in : Form → List ℕ → ProgramData
+program_in form text = program_of (dialect_in form) text
+
 -- a text has no fault, and this is its program
-abbrev pub IsProgramOf : Dialect → List ℕ → ProgramData → Type 0
-IsProgramOf dialect text program = (first_fault dialect text ≡ None) × (program ≡ program_of dialect text)
+abbrev pub IsProgramOf : Form → List ℕ → ProgramData → Type 0
+IsProgramOf form text program = HasNoFault form text × (program ≡ program_in form text)
+
+-- this is the first fault of a text
+abbrev pub IsFaultOf : Form → List ℕ → ProgramFault → Type 0
+IsFaultOf form text (Mps fault) = first_fault (dialect_in form) text ≡ Some (fault.kind, fault.line)
+
+-- what reading a text gives: its program, or its first fault
+abbrev pub IsReadAs : Form → List ℕ → Result ProgramData ProgramError → Type 0
+IsReadAs form text (Ok program) = IsProgramOf form text program
+IsReadAs form text (Err (ended.Fault fault)) = IsFaultOf form text fault
+IsReadAs form text (Err ended.NoMemory) = Unit {0}
+
+-- the line that names a fault of an MPS text
+abbrev pub mps_fault_text : Fault MpsFaultKind → List ℕ
+mps_fault_text fault = codes "error M" ++ (decimal (number_of_kind fault.kind) ++ (codes " line " ++ (decimal fault.line ++ 10 ∷ [])))
 
 -- the line that names a fault of a program's text
-abbrev pub fault_text : MpsFault → List ℕ
-fault_text fault = codes "error M" ++ (decimal (number_of_kind fault.kind) ++ (codes " line " ++ (decimal fault.line ++ 10 ∷ [])))
+abbrev pub fault_text : ProgramFault → List ℕ
+fault_text (Mps fault) = mps_fault_text fault
 
 -- what is said of a program's text by this name: its first fault; or that it is longer than the limit
-abbrev pub SaysFaultOf : ℕ → Dialect → List ℕ → List ℕ → Moment → Moment → Type 0
-SaysFaultOf limit dialect name said before now =
-    ((fault : MpsFault) × Reads limit (before.told name) (λ text. first_fault dialect text ≡ Some (fault.kind, fault.line)) × (said ≡ fault_text fault))
+abbrev pub SaysFaultOf : ℕ → Form → List ℕ → List ℕ → Moment → Moment → Type 0
+SaysFaultOf limit form name said before now =
+    ((fault : ProgramFault) × Reads limit (before.told name) (λ text. IsFaultOf form text fault) × (said ≡ fault_text fault))
     ⊎ (IsOverlong limit name before now × (said ≡ codes "error M17" ++ 10 ∷ []))
 
 -- the name of a column, if there is one of this id

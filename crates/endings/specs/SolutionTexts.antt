@@ -7,8 +7,9 @@ use Rattle.lp_model.specs.ProgramData.{ProgramData}
 use Rattle.lp_model.specs.Names.{names_of_rows, names_of_columns}
 use Rattle.point_text.specs.Faults.{number_of_kind}
 use Rattle.point_text.specs.PairText as texts
+use Rattle.text_lines.specs.declared.fault.Fault.{Fault}
 use Rattle.point_text.specs.declared.faults.SolFaultKind.{SolFaultKind}
-use Rattle.point_text.specs.declared.faults.SolFault.{SolFault}
+use Rattle.point_text.specs.declared.faults.SolFaultKind.{SolFaultKind}
 use Rattle.endings.specs.Moments.{IsOverlong, Reads}
 use Rattle.endings.specs.declared.reads.TheConstants.{SOLUTION_LIMIT}
 
@@ -22,12 +23,12 @@ IsPairOf program text point duals = (fault_of program text ≡ None)
     × (point ≡ texts.pair_point (names_of_columns program.columns) text) × (duals ≡ texts.pair_duals (names_of_rows program.rows) text)
 
 -- the line that names a fault of a solution's text
-abbrev pub solution_fault_text : SolFault → List ℕ
+abbrev pub solution_fault_text : Fault SolFaultKind → List ℕ
 solution_fault_text fault = codes "error S" ++ (decimal (number_of_kind fault.kind) ++ (codes " line " ++ (decimal fault.line ++ 10 ∷ [])))
 
 -- what is said of a solution's text by this name: its first fault; or that it is longer than is read
 abbrev pub SaysPairFault : ProgramData → List ℕ → List ℕ → Moment → Moment → Type 0
 SaysPairFault program name said before now =
-    ((fault : SolFault) × Reads SOLUTION_LIMIT (before.told name) (λ text. fault_of program text ≡ Some (fault.kind, fault.line))
+    ((fault : Fault SolFaultKind) × Reads SOLUTION_LIMIT (before.told name) (λ text. fault_of program text ≡ Some (fault.kind, fault.line))
     × (said ≡ solution_fault_text fault))
     ⊎ (IsOverlong SOLUTION_LIMIT name before now × (said ≡ codes "error S6" ++ 10 ∷ []))

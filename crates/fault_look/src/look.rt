@@ -3,8 +3,9 @@
 use crate::fields::{Field, bytes_of, fields_of};
 use crate::places::{Line, Wanted, entry_before, fault_place, first_before, line_at};
 use crate::sentences::sentence_of;
-use mps_reader::{MpsFault, MpsFaultKind};
+use mps_profile::MpsFaultKind;
 use std::alloc::{AllocError, Global};
+use text_lines::Fault;
 
 /// The number of a line, a bar, and the line.
 fn push_line(alloc: Global, text: &mut Vec<u8>, line: &Line<'_>) -> Result<usize, AllocError> {
@@ -97,7 +98,7 @@ pub fn push_look(
     alloc: Global,
     text: &mut Vec<u8>,
     bytes: &[u8],
-    fault: MpsFault,
+    fault: Fault<MpsFaultKind>,
 ) -> Result<(), AllocError> {
     match line_at(bytes, fault.line as u64) {
         Some(line) => push_fault(alloc, text, bytes, &line, fault.kind),

@@ -16,14 +16,14 @@ use Rattle.lp_model.specs.Vectors.{Vector}
 use Rattle.lp_model.specs.Optimality.{Continuous}
 use Rattle.lp_model.specs.Reductions.{Priced, Reduces, ReducesPairs}
 use Rattle.lp_model.specs.Writable.{EntriesAscend}
-use Rattle.lp_model.specs.Turning.{in_sense, minimizing, signed, turned}
+use Rattle.lp_model.specs.Turning.{in_sense, minimizing, turned}
 use Rattle.lp_passages.specs.Renumbering.{spread, spread_pair}
 use Rattle.lp_theory.proofs.Steps.{compose, compose_pairs}
 use Rattle.lp_passages.proofs.Turns.{pairs_in, reduces_in}
 use Rattle.pair_laws.proofs.SenseLaws.{agreeing}
 use Rattle.undo_records.specs.Postsolve.{Postsolve}
 use Rattle.undo_records.specs.Lift.{lift}
-use Rattle.postsolve_dual.specs.LiftPair.{lift_pair}
+use Rattle.undo_pairs.specs.LiftPair.{lift_pair}
 use Rattle.undo_records.specs.Sound.{IsSound}
 use Rattle.lp_model.specs.Flags.{Flags}
 use Rattle.undo_records.specs.Walk.{Walks, AreSound, all_live, flags_of as told_flags}
@@ -36,8 +36,8 @@ use Rattle.problem_model.specs.declared.line.Line.{Line}
 use Rattle.problem_model.specs.Problems.{IsSparse}
 use Rattle.problem_model.specs.Programs.{IsProblemOf, line_of, written_program, live_ids, live_ids_from}
 use Rattle.problem_model.specs.Showing.{shown}
-use Rattle.presolve_model.specs.Replay.{replay, records, Replays}
-use Rattle.presolve_model.specs.Accounts.{Walked, ReducesPairsTo, ReducesTo, at_original_ids, live_labels_from, postsolved, postsolved_pair}
+use Rattle.presolve_model.specs.Replay.{replay, records}
+use Rattle.presolve_model.specs.Accounts.{Walked, ReducesPairsTo, ReducesTo, at_original_ids, live_labels_from, postsolved}
 use Rattle.program_laws.specs.Shapes.{IsOf}
 use Rattle.program_laws.proofs.ProblemsShow.{problem_shows_program}
 use Rattle.program_laws.proofs.Negating.{neg_zero}

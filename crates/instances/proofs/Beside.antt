@@ -1,15 +1,14 @@
 -- Lines that are multiples of a line: those of its group.
-use Rattle.std.proofs.Common.{◌≡◌, ◌<◌, ℕ, true, length, map, sym, true≢false}
-use Rattle.std.specs.List.{Contains, filter, range_with_len}
+use Rattle.std.proofs.Common.{◌≡◌, ℕ, true, length, map, sym, true≢false}
+use Rattle.std.specs.List.{filter, range_with_len}
 use Rattle.problem_model.specs.Problems.{IsSparse}
 use Rattle.problem_model.specs.Sparse.{Sparse}
 use Rattle.problem_laws.proofs.AtIds.{column_inside, row_inside}
-use Rattle.parallel_column_laws.proofs.ParallelColumns as parallel_columns
-use Rattle.parallel_row_laws.proofs.ParallelRows as parallel_rows
+use Rattle.parallel_laws.proofs.ParallelColumns as parallel_columns
+use Rattle.parallel_laws.proofs.ParallelRows as parallel_rows
 use Rattle.line_groups.specs.Groups.{AreGroupsOf, group_at, LineGroups}
-use Rattle.line_groups.proofs.Passing.{same_of_all}
+use Rattle.sorted_ids.proofs.Passing.{same_of_all}
 use Rattle.line_groups.proofs.Sharing.{columns_ascend, parallel_columns_share, parallel_rows_share, rows_ascend}
-use Rattle.presolve_model.specs.declared.instance.Instance.{Instance}
 use Rattle.presolve_model.specs.declared.instance.Instance.TheVariants as at
 use Rattle.presolve_model.specs.declared.instance.Reduction.TheVariants.{ParallelColumns, ParallelRows}
 use Rattle.presolve_model.specs.declared.instance.Rule.{Rule}

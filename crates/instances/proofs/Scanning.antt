@@ -14,14 +14,14 @@ use Rattle.presolve_model.specs.Instances.{both_orders, instances_from, id_count
 use Rattle.std.specs.Prelude.{if◌then◌else◌}
 use Rattle.lp_model.specs.declared.terms.Term.{Term}
 use Rattle.problem_model.specs.Problems.{column_at, column_entries, row_entries}
-use Rattle.column_laws.proofs.FreeColumn as free_column
-use Rattle.column_laws.proofs.SlackColumn as slack_column
-use Rattle.activity_laws.specs.TightenedBound.{bounds_of}
+use Rattle.column_laws.proofs.FreeColumnSingleton as free_column_singleton
+use Rattle.column_laws.proofs.SlackColumnSingleton as slack_column_singleton
+use Rattle.activity_laws.specs.BoundTightening.{bounds_of}
 use Rattle.dual_laws.specs.DominatedColumn.{pairs_of}
 use Rattle.presolve_model.specs.Tallies.{Open}
 use Rattle.presolve_model.specs.declared.instance.Instance.{Instance}
 use Rattle.presolve_model.specs.declared.instance.Instance.TheVariants as at
-use Rattle.presolve_model.specs.declared.instance.Reduction.TheVariants.{DominatedColumn, DoubletonEquation, FreeColumn, SlackColumn, ParallelColumns, ParallelRows, TightenedBound, TightenedCoefficient}
+use Rattle.presolve_model.specs.declared.instance.Reduction.TheVariants.{DominatedColumn, DoubletonEquation, FreeColumnSingleton, SlackColumnSingleton, ParallelColumns, ParallelRows, BoundTightening, CoefficientTightening}
 
 gone : (lines : List Line) (k : ℕ) → length lines ≤ k → (line_at lines k).live ≡ false
 gone lines k l = ap (λ (line : Line). line.live) (get_or_past lines k no_line l)
@@ -74,40 +74,40 @@ no_sole (t ∷ []) n = absurd (n refl)
 no_sole (t ∷ u ∷ ts) n = refl
 
 -- where the column is gone, it is neither free nor a slack
-free_gone : (p : Sparse) (j i : ℕ) → (column_at p j).live ≡ false → enabled_on p (at.Reduction (FreeColumn j i)) ≡ false
-free_gone p j i g = by (enabled_on p (at.Reduction (FreeColumn j i))) refl
+free_gone : (p : Sparse) (j i : ℕ) → (column_at p j).live ≡ false → enabled_on p (at.Reduction (FreeColumnSingleton j i)) ≡ false
+free_gone p j i g = by (enabled_on p (at.Reduction (FreeColumnSingleton j i))) refl
   where
-    by : (b : Bool) → enabled_on p (at.Reduction (FreeColumn j i)) ≡ b → b ≡ false
-    by true e = absurd (true≢false (sym (free_column.said p j i e).column.live ∙ g))
+    by : (b : Bool) → enabled_on p (at.Reduction (FreeColumnSingleton j i)) ≡ b → b ≡ false
+    by true e = absurd (true≢false (sym (free_column_singleton.said p j i e).column.live ∙ g))
     by false e = refl
 
-slack_gone : (p : Sparse) (j i : ℕ) → (column_at p j).live ≡ false → enabled_on p (at.Reduction (SlackColumn j i)) ≡ false
-slack_gone p j i g = by (enabled_on p (at.Reduction (SlackColumn j i))) refl
+slack_gone : (p : Sparse) (j i : ℕ) → (column_at p j).live ≡ false → enabled_on p (at.Reduction (SlackColumnSingleton j i)) ≡ false
+slack_gone p j i g = by (enabled_on p (at.Reduction (SlackColumnSingleton j i))) refl
   where
-    by : (b : Bool) → enabled_on p (at.Reduction (SlackColumn j i)) ≡ b → b ≡ false
-    by true e = absurd (true≢false (sym (slack_column.said p j i e).column_live ∙ g))
+    by : (b : Bool) → enabled_on p (at.Reduction (SlackColumnSingleton j i)) ≡ b → b ≡ false
+    by true e = absurd (true≢false (sym (slack_column_singleton.said p j i e).column_live ∙ g))
     by false e = refl
 
 -- no instance of a rule is enabled at an id past the rule's
 past : (opens : Open) (p : Sparse) (rule : Rule) (k : ℕ) → id_count p rule ≤ k → filter (enabled_on p) (instances_from opens p rule k) ≡ []
 past opens p rule.CrossedBounds k l = rw (gone p.matrix.columns k l) refl
 past opens p rule.CrossedSides k l = rw (gone p.matrix.rows k l) refl
-past opens p rule.OutOfReach k l = rw (gone p.matrix.rows k l) refl
-past opens p rule.Ray k l = rw (gone p.matrix.columns k l) refl
+past opens p rule.InfeasibleRow k l = rw (gone p.matrix.rows k l) refl
+past opens p rule.UnboundedColumn k l = rw (gone p.matrix.columns k l) refl
 past opens p rule.EmptyRow k l = rw (gone p.matrix.rows k l) refl
 past opens p rule.SingletonRow k l = rw (gone p.matrix.rows k l) refl
 past opens p rule.FixedColumn k l = rw (gone p.matrix.columns k l) refl
-past opens p rule.RoundBounds k l = rw (gone p.matrix.columns k l) refl
+past opens p rule.RoundedBounds k l = rw (gone p.matrix.columns k l) refl
 past opens p rule.RedundantRow k l = rw (gone p.matrix.rows k l) refl
 past opens p rule.RedundantSide k l = rw (gone p.matrix.rows k l) refl
 past opens p rule.ForcingRow k l = rw (gone p.matrix.rows k l) refl
-past opens p rule.TightenedBound k l = none_pass (enabled_on p) (λ x. at.Reduction (TightenedBound k x.0 x.1)) (filter (λ x. opens x.0 x.1) (bounds_of (row_entries p k))) (λ x. rw (gone p.matrix.rows k l) refl)
-past opens p rule.TightenedCoefficient k l = none_pass (enabled_on p) (λ j. at.Reduction (TightenedCoefficient k j)) (map (λ t. t.id) (row_entries p k)) (λ j. rw (gone p.matrix.rows k l) refl)
-past opens p rule.FixedByCost k l = rw (gone p.matrix.columns k l) refl
+past opens p rule.BoundTightening k l = none_pass (enabled_on p) (λ x. at.Reduction (BoundTightening k x.0 x.1)) (filter (λ x. opens x.0 x.1) (bounds_of (row_entries p k))) (λ x. rw (gone p.matrix.rows k l) refl)
+past opens p rule.CoefficientTightening k l = none_pass (enabled_on p) (λ j. at.Reduction (CoefficientTightening k j)) (map (λ t. t.id) (row_entries p k)) (λ j. rw (gone p.matrix.rows k l) refl)
+past opens p rule.DualFixing k l = rw (gone p.matrix.columns k l) refl
 past opens p rule.DominatedColumn k l = none_pass (enabled_on p) (λ x. at.Reduction (DominatedColumn k x.0 x.1)) (pairs_of (row_entries p k)) (λ x. rw (gone p.matrix.rows k l) refl)
 past opens p rule.DoubletonEquation k l = none_pass (enabled_on p) (λ x. at.Reduction (DoubletonEquation k x.0 x.1)) (both_orders (row_entries p k)) (λ x. rw (gone p.matrix.rows k l) refl)
-past opens p rule.FreeColumn k l = none_pass (enabled_on p) (λ i. at.Reduction (FreeColumn k i)) (sole_row (column_entries p k)) (λ i. free_gone p k i (gone p.matrix.columns k l))
-past opens p rule.SlackColumn k l = none_pass (enabled_on p) (λ i. at.Reduction (SlackColumn k i)) (sole_row (column_entries p k)) (λ i. slack_gone p k i (gone p.matrix.columns k l))
+past opens p rule.FreeColumnSingleton k l = none_pass (enabled_on p) (λ i. at.Reduction (FreeColumnSingleton k i)) (sole_row (column_entries p k)) (λ i. free_gone p k i (gone p.matrix.columns k l))
+past opens p rule.SlackColumnSingleton k l = none_pass (enabled_on p) (λ i. at.Reduction (SlackColumnSingleton k i)) (sole_row (column_entries p k)) (λ i. slack_gone p k i (gone p.matrix.columns k l))
 past opens p rule.ParallelRows k l = none_pass (enabled_on p) (λ m. at.Reduction (ParallelRows k m)) (range_with_len 0 (length p.matrix.rows)) (λ m. rw (gone p.matrix.rows k l) refl)
 past opens p rule.ParallelColumns k l = none_pass (enabled_on p) (λ m. at.Reduction (ParallelColumns k m)) (range_with_len 0 (length p.matrix.columns)) (λ m. rw (gone p.matrix.columns k l) refl)
 past opens p rule.EmptyColumn k l = rw (gone p.matrix.columns k l) refl

@@ -13,13 +13,13 @@ ghost use Rattle.presolve_model.specs.Instances.{beside_at, both_orders, goes_by
 ghost use Rattle.line_groups.specs.Groups.{AreGroupsOf};
 ghost use Rattle.presolve_model.specs.Tallies.{open_on};
 
-use crate::enabled::is_enabled;
 use crate::tally::Tally;
-use activity_rules::tightened_bound::add_tightened;
+use activity_rules::bound_tightening::add_tightened;
 use dual_rules::dominated_column::pairs_at;
 use line_groups::Parallels;
 use lp_model::Term;
 use presolve_model::{Instance, Reduction, Rule, Verdict};
+use rule_table::is_enabled;
 use sparse_problem::Problem;
 use std::alloc::{AllocError, Global};
 use undo_records::Side;
@@ -75,12 +75,12 @@ fn add_bounds(
     bounds: &[(u32, Side)],
     found: &mut Vec<Instance>,
 ) -> Result<(), AllocError>
-    ensures { OnOk result (found.new.items ≡ found.old.items ++ map (λ x. at.Reduction (reduction.TightenedBound row x.0 x.1)) (filter (λ x. open_on tally.now x.0 x.1) bounds.now)) }
+    ensures { OnOk result (found.new.items ≡ found.old.items ++ map (λ x. at.Reduction (reduction.BoundTightening row x.0 x.1)) (filter (λ x. open_on tally.now x.0 x.1) bounds.now)) }
 {
     let mut rest = bounds;
     while let [(column, side), after @ ..] = rest {
         if tally.is_open(*column, *side) {
-            found.push(Instance::Reduction(Reduction::TightenedBound {
+            found.push(Instance::Reduction(Reduction::BoundTightening {
                 row,
                 column: *column,
                 side: *side,
@@ -99,7 +99,7 @@ fn add_open(
     row: u32,
     found: &mut Vec<Instance>,
 ) -> Result<(), AllocError>
-    ensures { OnOk result (found.new.items ≡ found.old.items ++ filter (enabled_on problem.now) (instances_from (open_on tally.now) problem.now rule.TightenedBound row)) }
+    ensures { OnOk result (found.new.items ≡ found.old.items ++ filter (enabled_on problem.now) (instances_from (open_on tally.now) problem.now rule.BoundTightening row)) }
 {
     let mut bounds = Vec::new(alloc);
     add_tightened(alloc, problem, row, &mut bounds)?;
@@ -108,11 +108,11 @@ fn add_open(
 
 /// Adds the coefficients of a row in some columns.
 fn add_coefficients(row: u32, columns: &[u32], found: &mut Vec<Instance>) -> Result<(), AllocError>
-    ensures { OnOk result (found.new.items ≡ found.old.items ++ map (λ j. at.Reduction (reduction.TightenedCoefficient row j)) columns.now) }
+    ensures { OnOk result (found.new.items ≡ found.old.items ++ map (λ j. at.Reduction (reduction.CoefficientTightening row j)) columns.now) }
 {
     let mut rest = columns;
     while let [column, after @ ..] = rest {
-        found.push(Instance::Reduction(Reduction::TightenedCoefficient {
+        found.push(Instance::Reduction(Reduction::CoefficientTightening {
             row,
             column: *column,
         }))?;
@@ -128,7 +128,7 @@ fn add_shrinking(
     row: u32,
     found: &mut Vec<Instance>,
 ) -> Result<(), AllocError>
-    ensures { OnOk result (found.new.items ≡ found.old.items ++ filter (enabled_on problem.now) (map (λ j. at.Reduction (reduction.TightenedCoefficient row j)) (map (λ t. t.id) (row_entries problem.now row)))) }
+    ensures { OnOk result (found.new.items ≡ found.old.items ++ filter (enabled_on problem.now) (map (λ j. at.Reduction (reduction.CoefficientTightening row j)) (map (λ t. t.id) (row_entries problem.now row)))) }
 {
     let mut columns = Vec::new(alloc);
     coef_rules::add_tightened(alloc, problem, row, &mut columns)?;
@@ -206,12 +206,12 @@ fn add_free(
     column: u32,
     found: &mut Vec<Instance>,
 ) -> Result<(), AllocError>
-    ensures { OnOk result (found.new.items ≡ found.old.items ++ filter (enabled_on problem.now) (map (λ i. at.Reduction (reduction.FreeColumn column i)) (sole_row_of (column_entries problem.now column)))) }
+    ensures { OnOk result (found.new.items ≡ found.old.items ++ filter (enabled_on problem.now) (map (λ i. at.Reduction (reduction.FreeColumnSingleton column i)) (sole_row_of (column_entries problem.now column)))) }
 {
     match sole_row(alloc, problem, column)? {
         Some(row) => add_one(
             problem,
-            Instance::Reduction(Reduction::FreeColumn { column, row }),
+            Instance::Reduction(Reduction::FreeColumnSingleton { column, row }),
             found,
         ),
         None => Ok(()),
@@ -225,12 +225,12 @@ fn add_slack(
     column: u32,
     found: &mut Vec<Instance>,
 ) -> Result<(), AllocError>
-    ensures { OnOk result (found.new.items ≡ found.old.items ++ filter (enabled_on problem.now) (map (λ i. at.Reduction (reduction.SlackColumn column i)) (sole_row_of (column_entries problem.now column)))) }
+    ensures { OnOk result (found.new.items ≡ found.old.items ++ filter (enabled_on problem.now) (map (λ i. at.Reduction (reduction.SlackColumnSingleton column i)) (sole_row_of (column_entries problem.now column)))) }
 {
     match sole_row(alloc, problem, column)? {
         Some(row) => add_one(
             problem,
-            Instance::Reduction(Reduction::SlackColumn { column, row }),
+            Instance::Reduction(Reduction::SlackColumnSingleton { column, row }),
             found,
         ),
         None => Ok(()),
@@ -292,22 +292,22 @@ pub fn add_enabled(
     let instance = match rule {
         Rule::CrossedBounds => Instance::Verdict(Verdict::CrossedBounds { column: id }),
         Rule::CrossedSides => Instance::Verdict(Verdict::CrossedSides { row: id }),
-        Rule::OutOfReach => Instance::Verdict(Verdict::OutOfReach { row: id }),
-        Rule::Ray => Instance::Verdict(Verdict::Ray { column: id }),
+        Rule::InfeasibleRow => Instance::Verdict(Verdict::InfeasibleRow { row: id }),
+        Rule::UnboundedColumn => Instance::Verdict(Verdict::UnboundedColumn { column: id }),
         Rule::EmptyRow => Instance::Reduction(Reduction::EmptyRow { row: id }),
         Rule::SingletonRow => Instance::Reduction(Reduction::SingletonRow { row: id }),
         Rule::FixedColumn => Instance::Reduction(Reduction::FixedColumn { column: id }),
-        Rule::RoundBounds => Instance::Reduction(Reduction::RoundBounds { column: id }),
+        Rule::RoundedBounds => Instance::Reduction(Reduction::RoundedBounds { column: id }),
         Rule::RedundantRow => Instance::Reduction(Reduction::RedundantRow { row: id }),
         Rule::RedundantSide => Instance::Reduction(Reduction::RedundantSide { row: id }),
         Rule::ForcingRow => Instance::Reduction(Reduction::ForcingRow { row: id }),
-        Rule::TightenedBound => return add_open(alloc, problem, tally, id, found),
-        Rule::TightenedCoefficient => return add_shrinking(alloc, problem, id, found),
-        Rule::FixedByCost => Instance::Reduction(Reduction::FixedByCost { column: id }),
+        Rule::BoundTightening => return add_open(alloc, problem, tally, id, found),
+        Rule::CoefficientTightening => return add_shrinking(alloc, problem, id, found),
+        Rule::DualFixing => Instance::Reduction(Reduction::DualFixing { column: id }),
         Rule::DominatedColumn => return add_dominated(alloc, problem, id, found),
         Rule::DoubletonEquation => return add_substituted(alloc, problem, id, found),
-        Rule::FreeColumn => return add_free(alloc, problem, id, found),
-        Rule::SlackColumn => return add_slack(alloc, problem, id, found),
+        Rule::FreeColumnSingleton => return add_free(alloc, problem, id, found),
+        Rule::SlackColumnSingleton => return add_slack(alloc, problem, id, found),
         Rule::ParallelRows | Rule::ParallelColumns => {
             problem.is_sparse();
             return add_beside(problem, rule, id, lines_beside(groups, rule, id), found);

@@ -4,11 +4,11 @@ ghost use Rattle.std.specs.Prelude.{◌≡◌, map, IfOk};
 ghost use Rattle.problem_model.specs.Reading.{read_of};
 ghost use Rattle.presolve_model.specs.Enabled.{reading_of};
 
-use crate::parts::parts_read;
 use crate::reading::Reading;
 use presolve_model::Instance;
 use problem_commits::read;
 use problem_model::{Part, Read};
+use rule_table::parts_read;
 use sparse_problem::Problem;
 use std::alloc::{AllocError, Global};
 

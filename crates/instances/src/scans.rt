@@ -1,4 +1,4 @@
-//! Scans for enabled instances. Lines that are multiples of one another are found by the groups of the problem.
+//! Scans of a version for enabled instances. Lines that are multiples of one another are found by the groups that it brings.
 
 ghost use Rattle.std.specs.Prelude.{◌≡◌, ◌+◌, ◌<◌, ◌^◌, ◌++◌, ◌∷◌, [], true, map, IfOk, length, OnOk};
 ghost use Rattle.std.specs.List.{filter, range_with_len};
@@ -9,43 +9,61 @@ ghost use Rattle.presolve_model.specs.Scans.{found_at, found_in, proposal_of};
 ghost use Rattle.presolve_model.specs.Tallies.{open_on};
 
 use crate::chunk::Chunk;
-use crate::enabled::is_enabled;
 use crate::finding::add_enabled;
-use crate::listing::is_of_rows;
 use crate::proposal::Proposal;
 use crate::reads::reading_for;
 use crate::tally::Tally;
+use crate::version::Version;
 use line_groups::Parallels;
 use presolve_model::{Instance, Rule};
+use rule_table::{is_enabled, is_of_rows};
 use sparse_problem::Problem;
 use std::alloc::{AllocError, Global};
 
-/// An enabled instance with its reading.
-fn proposal_for(
-    alloc: Global,
-    problem: &Problem,
+/// What a scan walks over: a problem, the groups of its lines, how often each bound had been tightened, and the number of the version.
+#[derive(Drop)]
+struct Walk<'a> {
+    problem: &'a Problem,
+    groups: &'a Parallels,
+    tally: &'a Tally,
     version: u64,
-    instance: Instance,
-) -> Result<Proposal, AllocError>
-    requires { enabled_on problem.now instance ≡ true }
-    ensures { IfOk result (λ proposal. proposal ≡ proposal_of problem.now version instance) }
+}
+
+/// A walk over a version.
+fn walk_over(version: &Version) -> Walk<'_>
+    ensures problem { result.problem.now ≡ version.now.problem }
+    ensures groups { AreGroupsOf result.groups.now version.now.problem }
+    ensures tally { result.tally.now ≡ version.now.tally }
+    ensures version { result.version ≡ version.now.applied }
 {
-    let reading = reading_for(alloc, problem, instance)?;
-    Ok(Proposal::new(instance, reading, version))
+    Walk {
+        problem: version.problem(),
+        groups: version.groups(),
+        tally: version.tally(),
+        version: version.applied(),
+    }
+}
+
+/// An enabled instance with its reading.
+fn proposal_for(alloc: Global, walk: &Walk<'_>, instance: Instance) -> Result<Proposal, AllocError>
+    requires { enabled_on walk.now.problem.now instance ≡ true }
+    ensures { IfOk result (λ proposal. proposal ≡ proposal_of walk.now.problem.now walk.now.version instance) }
+{
+    let reading = reading_for(alloc, walk.problem, instance)?;
+    Ok(Proposal::new(instance, reading, walk.version))
 }
 
 /// Adds an instance, if it is enabled.
 fn visit(
     alloc: Global,
-    problem: &Problem,
-    version: u64,
+    walk: &Walk<'_>,
     instance: Instance,
     found: &mut Vec<Proposal>,
 ) -> Result<(), AllocError>
-    ensures { OnOk result (found.new.items ≡ found.old.items ++ map (proposal_of problem.now version) (filter (enabled_on problem.now) (instance ∷ []))) }
+    ensures { OnOk result (found.new.items ≡ found.old.items ++ map (proposal_of walk.now.problem.now walk.now.version) (filter (enabled_on walk.now.problem.now) (instance ∷ []))) }
 {
-    if is_enabled(problem, instance) {
-        found.push(proposal_for(alloc, problem, version, instance)?)?;
+    if is_enabled(walk.problem, instance) {
+        found.push(proposal_for(alloc, walk, instance)?)?;
     }
     Ok(())
 }
@@ -53,16 +71,15 @@ fn visit(
 /// Adds those of some instances that are enabled.
 fn visit_each(
     alloc: Global,
-    problem: &Problem,
-    version: u64,
+    walk: &Walk<'_>,
     instances: &[Instance],
     found: &mut Vec<Proposal>,
 ) -> Result<(), AllocError>
-    ensures { OnOk result (found.new.items ≡ found.old.items ++ map (proposal_of problem.now version) (filter (enabled_on problem.now) instances.now)) }
+    ensures { OnOk result (found.new.items ≡ found.old.items ++ map (proposal_of walk.now.problem.now walk.now.version) (filter (enabled_on walk.now.problem.now) instances.now)) }
 {
     let mut rest = instances;
     while let [instance, after @ ..] = rest {
-        visit(alloc, problem, version, *instance, found)?;
+        visit(alloc, walk, *instance, found)?;
         rest = after;
     }
     Ok(())
@@ -71,41 +88,41 @@ fn visit_each(
 /// Adds the instances of a rule with a first id that are enabled and open.
 fn visit_from(
     alloc: Global,
-    problem: &Problem,
-    groups: &Parallels,
-    tally: &Tally,
-    version: u64,
+    walk: &Walk<'_>,
     rule: Rule,
     id: u32,
     found: &mut Vec<Proposal>,
 ) -> Result<(), AllocError>
-    requires { AreGroupsOf groups.now problem.now }
-    ensures { OnOk result (found.new.items ≡ found.old.items ++ found_at (open_on tally.now) problem.now version rule (id ∷ [])) }
+    requires { AreGroupsOf walk.now.groups.now walk.now.problem.now }
+    ensures { OnOk result (found.new.items ≡ found.old.items ++ found_at (open_on walk.now.tally.now) walk.now.problem.now walk.now.version rule (id ∷ [])) }
 {
     let mut instances = Vec::new(alloc);
-    add_enabled(alloc, problem, groups, tally, rule, id, &mut instances)?;
-    visit_each(alloc, problem, version, instances.as_slice(), found)
+    add_enabled(
+        alloc,
+        walk.problem,
+        walk.groups,
+        walk.tally,
+        rule,
+        id,
+        &mut instances,
+    )?;
+    visit_each(alloc, walk, instances.as_slice(), found)
 }
 
 /// The enabled instances of a rule that are open, at these ids, in their order, each with its reading.
-pub fn scan_at(
+fn scan_ids(
     alloc: Global,
-    problem: &Problem,
-    groups: &Parallels,
-    tally: &Tally,
-    version: u64,
+    walk: &Walk<'_>,
     rule: Rule,
     ids: &[u32],
 ) -> Result<Vec<Proposal>, AllocError>
-    requires { AreGroupsOf groups.now problem.now }
-    ensures { IfOk result (λ found. found.items ≡ found_at (open_on tally.now) problem.now version rule ids.now) }
+    requires { AreGroupsOf walk.now.groups.now walk.now.problem.now }
+    ensures { IfOk result (λ found. found.items ≡ found_at (open_on walk.now.tally.now) walk.now.problem.now walk.now.version rule ids.now) }
 {
     let mut found = Vec::new(alloc);
     let mut rest = ids;
     while let [id, after @ ..] = rest {
-        visit_from(
-            alloc, problem, groups, tally, version, rule, *id, &mut found,
-        )?;
+        visit_from(alloc, walk, rule, *id, &mut found)?;
         rest = after;
     }
     Ok(found)
@@ -126,69 +143,67 @@ fn ids_of(problem: &Problem, rule: Rule) -> u64
 /// Adds the instance of a rule at an id, if it is enabled. The id may be past the problem's.
 fn visit_at(
     alloc: Global,
-    problem: &Problem,
-    groups: &Parallels,
-    tally: &Tally,
-    version: u64,
+    walk: &Walk<'_>,
     rule: Rule,
     id: u64,
     found: &mut Vec<Proposal>,
 ) -> Result<(), AllocError>
-    requires { AreGroupsOf groups.now problem.now }
-    ensures { OnOk result (found.new.items ≡ found.old.items ++ found_at (open_on tally.now) problem.now version rule (id ∷ [])) }
+    requires { AreGroupsOf walk.now.groups.now walk.now.problem.now }
+    ensures { OnOk result (found.new.items ≡ found.old.items ++ found_at (open_on walk.now.tally.now) walk.now.problem.now walk.now.version rule (id ∷ [])) }
 {
-    if id >= ids_of(problem, rule) {
+    if id >= ids_of(walk.problem, rule) {
         return Ok(());
     }
-    visit_from(
-        alloc, problem, groups, tally, version, rule, id as u32, found,
-    )
+    visit_from(alloc, walk, rule, id as u32, found)
 }
 
 /// The enabled instances of a rule that are open, at so many ids in a row, in their order, each with its reading.
 fn scan_row(
     alloc: Global,
-    problem: &Problem,
-    groups: &Parallels,
-    tally: &Tally,
-    version: u64,
+    walk: &Walk<'_>,
     rule: Rule,
     first: u64,
     count: u64,
 ) -> Result<Vec<Proposal>, AllocError>
-    requires groups { AreGroupsOf groups.now problem.now }
+    requires groups { AreGroupsOf walk.now.groups.now walk.now.problem.now }
     requires few { first + count < 2 ^ 64 }
-    ensures { IfOk result (λ found. found.items ≡ found_at (open_on tally.now) problem.now version rule (range_with_len first count)) }
+    ensures { IfOk result (λ found. found.items ≡ found_at (open_on walk.now.tally.now) walk.now.problem.now walk.now.version rule (range_with_len first count)) }
 {
     let mut found = Vec::new(alloc);
     for passed in 0..count {
-        visit_at(
-            alloc,
-            problem,
-            groups,
-            tally,
-            version,
-            rule,
-            first + passed,
-            &mut found,
-        )?;
+        visit_at(alloc, walk, rule, first + passed, &mut found)?;
     }
     Ok(found)
 }
 
+/// The enabled instances of a rule that are open, at these ids, in their order, each with its reading.
+///
+/// # Errors
+/// Memory ran out.
+pub fn scan_at(
+    alloc: Global,
+    version: &Version,
+    rule: Rule,
+    ids: &[u32],
+) -> Result<Vec<Proposal>, AllocError>
+    ensures { IfOk result (λ found. found.items ≡ found_at (open_on version.now.tally) version.now.problem version.now.applied rule ids.now) }
+{
+    let walk = walk_over(version);
+    scan_ids(alloc, &walk, rule, ids)
+}
+
 /// The enabled instances of a rule that are open, in a chunk of ids, in their order, each with its reading.
+///
+/// # Errors
+/// Memory ran out.
 pub fn scan(
     alloc: Global,
-    problem: &Problem,
-    groups: &Parallels,
-    tally: &Tally,
-    version: u64,
+    version: &Version,
     rule: Rule,
     chunk: Chunk,
 ) -> Result<Vec<Proposal>, AllocError>
-    requires { AreGroupsOf groups.now problem.now }
-    ensures { IfOk result (λ found. found.items ≡ found_in (open_on tally.now) problem.now version rule chunk) }
+    ensures { IfOk result (λ found. found.items ≡ found_in (open_on version.now.tally) version.now.problem version.now.applied rule chunk) }
 {
-    let start = chunk.first();
-    scan_row(alloc, problem, groups, tally, version, rule, start, 1024)
+    let walk = walk_over(version);
+    scan_row(alloc, &walk, rule, chunk.first(), 1024)
 }

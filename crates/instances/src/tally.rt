@@ -99,20 +99,20 @@ impl Tally {
         ensures { self.new ≡ tallied reduction self.old }
     {
         match reduction {
-            Reduction::TightenedBound { column, side, .. } => self.add(column, side),
+            Reduction::BoundTightening { column, side, .. } => self.add(column, side),
             Reduction::EmptyRow { .. }
             | Reduction::SingletonRow { .. }
             | Reduction::FixedColumn { .. }
-            | Reduction::RoundBounds { .. }
+            | Reduction::RoundedBounds { .. }
             | Reduction::RedundantRow { .. }
             | Reduction::RedundantSide { .. }
             | Reduction::ForcingRow { .. }
-            | Reduction::TightenedCoefficient { .. }
-            | Reduction::FixedByCost { .. }
+            | Reduction::CoefficientTightening { .. }
+            | Reduction::DualFixing { .. }
             | Reduction::DominatedColumn { .. }
             | Reduction::DoubletonEquation { .. }
-            | Reduction::FreeColumn { .. }
-            | Reduction::SlackColumn { .. }
+            | Reduction::FreeColumnSingleton { .. }
+            | Reduction::SlackColumnSingleton { .. }
             | Reduction::ParallelRows { .. }
             | Reduction::ParallelColumns { .. }
             | Reduction::EmptyColumn { .. } => (),

@@ -7,7 +7,7 @@ use Rattle.std.specs.Ordering.{nat_cmp}
 use Rattle.std.proofs.lemmas.List.Sorted.{searched}
 use Rattle.std.proofs.lemmas.List.{take-append-drop}
 use Rattle.std.proofs.lemmas.List.Elements.{Contains-append_left, Contains-append_right, Contains-append_cases}
-use Rattle.line_groups.specs.Ascending.{AscendsFrom}
+use Rattle.sorted_ids.specs.Ascending.{AscendsFrom}
 
 pub kept : (xs : List ℕ) (i x k : ℕ) → Contains xs k → Contains (insert xs i x) k
 kept xs i x k h = by (Contains-append_cases (take i xs) (drop i xs) k (subst (λ (ys : List ℕ). Contains ys k) (sym (take-append-drop i xs)) h))

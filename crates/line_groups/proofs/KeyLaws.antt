@@ -1,16 +1,14 @@
 -- Keys of numbers, of lines and of their multiples.
-use Rattle.std.proofs.Common.{◌≡◌, ◌≢◌, ℕ, Bool, true, false, List, [], ◌∷◌, get_or, Some, Result, Ok, Err, refl, sym, ap, ◌∙◌, subst}
+use Rattle.std.proofs.Common.{◌≡◌, ◌≢◌, ℕ, Bool, true, false, List, [], ◌∷◌, Some, Result, Ok, Err, refl, sym, ap, ◌∙◌, subst}
 use Rattle.std.specs.Prelude.{if◌then◌else◌}
 use Rattle.std.specs.List.{All}
-use Rattle.std.proofs.lemmas.List.{get_or_default}
 use Rattle.std.proofs.lemmas.List.Elements.{All-head}
 use Rattle.rational.specs.Number.{Number, zero_ℚ}
 use Rattle.rational.specs.Lowest.{over_of, under_of}
 use Rattle.fractions.specs.declared.Past.{Past}
 use Rattle.lp_model.specs.declared.terms.Term.{Term}
 use Rattle.problem_model.specs.declared.line.Line.{Line}
-use Rattle.problem_model.specs.Matrices.{line_at, live_only, no_line}
-use Rattle.problem_laws.proofs.AtIds.{live_inside}
+use Rattle.problem_model.specs.Matrices.{live_only}
 use Rattle.row_spans.specs.Exact.{fits, if_room}
 use Rattle.line_groups.specs.Keys.{first_number, mixed, with_number, with_parts}
 
@@ -44,9 +42,8 @@ first_not_zero [] q a e = cc
 first_not_zero (t ∷ ts) q a e = let f : q ≡ t.value = cc in λ z. All-head (λ (t : Term). t.value ≢ zero_ℚ) t ts a (sym f ∙ z)
 
 -- of a live line, as they are read
-pub read_none_zero : (lines others ls os : List Line) (k : ℕ) (l : Line) (ts : List Term) → All (λ t. t.value ≢ zero_ℚ) (live_only others (line_at lines k).entries) → (line_at lines k).live ≡ true
-    → ls ≡ lines → os ≡ others → l ≡ get_or ls k l → ts ≡ l.entries → All (λ t. t.value ≢ zero_ℚ) (live_only os ts)
-read_none_zero lines others ls os k l ts a live e f g h =
-    let there : l ≡ line_at lines k = g ∙ ap (λ (xs : List Line). get_or xs k l) e ∙ get_or_default lines k l no_line (live_inside lines k live) in
-    let same : ts ≡ (line_at lines k).entries = h ∙ ap (λ (x : Line). x.entries) there in
+pub read_none_zero : (others os : List Line) (line l : Line) (ts : List Term) → All (λ t. t.value ≢ zero_ℚ) (live_only others line.entries)
+    → os ≡ others → l ≡ line → ts ≡ l.entries → All (λ t. t.value ≢ zero_ℚ) (live_only os ts)
+read_none_zero others os line l ts a f g h =
+    let same : ts ≡ line.entries = h ∙ ap (λ (x : Line). x.entries) g in
     subst (λ (xs : List Line). All (λ t. t.value ≢ zero_ℚ) (live_only xs ts)) (sym f) (subst (λ (us : List Term). All (λ t. t.value ≢ zero_ℚ) (live_only others us)) (sym same) a)

@@ -5,4 +5,3 @@ pub mod OnResults
 pub mod Positions
 pub mod Sharing
 pub mod Tables
-pub mod Passing

@@ -12,7 +12,7 @@ use Rattle.rational.proofs.Signs.{over-times, times-over}
 use Rattle.lp_model.specs.declared.terms.Term.{Term}
 use Rattle.rule_words.specs.Entries.{has_none}
 use Rattle.rule_words.proofs.EndTestsSay.{not_true}
-use Rattle.parallel_column_laws.specs.ParallelColumns.{are_times}
+use Rattle.rule_words.specs.Multiples.{are_times}
 use Rattle.line_groups.specs.Keys.{key_of, mixed, with_number, with_terms}
 
 pub times_zero : (s : Number) → zero_ℚ ≡ s *ℚ zero_ℚ

@@ -15,11 +15,12 @@ use Rattle.problem_model.specs.Sparse.{Sparse}
 use Rattle.problem_laws.proofs.Entries.{column_entries-none_zero, row_entries-none_zero}
 use Rattle.row_spans.specs.Exact.{fits}
 use Rattle.rule_words.specs.Entries.{has_none}
+use Rattle.rule_words.specs.Multiples.{are_times, factor_of}
 use Rattle.rule_words.proofs.EndTestsSay.{not_true}
-use Rattle.parallel_column_laws.specs.ParallelColumns as columns
-use Rattle.parallel_row_laws.specs.ParallelRows as rows
+use Rattle.parallel_laws.specs.ParallelColumns as columns
+use Rattle.parallel_laws.specs.ParallelRows as rows
 use Rattle.line_groups.specs.Groups.{AreGrouped, AreGroupsOf, Grouped, IsGrouping, LineGroups, group_at, ids_in, number_at}
-use Rattle.line_groups.specs.Ascending.{AscendsFrom}
+use Rattle.sorted_ids.specs.Ascending.{AscendsFrom}
 use Rattle.line_groups.specs.Keys.{key_at, key_in}
 use Rattle.line_groups.proofs.Multiples.{key_same, times_zero}
 
@@ -57,10 +58,10 @@ row_keys_if p i k s false b e = absurd (not_true e)
 row_keys_if p i k s true false e = absurd (not_true e)
 row_keys_if p i k s true true e =
     let ts = row_entries p i in let us = row_entries p k in
-    let f = columns.factor_of ts us in
+    let f = factor_of ts us in
     let x = and_parts (not (nat_eq i k)) (rows.is_multiple f ts us) e in
-    let y = and_parts (not (has_none ts)) (fits f && columns.are_times f ts us) x.1 in
-    let z = and_parts (fits f) (columns.are_times f ts us) y.1 in
+    let y = and_parts (not (has_none ts)) (fits f && are_times f ts us) x.1 in
+    let z = and_parts (fits f) (are_times f ts us) y.1 in
     key_same f zero_ℚ zero_ℚ ts us y.0 (times_zero f) z.1 (row_entries-none_zero p i s) (row_entries-none_zero p k s)
 
 row_keys : (p : Sparse) (i k : ℕ) → IsSparse p → rows.enabled p i k ≡ true → (h : ℕ) × (key_at p (part.Row i) ≡ Some h) × (key_at p (part.Row k) ≡ Some h)
@@ -84,14 +85,14 @@ column_keys_if p j k s false b c d e = absurd (not_true e)
 column_keys_if p j k s true false c d e = absurd (not_true e)
 column_keys_if p j k s true true c d e =
     let ts = column_entries p j in let us = column_entries p k in
-    let f = columns.factor_of ts us in
+    let f = factor_of ts us in
     let multiple = columns.is_multiple f ts (cost_at p j) us (cost_at p k) in
     let w = and_parts (not (nat_eq j k)) (columns.are_in_order c d && (columns.are_of_a_kind f c d && multiple)) e in
     let x = and_parts (columns.are_in_order c d) (columns.are_of_a_kind f c d && multiple) w.1 in
     let y = and_parts (columns.are_of_a_kind f c d) multiple x.1 in
-    let z = and_parts (not (has_none ts)) (fits f && (eq_ℚ (cost_at p j) (f *ℚ cost_at p k) && columns.are_times f ts us)) y.1 in
-    let u = and_parts (fits f) (eq_ℚ (cost_at p j) (f *ℚ cost_at p k) && columns.are_times f ts us) z.1 in
-    let v = and_parts (eq_ℚ (cost_at p j) (f *ℚ cost_at p k)) (columns.are_times f ts us) u.1 in
+    let z = and_parts (not (has_none ts)) (fits f && (eq_ℚ (cost_at p j) (f *ℚ cost_at p k) && are_times f ts us)) y.1 in
+    let u = and_parts (fits f) (eq_ℚ (cost_at p j) (f *ℚ cost_at p k) && are_times f ts us) z.1 in
+    let v = and_parts (eq_ℚ (cost_at p j) (f *ℚ cost_at p k)) (are_times f ts us) u.1 in
     key_same f (cost_at p j) (cost_at p k) ts us z.0 ((eq_ℚ-is (cost_at p j) (f *ℚ cost_at p k)).0 v.0) v.1 (column_entries-none_zero p j s) (column_entries-none_zero p k s)
 
 column_keys : (p : Sparse) (j k : ℕ) → IsSparse p → columns.enabled p j k ≡ true → (h : ℕ) × (key_at p (part.Col j) ≡ Some h) × (key_at p (part.Col k) ≡ Some h)

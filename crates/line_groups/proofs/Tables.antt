@@ -1,5 +1,5 @@
 -- Steps by which groups are made.
-use Rattle.std.proofs.Common.{◌≡◌, ◌≢◌, ◌⊎◌, inl, inr, ℕ, zero, suc, ◌+◌, ◌<◌, ◌≤◌, nat_eq, Bool, true, false, List, [], ◌∷◌, ◌++◌, length, map, get_or, set, Option, Some, None, refl, sym, ap, ◌∙◌, subst, arith, length-append}
+use Rattle.std.proofs.Common.{◌≡◌, ◌≢◌, ◌⊎◌, inl, inr, ℕ, zero, suc, ◌+◌, ◌<◌, ◌≤◌, nat_eq, Bool, true, false, List, [], ◌∷◌, ◌++◌, length, get_or, set, Option, Some, None, refl, sym, ap, ◌∙◌, subst, arith, length-append}
 use Rattle.std.specs.Prelude.{position, if◌then◌else◌}
 use Rattle.std.specs.List.{Contains, flat_map, list_any}
 use Rattle.std.specs.List.Sorted.{IsPermutation}
@@ -20,7 +20,7 @@ use Rattle.problem_model.specs.Sparse.{Sparse}
 use Rattle.problem_laws.proofs.AtIds.{live_inside}
 use Rattle.line_groups.specs.declared.groups.Kind.{Kind}
 use Rattle.line_groups.specs.declared.groups.Kind.TheVariants.{Rows, Columns}
-use Rattle.line_groups.specs.Ascending.{AscendsFrom}
+use Rattle.sorted_ids.specs.Ascending.{AscendsFrom}
 use Rattle.line_groups.specs.Groups.{Grouped, IsTable, StandsUnder, alone, group_at, ids_in, if_more, lone_at, many_at, number_at}
 use Rattle.line_groups.specs.Steps.{Adds, AreOf, HasGroup, Puts, Renews, RenewsLines, count_in, key_by, lines_in, part_of}
 use Rattle.line_groups.specs.Keys.{key_in}

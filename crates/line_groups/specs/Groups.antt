@@ -3,7 +3,7 @@ use Rattle.std.specs.Prelude.{◌≡◌, ℕ, List, [], ◌∷◌, length, nat_e
 use Rattle.std.specs.List.{Contains}
 use Rattle.problem_model.specs.declared.part.Part.TheVariants as part
 use Rattle.problem_model.specs.Sparse.{Sparse}
-use Rattle.line_groups.specs.Ascending.{AscendsFrom}
+use Rattle.sorted_ids.specs.Ascending.{AscendsFrom}
 use Rattle.line_groups.specs.Keys.{key_at}
 
 -- the keys of the groups, the number of each line's group, and the ids in each group

@@ -1,4 +1,3 @@
-pub mod Ascending
 pub mod Keys
 pub mod Groups
 pub mod Steps

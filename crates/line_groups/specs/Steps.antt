@@ -1,12 +1,12 @@
 -- Steps by which groups are made.
-use Rattle.std.specs.Prelude.{◌≡◌, ◌≢◌, ◌⊎◌, ℕ, nat_eq, position, List, [], ◌∷◌, length, slice_index_or, Option, Some, None}
+use Rattle.std.specs.Prelude.{◌≡◌, ◌≢◌, ◌⊎◌, ℕ, nat_eq, position, List, [], ◌∷◌, length, slice_index_or, Option, Some}
 use Rattle.std.specs.List.{Contains}
 use Rattle.problem_model.specs.declared.part.Part.{Part}
 use Rattle.problem_model.specs.declared.part.Part.TheVariants as part
 use Rattle.problem_model.specs.Sparse.{Sparse}
 use Rattle.line_groups.specs.declared.groups.Kind.{Kind}
 use Rattle.line_groups.specs.declared.groups.Kind.TheVariants.{Rows, Columns}
-use Rattle.line_groups.specs.Ascending.{AscendsFrom}
+use Rattle.sorted_ids.specs.Ascending.{AscendsFrom}
 use Rattle.line_groups.specs.Groups.{Grouped, IsGrouping, IsTable, StandsUnder}
 use Rattle.line_groups.specs.Keys.{key_at}
 

@@ -20,7 +20,7 @@ impl Model for Ids {
 impl Ids {
     ghost use Rattle.std.specs.Prelude.{◌≡◌, ℕ, [], OnOk};
     ghost use Rattle.std.specs.List.{Contains};
-    ghost use Rattle.line_groups.specs.Ascending.{AscendsFrom};
+    ghost use Rattle.sorted_ids.specs.Ascending.{AscendsFrom};
 
     /// No ids.
     pub fn new(alloc: Global) -> Ids

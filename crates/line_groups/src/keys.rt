@@ -11,11 +11,11 @@ ghost use Rattle.problem_model.specs.declared.part.Part.TheVariants as part;
 ghost use Rattle.line_groups.specs.Keys.{key_at, key_of as key_by, mixed as mixed_with, sign_of as sign_as, with_number as number_in, with_parts as parts_in, with_terms as terms_in};
 ghost use Rattle.line_groups.specs.Keys.{first_number as number_first};
 
-use entry_lines::is_live;
+use entry_lines::Lines;
 use fractions::frac::Frac;
 use fractions::whole::Whole;
 use lp_model::Term;
-use problem_model::{Line, Part};
+use problem_model::Part;
 use row_spans::exact::quotient;
 use sparse_problem::Problem;
 
@@ -64,11 +64,11 @@ fn with_quotient(key: u64, number: &Frac, divisor: &Frac) -> u64
 }
 
 /// A key with a term in it, if that names a line that is live.
-fn with_live(others: &[Line], key: u64, term: &Term, divisor: &Frac) -> u64
+fn with_live(others: &Lines, key: u64, term: &Term, divisor: &Frac) -> u64
     requires { divisor.now ≢ zero_ℚ }
     ensures { (rest : List ATerm) → terms_in divisor.now result (live_only others.now rest) ≡ terms_in divisor.now key (live_only others.now (term.now ∷ rest)) }
 {
-    if is_live(others, term.id) {
+    if others.is_live(term.id) {
         with_quotient(mixed(key, u64::from(term.id)), &term.value, divisor)
     } else {
         key
@@ -76,7 +76,7 @@ fn with_live(others: &[Line], key: u64, term: &Term, divisor: &Frac) -> u64
 }
 
 /// A key with the terms in it that name a line that is live.
-fn with_terms(others: &[Line], key: u64, terms: &[Term], divisor: &Frac) -> u64
+fn with_terms(others: &Lines, key: u64, terms: &[Term], divisor: &Frac) -> u64
     requires { divisor.now ≢ zero_ℚ }
     ensures { result ≡ terms_in divisor.now key (live_only others.now terms.now) }
 {
@@ -90,12 +90,12 @@ fn with_terms(others: &[Line], key: u64, terms: &[Term], divisor: &Frac) -> u64
 }
 
 /// The number of the first term that names a line that is live, if there is one.
-fn first_number(others: &[Line], terms: &[Term]) -> Option<Frac>
+fn first_number(others: &Lines, terms: &[Term]) -> Option<Frac>
     ensures { result ≡ number_first (live_only others.now terms.now) }
 {
     let mut rest = terms;
     while let [term, after @ ..] = rest {
-        if is_live(others, term.id) {
+        if others.is_live(term.id) {
             return Some(term.value);
         }
         rest = after;
@@ -104,7 +104,7 @@ fn first_number(others: &[Line], terms: &[Term]) -> Option<Frac>
 }
 
 /// The key of a line with these terms and this cost, or none where no term names a line that is live.
-fn key_of(others: &[Line], terms: &[Term], cost: &Frac) -> Option<u64>
+fn key_of(others: &Lines, terms: &[Term], cost: &Frac) -> Option<u64>
     requires { All (λ t. t.value ≢ zero_ℚ) (live_only others.now terms.now) }
     ensures { result ≡ key_by cost.now (live_only others.now terms.now) }
 {
@@ -156,8 +156,8 @@ fn key_of_row(problem: &Problem, row: u32) -> Option<u64>
     if let Some(terms) = problem.whole_row(row) {
         return key_of_all(terms, &Frac::zero());
     }
-    let terms = problem.rows()[row as usize].entries.as_slice();
-    key_of(problem.columns(), terms, &Frac::zero())
+    let terms = problem.row_line(row).entries.as_slice();
+    key_of(&problem.columns(), terms, &Frac::zero())
 }
 
 /// The key of a column, if it is live and has an entry.
@@ -171,8 +171,8 @@ fn key_of_column(problem: &Problem, column: u32) -> Option<u64>
     if let Some(terms) = problem.whole_column(column) {
         return key_of_all(terms, &problem.cost(column));
     }
-    let terms = problem.columns()[column as usize].entries.as_slice();
-    key_of(problem.rows(), terms, &problem.cost(column))
+    let terms = problem.column_line(column).entries.as_slice();
+    key_of(&problem.rows(), terms, &problem.cost(column))
 }
 
 /// The key of the row or the column of a part, if it is live and has an entry. Sides and bounds have none.

@@ -4,8 +4,8 @@ ghost use Rattle.std.specs.Prelude.{◌≡◌, ℕ, true};
 ghost use Rattle.std.specs.List.{Contains};
 ghost use Rattle.problem_model.specs.Problems.{IsSparse};
 ghost use Rattle.problem_model.specs.Sparse.{Sparse};
-ghost use Rattle.parallel_column_laws.specs.ParallelColumns as parallel_columns;
-ghost use Rattle.parallel_row_laws.specs.ParallelRows as parallel_rows;
+ghost use Rattle.parallel_laws.specs.ParallelColumns as parallel_columns;
+ghost use Rattle.parallel_laws.specs.ParallelRows as parallel_rows;
 ghost use Rattle.line_groups.specs.Groups.{group_at, AreGroupsOf, LineGroups};
 
 /// Rows of which one is a multiple of the other, so that they can be joined, are each in the other's group.

@@ -8,8 +8,9 @@ use Rattle.lp_model.specs.Sparse.{dense}
 use Rattle.lp_model.specs.declared.terms.Term.{Term}
 use Rattle.lp_model.proofs.Sums.{dense-here, dense-past}
 use Rattle.lp_check.specs.declared.sums.RowSum.{RowSum}
-use Rattle.lp_check.specs.Summing.{IsSum, IsRowSum, Counts, sum_of}
-use Rattle.lp_check.proofs.Steps.{zero_more}
+use Rattle.lp_prices.specs.Prices.{IsSum}
+use Rattle.lp_check.specs.Summing.{IsRowSum, Counts, sum_of}
+use Rattle.lp_prices.proofs.Steps.{zero_more}
 
 -- no term of column j was counted in row i, and the terms from k on have its coefficient
 pub record Waits (ts : List Term) (k j : ℕ) (a x : Vector) (i : ℕ) (r : RowSum) : Type 0 where

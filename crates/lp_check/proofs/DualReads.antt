@@ -10,7 +10,8 @@ use Rattle.lp_model.specs.declared.program.RowDef.{RowDef}
 use Rattle.lp_model.proofs.Sums.{read_at}
 use Rattle.lp_check.specs.declared.sums.RowSum.{RowSum}
 use Rattle.lp_check.specs.declared.verdicts.Item.TheVariants.{Cost}
-use Rattle.lp_check.specs.Summing.{IsSum, AreRowSums, no_sum}
+use Rattle.lp_prices.specs.Prices.{IsSum}
+use Rattle.lp_check.specs.Summing.{AreRowSums, no_sum}
 use Rattle.lp_check.specs.Deciding.{EarlierPass}
 use Rattle.lp_check.specs.DecidingPairs.{DualsPass}
 

@@ -12,7 +12,7 @@ use Rattle.lp_model.specs.declared.program.RowDef.{RowDef}
 use Rattle.lp_model.specs.declared.terms.Term.{Term}
 use Rattle.lp_check.specs.declared.sums.RowSum.{RowSum}
 use Rattle.lp_check.specs.Summing.{IsRowSum, AreRowSums, no_sum, sum_of}
-use Rattle.lp_check.proofs.Room.{zero_fits}
+use Rattle.lp_prices.proofs.Room.{zero_fits}
 
 none_counted : (a x : Vector) → IsRowSum 0 a x no_sum
 unfolding total

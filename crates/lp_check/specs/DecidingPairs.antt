@@ -1,14 +1,12 @@
 -- Which item of a program decides on a point with duals.
 use Rattle.std.specs.Prelude.{◌≡◌, ℕ, ◌<◌, ⊤, Option}
-use Rattle.rational.specs.Number.{Number, neg_ℚ, ◌*ℚ◌}
-use Rattle.rational.specs.Total.{total}
-use Rattle.fractions.specs.FracWords.{SumFits}
+use Rattle.rational.specs.Number.{Number}
 use Rattle.lp_model.specs.declared.program.Sense.{Sense}
 use Rattle.lp_model.specs.Vectors.{Vector}
 use Rattle.lp_model.specs.LinearProgram.{LinearProgram, value_at}
 use Rattle.lp_model.specs.Optimality.{reduced_cost}
 use Rattle.lp_model.specs.Senses.{Sits}
-use Rattle.lp_model.specs.Room.{ProductsFit}
+use Rattle.lp_prices.specs.Prices.{ReducedCostFits}
 use Rattle.lp_check.specs.declared.verdicts.Item.TheVariants.{Column, Row, Cost}
 use Rattle.lp_check.specs.declared.verdicts.Verdict.{Verdict}
 use Rattle.lp_check.specs.declared.verdicts.Verdict.TheVariants.{Yes, No, Past}
@@ -17,13 +15,6 @@ use Rattle.lp_check.specs.declared.pair_verdicts.PairVerdict.{PairVerdict}
 use Rattle.lp_check.specs.declared.pair_verdicts.PairVerdict.TheVariants.{OnPoint, Dual, ReducedCost, PastReducedCost}
 use Rattle.lp_check.specs.Deciding.{EarlierPass, Decides}
 use Rattle.lp_check.specs.Placing.{IsAway}
-
--- the reduced cost of column j has room: the sum over the rows, by ascending id, and the difference
-abbrev pub ReducedCostFits : LinearProgram → Vector → ℕ → Type 0
-ReducedCostFits M y j = ProductsFit M.rows y (λ i. M.coefficient i j) × SumFits (M.costs j) (neg_ℚ (total M.rows (λ i. y i *ℚ M.coefficient i j)))
-
-abbrev pub ReducedCostsFit : LinearProgram → Vector → Type 0
-ReducedCostsFit M y = (j : ℕ) → j < M.columns → ReducedCostFits M y j
 
 -- the dual of row i passes, and the reduced cost of column j
 abbrev pub DualPasses : Sense → LinearProgram → Vector → Vector → ℕ → Type 0

@@ -1,17 +1,10 @@
 -- Sums of the rows' products as they are made, column after column.
-use Rattle.std.specs.Prelude.{◌≡◌, ℕ, ◌+◌, ◌<◌, ◌≤◌, List, Option, Some, None, length, slice_index_or}
-use Rattle.rational.specs.Number.{Number, zero_ℚ, ◌*ℚ◌}
-use Rattle.rational.specs.Lowest.{Fits}
-use Rattle.rational.specs.Total.{total}
+use Rattle.std.specs.Prelude.{◌≡◌, ℕ, ◌+◌, ◌<◌, ◌≤◌, List, Some, length, slice_index_or}
+use Rattle.rational.specs.Number.{Number, zero_ℚ}
 use Rattle.lp_model.specs.Vectors.{Vector}
-use Rattle.lp_model.specs.Room.{ProductsFit}
 use Rattle.lp_model.specs.LinearProgram.{LinearProgram}
+use Rattle.lp_prices.specs.Prices.{IsSum}
 use Rattle.lp_check.specs.declared.sums.RowSum.{RowSum}
-
--- the sum of the first n products of a and x, or none where a product or a step has no room
-abbrev pub IsSum : ℕ → Vector → Vector → Option Number → Type 0
-IsSum n a x None = ProductsFit n a x → ⊥
-IsSum n a x (Some s) = (s ≡ total n (λ k. a k *ℚ x k)) × ProductsFit n a x × Fits s
 
 -- the sum of a row over the first n columns; none past those is counted
 pub record IsRowSum (n : ℕ) (a x : Vector) (r : RowSum) : Type 0 where

@@ -8,7 +8,8 @@ ghost use Rattle.lp_model.specs.LinearProgram.{LinearProgram};
 ghost use Rattle.lp_check.specs.declared.verdicts.Item.TheVariants.{Cost};
 ghost use Rattle.lp_check.specs.Deciding.{EarlierPass};
 ghost use Rattle.lp_check.specs.DecidingPairs.{DualPasses, DualsPass, DecidesPair};
-ghost use Rattle.lp_check.specs.Summing.{IsSum, AreRowSums};
+ghost use Rattle.lp_prices.specs.Prices.{IsSum};
+ghost use Rattle.lp_check.specs.Summing.{AreRowSums};
 
 use crate::pair_verdicts::PairVerdict;
 use crate::placing::misplaced;

@@ -16,7 +16,8 @@ ghost use Rattle.lp_check.specs.declared.pair_verdicts.Misplaced.{Misplaced};
 ghost use Rattle.lp_check.specs.declared.pair_verdicts.PairVerdict.{PairVerdict};
 ghost use Rattle.lp_check.specs.declared.pair_verdicts.PairVerdict.TheVariants.{OnPoint, Dual, ReducedCost, PastReducedCost};
 ghost use Rattle.lp_check.specs.Deciding.{Decides};
-ghost use Rattle.lp_check.specs.DecidingPairs.{ReducedCostsFit, DecidesPair};
+ghost use Rattle.lp_prices.specs.Prices.{ReducedCostsFit};
+ghost use Rattle.lp_check.specs.DecidingPairs.{DecidesPair};
 
 /// A point with the verdict yes is feasible, its sums have room, and the verdict has its cost.
 pub fn yes_is_feasible()
@@ -75,3 +76,10 @@ pub fn optimal_is_yes()
     ensures { (s : Sense) (M : LinearProgram) (x y : Vector) (verdict : PairVerdict) → Meets s M x y → ValuesFit M x → ReducedCostsFit M y → CostFits M x → DecidesPair s M x y verdict
         → verdict ≡ OnPoint (Yes (cost_at M x)) }
 {}
+
+/// There is one verdict on a point with duals.
+pub fn verdicts_with_duals_are_one()
+    ensures { (s : Sense) (M : LinearProgram) (x y : Vector) (one other : PairVerdict) → DecidesPair s M x y one → DecidesPair s M x y other → one ≡ other }
+{
+    verdicts_are_one();
+}

@@ -19,5 +19,4 @@ mod verdicts;
 pub use columns::first_whole_column;
 pub use judging::{check_pair, check_point};
 pub use pair_verdicts::{End, Misplaced, PairVerdict};
-pub use reduced_costs::reduced_cost;
 pub use verdicts::{Item, Limit, Verdict};

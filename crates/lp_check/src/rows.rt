@@ -7,7 +7,8 @@ ghost use Rattle.lp_model.specs.LinearProgram.{LinearProgram};
 ghost use Rattle.lp_check.specs.declared.verdicts.Item.TheVariants.{Row};
 ghost use Rattle.lp_check.specs.Deciding.{ColumnsPass, RowsPass, Passes, EarlierPass, Decides};
 ghost use Rattle.lp_check.specs.DecidingPairs.{IsOnCost};
-ghost use Rattle.lp_check.specs.Summing.{IsSum, AreRowSums};
+ghost use Rattle.lp_prices.specs.Prices.{IsSum};
+ghost use Rattle.lp_check.specs.Summing.{AreRowSums};
 
 use crate::limits::broken_limit;
 use crate::sums::RowSum;

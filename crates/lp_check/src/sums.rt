@@ -1,17 +1,15 @@
 //! The sums of all rows, in one pass over the columns.
 
-ghost use Rattle.std.specs.Prelude.{◌≡◌, ◌≢◌, ℕ, ◌+◌, ◌<◌, ◌≤◌, ◌^◌, ◌↔◌, length, map, IfOk, IsOk};
-ghost use Rattle.rational.specs.Number.{◌+ℚ◌, ◌*ℚ◌};
-ghost use Rattle.rational.specs.Lowest.{Fits};
-ghost use Rattle.fractions.specs.FracWords.{SumFits};
+ghost use Rattle.std.specs.Prelude.{◌≡◌, ◌≢◌, ℕ, ◌+◌, ◌<◌, ◌≤◌, ◌^◌, length, map, IfOk};
 ghost use Rattle.lp_model.specs.Vectors.{Vector, vector_of};
 ghost use Rattle.lp_model.specs.Sparse.{dense};
 ghost use Rattle.lp_model.specs.Meaning.{meaning};
-ghost use Rattle.lp_check.specs.Summing.{IsSum, IsRowSum, Counts, AreRowSums, no_sum, sum_of};
+ghost use Rattle.lp_prices.specs.Prices.{IsSum};
+ghost use Rattle.lp_check.specs.Summing.{IsRowSum, Counts, AreRowSums, no_sum, sum_of};
 
-use fractions::Past;
 use fractions::frac::Frac;
 use lp_model::{Point, Program, RowDef, Term};
+use lp_prices::plus_product;
 use std::alloc::{AllocError, Global};
 
 /// The sum of a row's products over the columns so far.
@@ -21,21 +19,6 @@ pub struct RowSum {
     pub sum: Option<Frac>,
     /// One more than the id of the last column that was counted.
     pub counted: u32,
-}
-
-/// A sum and a product.
-///
-/// # Errors
-/// [`Past`] exactly where the product or the sum has no room.
-pub fn plus_product(sum: &Frac, factor: &Frac, number: &Frac) -> Result<Frac, Past>
-    ensures value { IfOk result (λ r. r ≡ sum.now +ℚ factor.now *ℚ number.now) }
-    ensures kept { IfOk result (λ r. Fits r) }
-    ensures fits { IsOk result ↔ (Fits (factor.now *ℚ number.now) × SumFits sum.now (factor.now *ℚ number.now)) }
-{
-    let product = factor.mul(number)?;
-    let total = sum.add(&product)?;
-    let _ = total.parts();
-    Ok(total)
 }
 
 /// A sum with one more product, if both have room.

@@ -2,11 +2,11 @@ pub mod Held
 pub mod Shifts
 pub mod BestPlace
 pub mod FixedColumn
-pub mod RoundBounds
+pub mod RoundedBounds
 pub mod EmptyColumn
-pub mod FixedByCost
+pub mod DualFixing
 pub mod DominatedColumn
 pub mod ParallelColumns
 pub mod ParallelPairs
 pub mod CrossedBounds
-pub mod Ray
+pub mod UnboundedColumn

@@ -1,10 +1,10 @@
 pub mod FixedColumn
-pub mod RoundBounds
+pub mod RoundedBounds
 pub mod BestPlace
 pub mod EmptyColumn
 pub mod Locks
-pub mod FixedByCost
+pub mod DualFixing
 pub mod DominatedColumn
 pub mod ParallelColumns
 pub mod CrossedBounds
-pub mod Ray
+pub mod UnboundedColumn

@@ -9,13 +9,13 @@ ghost use Rattle.lp_model.specs.Optimality.{Continuous};
 ghost use Rattle.lp_model.specs.Reductions.{Reduces, ReducesPairs};
 ghost use Rattle.lp_model.specs.Verdicts.{NoPoint, NoPointOrEndless};
 ghost use Rattle.lp_columns.specs.FixedColumn.{IsFixedColumn, fixed_column_deleted, fixed_column_offset, undo_fixed_column, undo_fixed_column_pair};
-ghost use Rattle.lp_columns.specs.RoundBounds.{IsWholeColumn, bounds_rounded};
+ghost use Rattle.lp_columns.specs.RoundedBounds.{IsWholeColumn, bounds_rounded};
 ghost use Rattle.lp_columns.specs.EmptyColumn.{IsEmptyColumn, empty_column_fixed};
 ghost use Rattle.lp_columns.specs.BestPlace.{IsBestAt, column_fixed_at};
-ghost use Rattle.lp_columns.specs.FixedByCost.{IsFixedByCost, column_fixed_by_cost};
+ghost use Rattle.lp_columns.specs.DualFixing.{IsDualFixing, column_dual_fixed};
 ghost use Rattle.lp_columns.specs.DominatedColumn.{IsDominatedColumn, dominated_column_fixed};
 ghost use Rattle.lp_columns.specs.ParallelColumns.{AreParallelColumns, parallel_columns_joined, undo_parallel_columns, undo_parallel_columns_pair};
-ghost use Rattle.lp_columns.specs.Ray.{IsRay};
+ghost use Rattle.lp_columns.specs.UnboundedColumn.{IsUnboundedColumn};
 ghost use Rattle.lp_columns.specs.CrossedBounds.{IsCrossedColumn};
 
 /// K3: deleting a column whose bounds are one number.
@@ -36,9 +36,9 @@ pub fn columns_at_their_best_place_reduce()
 {}
 
 /// K10: fixing a column that no row locks at the bound where it costs least.
-pub fn columns_fixed_by_cost_reduce()
-    ensures points { (M : LinearProgram) (j : ℕ) (v : Number) → IsFixedByCost M j v → Reduces Min M (column_fixed_by_cost M j v) (λ x. x) zero_ℚ }
-    ensures pairs { (M : LinearProgram) (j : ℕ) (v : Number) → IsFixedByCost M j v → ReducesPairs Min M (column_fixed_by_cost M j v) (λ p. p) }
+pub fn dual_fixings_reduce()
+    ensures points { (M : LinearProgram) (j : ℕ) (v : Number) → IsDualFixing M j v → Reduces Min M (column_dual_fixed M j v) (λ x. x) zero_ℚ }
+    ensures pairs { (M : LinearProgram) (j : ℕ) (v : Number) → IsDualFixing M j v → ReducesPairs Min M (column_dual_fixed M j v) (λ p. p) }
 {}
 
 /// K11: fixing a column that another one can stand in for at its lower bound.
@@ -65,6 +65,6 @@ pub fn crossed_bounds_let_no_point_through()
 {}
 
 /// V3: a column that can go on for ever, at less and less cost: where a point is feasible, no cost is the least.
-pub fn rays_leave_no_best_point()
-    ensures { (M : LinearProgram) (j : ℕ) → IsRay M j → NoPointOrEndless Min M }
+pub fn unbounded_columns_leave_no_best_point()
+    ensures { (M : LinearProgram) (j : ℕ) → IsUnboundedColumn M j → NoPointOrEndless Min M }
 {}

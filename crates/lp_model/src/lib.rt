@@ -11,11 +11,13 @@ mod point;
 mod program;
 mod terms;
 pub mod writing;
+mod written;
 
 pub use labels::Labels;
 pub use name::{Name, is_name};
 pub use plain::{
-    Violation, cost, first_violation, is_feasible, names_differ, no_worse, number_at, row_value,
+    Violation, cost, first_violation, has_id, is_feasible, names_differ, no_worse, number_at,
+    row_value,
 };
 pub use point::{Duals, Pair, Point};
 pub use program::{ColumnDef, Columns, Program, RowDef, Rows, Sense};

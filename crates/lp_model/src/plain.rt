@@ -14,7 +14,7 @@ ghost use Rattle.lp_model.specs.Name.{IsName};
 ghost use Rattle.lp_model.specs.Names.{Differ, names_of_rows, names_of_columns, WellNamed};
 ghost use Rattle.lp_model.specs.Vectors.{vector_of};
 ghost use Rattle.lp_model.specs.Senses.{NoWorse};
-ghost use Rattle.lp_model.specs.Sparse.{dense};
+ghost use Rattle.lp_model.specs.Sparse.{dense, has};
 ghost use Rattle.lp_model.specs.Violations.{IsPast, RowsHold, ColumnsHold, FitsColumn, BreaksColumn, Violates, Judged};
 
 use crate::name::Name;
@@ -57,6 +57,20 @@ pub fn number_at(terms: &[Term], id: usize) -> Frac
         }
     }
     Frac::zero()
+}
+
+/// Whether a term has this id.
+pub fn has_id(terms: &[Term], id: u32) -> bool
+    ensures { result ≡ has id terms.now }
+{
+    let mut rest = terms;
+    while let [term, after @ ..] = rest {
+        if term.id == id {
+            return true;
+        }
+        rest = after;
+    }
+    false
 }
 
 /// A sum with one more product.

@@ -3,9 +3,9 @@ pub mod SingletonRow
 pub mod CrossedSides
 pub mod RedundantRow
 pub mod RedundantSide
-pub mod OutOfReach
-pub mod TightenedBound
+pub mod InfeasibleRow
+pub mod BoundTightening
 pub mod ForcingRow
 pub mod SetMultiplier
 pub mod ParallelRows
-pub mod TightenedCoefficient
+pub mod CoefficientTightening

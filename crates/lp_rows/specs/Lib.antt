@@ -3,8 +3,8 @@ pub mod SingletonRow
 pub mod CrossedSides
 pub mod RedundantRow
 pub mod RedundantSide
-pub mod OutOfReach
-pub mod TightenedBound
+pub mod InfeasibleRow
+pub mod BoundTightening
 pub mod ForcingRow
 pub mod ParallelRows
-pub mod TightenedCoefficient
+pub mod CoefficientTightening

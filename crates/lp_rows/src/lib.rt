@@ -1,6 +1,6 @@
 //! The reductions of rows, on the meaning of a program with original ids: K1 (empty row), K2 (singleton row), K5 (redundant row),
-//! K6 (redundant side), K7 (forcing row), K8 (tightened bound), K9 (tightened coefficient), K15 (parallel rows), and the verdicts
-//! V1 on sides (crossed) and V2 (out of reach).
+//! K6 (redundant side), K7 (forcing row), K8 (bound tightening), K9 (coefficient tightening), K15 (parallel rows), and the verdicts
+//! V1 on sides (crossed) and V2 (infeasible row).
 //!
 //! `specs/` says where each is enabled, what it changes and how it is undone. The functions here do nothing when they run: each
 //! states what its reduction keeps, and its check proves it. Points are kept in both senses, pairs of points and duals in the
@@ -20,11 +20,11 @@ ghost use Rattle.lp_rows.specs.SingletonRow.{IsSingletonRow, singleton_row_met, 
 ghost use Rattle.lp_rows.specs.CrossedSides.{IsCrossedRow};
 ghost use Rattle.lp_rows.specs.RedundantRow.{IsRedundantRow, redundant_row_deleted, undo_redundant_row};
 ghost use Rattle.lp_rows.specs.RedundantSide.{IsRedundantLowerSide, IsRedundantUpperSide, lower_side_dropped, upper_side_dropped};
-ghost use Rattle.lp_rows.specs.OutOfReach.{IsAboveUpperSide, IsBelowLowerSide};
-ghost use Rattle.lp_rows.specs.TightenedBound.{IsTighterLowerBound, IsTighterUpperBound, lower_bound_tightened, upper_bound_tightened, undo_lower_bound_tightened, undo_upper_bound_tightened};
+ghost use Rattle.lp_rows.specs.InfeasibleRow.{IsAboveUpperSide, IsBelowLowerSide};
+ghost use Rattle.lp_rows.specs.BoundTightening.{IsLowerBoundTightening, IsUpperBoundTightening, lower_bound_tightened, upper_bound_tightened, undo_lower_bound_tightened, undo_upper_bound_tightened};
 ghost use Rattle.lp_rows.specs.ForcingRow.{IsForcedAtLowerSide, IsForcedAtUpperSide, IsGreatestRatio, IsLeastRatio, greatest_ratio, least_ratio, forced_at_lower_side, forced_at_upper_side, undo_forced_at_lower_side, undo_forced_at_upper_side};
 ghost use Rattle.lp_rows.specs.ParallelRows.{AreParallelRows, parallel_rows_joined, undo_parallel_rows};
-ghost use Rattle.lp_rows.specs.TightenedCoefficient.{OneSide, Tightening, IsTightenedCoefficient, coefficient_tightened};
+ghost use Rattle.lp_rows.specs.CoefficientTightening.{OneSide, Tightening, IsCoefficientTightening, coefficient_tightened};
 
 /// K1: deleting a row without entries whose sides let 0 through.
 pub fn empty_rows_reduce()
@@ -75,20 +75,20 @@ pub fn duals_of_forcing_rows_are_extreme_ratios()
 {}
 
 /// K8: giving a column the lower bound that a row and the other columns' bounds imply.
-pub fn tightened_lower_bounds_reduce()
-    ensures points { (d : Sense) (M : LinearProgram) (i j : ℕ) → IsTighterLowerBound M i j → Reduces d M (lower_bound_tightened M i j) (λ x. x) zero_ℚ }
-    ensures pairs { (M : LinearProgram) (i j : ℕ) → IsTighterLowerBound M i j → ReducesPairs Min M (lower_bound_tightened M i j) (undo_lower_bound_tightened i j (M.lower_bound j) (M.coefficient i)) }
+pub fn lower_bound_tightenings_reduce()
+    ensures points { (d : Sense) (M : LinearProgram) (i j : ℕ) → IsLowerBoundTightening M i j → Reduces d M (lower_bound_tightened M i j) (λ x. x) zero_ℚ }
+    ensures pairs { (M : LinearProgram) (i j : ℕ) → IsLowerBoundTightening M i j → ReducesPairs Min M (lower_bound_tightened M i j) (undo_lower_bound_tightened i j (M.lower_bound j) (M.coefficient i)) }
 {}
 
 /// K8: giving a column the upper bound that a row and the other columns' bounds imply.
-pub fn tightened_upper_bounds_reduce()
-    ensures points { (d : Sense) (M : LinearProgram) (i j : ℕ) → IsTighterUpperBound M i j → Reduces d M (upper_bound_tightened M i j) (λ x. x) zero_ℚ }
-    ensures pairs { (M : LinearProgram) (i j : ℕ) → IsTighterUpperBound M i j → ReducesPairs Min M (upper_bound_tightened M i j) (undo_upper_bound_tightened i j (M.upper_bound j) (M.coefficient i)) }
+pub fn upper_bound_tightenings_reduce()
+    ensures points { (d : Sense) (M : LinearProgram) (i j : ℕ) → IsUpperBoundTightening M i j → Reduces d M (upper_bound_tightened M i j) (λ x. x) zero_ℚ }
+    ensures pairs { (M : LinearProgram) (i j : ℕ) → IsUpperBoundTightening M i j → ReducesPairs Min M (upper_bound_tightened M i j) (undo_upper_bound_tightened i j (M.upper_bound j) (M.coefficient i)) }
 {}
 
 /// K9: shrinking the coefficient of a whole column in a row with one side.
-pub fn tightened_coefficients_reduce()
-    ensures { (d : Sense) (M : LinearProgram) (i j : ℕ) (f : OneSide) (t : Tightening) → IsTightenedCoefficient M i j f t → Reduces d M (coefficient_tightened M i j f t) (λ x. x) zero_ℚ }
+pub fn coefficient_tightenings_reduce()
+    ensures { (d : Sense) (M : LinearProgram) (i j : ℕ) (f : OneSide) (t : Tightening) → IsCoefficientTightening M i j f t → Reduces d M (coefficient_tightened M i j f t) (λ x. x) zero_ℚ }
 {}
 
 /// K15: giving a row the sides of a row that is a multiple of it.
@@ -103,7 +103,7 @@ pub fn crossed_sides_let_no_point_through()
 {}
 
 /// V2: where a row's least activity is above its upper side, or its greatest below its lower side, no point is feasible.
-pub fn rows_out_of_reach_let_no_point_through()
+pub fn infeasible_rows_let_no_point_through()
     ensures above { (M : LinearProgram) (i : ℕ) → IsAboveUpperSide M i → NoPoint M }
     ensures below { (M : LinearProgram) (i : ℕ) → IsBelowLowerSide M i → NoPoint M }
 {}

@@ -19,7 +19,7 @@ use Rattle.lp_model.specs.LinearProgram.{LinearProgram, value_at, cost_at, Feasi
 use Rattle.lp_model.specs.Reductions.{Reduces}
 use Rattle.lp_theory.proofs.ActivityLaws.{lt_true}
 use Rattle.lp_theory.proofs.Steps.{no_worse_same}
-use Rattle.lp_substitutions.specs.DoubletonEquation.{IsDoubletonEquation, image, image_lower, image_upper, doubleton_substituted, doubleton_offset, undo_doubleton}
+use Rattle.lp_substitutions.specs.DoubletonEquation.{IsDoubletonEquation, image, image_lower, image_upper, doubleton_equation_substituted, doubleton_equation_offset, undo_doubleton_equation}
 use Rattle.lp_theory.specs.Elsewhere.{substituted}
 use Rattle.lp_theory.proofs.Elsewhere.{put_back, less_out, less_in, two_terms, total-substituted}
 use Rattle.lp_theory.proofs.MetEndLaws.{below_zero}
@@ -77,13 +77,13 @@ module _ (M : LinearProgram) (i j k : ℕ) (r : Number) (d : IsDoubletonEquation
   e = r /ℚ a
 
   abbrev R : LinearProgram
-  R = doubleton_substituted M i j k r
+  R = doubleton_equation_substituted M i j k r
 
   -- the value that the undoing gives
   solved : (x : Vector) → (r -ℚ b *ℚ x k) /ℚ a ≡ e -ℚ q *ℚ x k
   solved x = ring rational (r ∷ b ∷ x k ∷ inv_ℚ a ∷ []) ((v 0 :- v 1 :* v 2) :* v 3) (v 0 :* v 3 :- v 1 :* v 3 :* v 2) refl
 
-  pub undone : (x : Vector) → undo_doubleton j k a b r x ≡ put x j (e -ℚ q *ℚ x k)
+  pub undone : (x : Vector) → undo_doubleton_equation j k a b r x ≡ put x j (e -ℚ q *ℚ x k)
   undone x = ap (put x j) (solved x)
 
   pub two_value : (x : Vector) → value_at M i x ≡ a *ℚ x j +ℚ b *ℚ x k
@@ -166,8 +166,8 @@ module _ (M : LinearProgram) (i j k : ℕ) (r : Number) (d : IsDoubletonEquation
         back,
       )
 
-  pub doubleton_reduces : (s : Sense) → Reduces s M R (undo_doubleton j k a b r) (doubleton_offset M i j r)
-  doubleton_reduces s = record {
+  pub doubleton_equation_reduces : (s : Sense) → Reduces s M R (undo_doubleton_equation j k a b r) (doubleton_equation_offset M i j r)
+  doubleton_equation_reduces s = record {
     lifts = λ x h. subst (Feasible M) (sym (undone x)) (lifted x h);
     costs = λ x h. ap (cost_at M) (undone x) ∙ cost-doubleton x;
     keeps = λ w h. let p = kept w h in (w, p.0, no_worse_same s _ _ (sym (cost-doubleton w) ∙ ap (cost_at M) p.1));

@@ -26,7 +26,7 @@ use Rattle.lp_theory.proofs.Elsewhere.{left_out, minus_low, minus_high, value_he
 use Rattle.lp_theory.proofs.MetEndLaws.{sides_in}
 use Rattle.lp_theory.proofs.Sitting.{zero_sits, pinned_sits, sits_least, row_sits, column_sits}
 use Rattle.lp_theory.proofs.Steps.{value-without_row}
-use Rattle.lp_substitutions.specs.FreeColumnSingleton.{cheapest_side, implied_lower, implied_upper, IsFreeColumnSingleton, free_column_deleted, free_column_offset, free_column_point, free_column_pair}
+use Rattle.lp_substitutions.specs.FreeColumnSingleton.{cheapest_side, implied_lower, implied_upper, IsFreeColumnSingleton, free_column_singleton_deleted, free_column_singleton_offset, free_column_singleton_point, free_column_singleton_pair}
 
 -- ---- ends
 low_from : (p q : Option Number) (x : Number) → LowBelow p q → AtLeast q x → AtLeast p x
@@ -67,7 +67,7 @@ module _ (M : LinearProgram) (j i : ℕ) (s : Number) (d : IsFreeColumnSingleton
   P = column_put_into_row M j i
 
   abbrev R : LinearProgram
-  R = free_column_deleted M j i
+  R = free_column_singleton_deleted M j i
 
   abbrev b : Vector → Number
   b x = (s -ℚ value_at P i x) /ℚ a
@@ -114,8 +114,8 @@ module _ (M : LinearProgram) (j i : ℕ) (s : Number) (d : IsFreeColumnSingleton
   cost_lifted x = cost_by_row M j i d.singleton (put x j (b x))
       ∙ ap₂ (λ c q. c +ℚ t *ℚ q) (cost_of_others M j i d.singleton x (b x)) (value_here M j i d.singleton x (b x) ∙ row_value x)
 
-  pub free_column_reduces : Reduces Min M R (free_column_point M j i s) (free_column_offset M j i s)
-  free_column_reduces = record {
+  pub free_column_singleton_reduces : Reduces Min M R (free_column_singleton_point M j i s) (free_column_singleton_offset M j i s)
+  free_column_singleton_reduces = record {
     lifts = lifted;
     costs = λ x h. cost_lifted x;
     keeps = λ w h. (
@@ -139,7 +139,7 @@ module _ (M : LinearProgram) (j i : ℕ) (s : Number) (d : IsFreeColumnSingleton
       ∙ ap (λ c. M.costs j -ℚ c) (sym (over-times a (M.costs j) d.singleton.entry) ∙ ring rational (a ∷ t ∷ []) (v 0 :* v 1) (v 1 :* v 0) refl ∙ ap (λ c. c *ℚ a) (sym (put-same y i t)))
       ∙ sym (reduced_here M j i d.singleton (put y i t))
 
-  undone : (p : Priced) → Carries R p → Carries M (free_column_pair M j i s p)
+  undone : (p : Priced) → Carries R p → Carries M (free_column_singleton_pair M j i s p)
   undone p h = pair_back M j i d.singleton p (b p.x) t zero_ℚ h.continuous (lifted p.x h.feasible)
       (λ k n l. h.left k l ∙ reduced_others p.y k n)
       (reduced_first p.y)
@@ -148,5 +148,5 @@ module _ (M : LinearProgram) (j i : ℕ) (s : Number) (d : IsFreeColumnSingleton
       (subst (λ c. Sits Min (M.lower_side i) (M.upper_side i) c t) (sym (row_value p.x)) side.1)
       (zero_sits (M.lower_bound j) (M.upper_bound j) (b p.x) zero_ℚ refl)
 
-  pub free_column_pairs : ReducesPairs Min M R (free_column_pair M j i s)
-  free_column_pairs = pairs_of M R (free_column_pair M j i s) (record { carries = undone })
+  pub free_column_singleton_pairs : ReducesPairs Min M R (free_column_singleton_pair M j i s)
+  free_column_singleton_pairs = pairs_of M R (free_column_singleton_pair M j i s) (record { carries = undone })

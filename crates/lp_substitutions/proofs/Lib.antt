@@ -1,4 +1,4 @@
 pub mod DoubletonEquation
-pub mod DoubletonPairs
+pub mod DoubletonEquationPairs
 pub mod FreeColumnSingleton
 pub mod SlackColumnSingleton

@@ -30,7 +30,7 @@ use Rattle.lp_theory.proofs.Nearest.{near_in_both}
 use Rattle.lp_theory.proofs.Pairs.{some_inj, term_tight, undo_row, row_pairs}
 use Rattle.lp_theory.proofs.Sitting.{pos_up, pos_down, neg_up, neg_down, pinned_sits, row_sits, column_sits}
 use Rattle.lp_theory.proofs.Steps.{no_worse_same, compose, redundant_row, plus_zero}
-use Rattle.lp_substitutions.specs.SlackColumnSingleton.{IsSlackColumnSingleton, moved_lower, moved_upper, slack_column_deleted, IsRowLeftFree, slack_row_deleted, equation_offset, slack_column_offset, slack_value, slack_column_point, slack_kept_pair, slack_dropped_pair}
+use Rattle.lp_substitutions.specs.SlackColumnSingleton.{IsSlackColumnSingleton, moved_lower, moved_upper, slack_column_singleton_deleted, IsRowLeftFree, slack_row_deleted, equation_offset, slack_column_singleton_offset, slack_value, slack_column_singleton_point, slack_kept_pair, slack_dropped_pair}
 
 -- ---- a side against the greatest and the least of the slack's term
 under_greatest : (s g : Option Number) (r : Number) → AtLeast (minus_ends s g) r → InOrder (less s r) g
@@ -106,7 +106,7 @@ module _ (M : LinearProgram) (j i : ℕ) (d : IsSlackColumnSingleton M j i) wher
   P = column_put_into_row M j i
 
   abbrev R : LinearProgram
-  R = slack_column_deleted M j i
+  R = slack_column_singleton_deleted M j i
 
   abbrev b : Vector → Number
   b x = slack_value a (M.lower_side i) (M.upper_side i) (M.lower_bound j) (M.upper_bound j) (value_at P i x)
@@ -152,13 +152,13 @@ module _ (M : LinearProgram) (j i : ℕ) (d : IsSlackColumnSingleton M j i) wher
   value_of_equation r x e f h = ≤ℚ_antisym (subst (λ o. AtMost o (value_at M i x)) f (h.rows i d.singleton.row).high) (subst (λ o. AtLeast o (value_at M i x)) e (h.rows i d.singleton.row).low)
 
   -- t times the row's value is the offset at each feasible point
-  offset_is : (x : Vector) → Feasible M x → t *ℚ value_at M i x ≡ slack_column_offset M j i
+  offset_is : (x : Vector) → Feasible M x → t *ℚ value_at M i x ≡ slack_column_singleton_offset M j i
   offset_is x h = elim d.equation_or_free [
     | inl e ↦ ap (λ c. t *ℚ c) (value_of_equation e.0 x e.1 e.2 h) ∙ sym (whole_offset t e.0 (M.lower_side i) (M.upper_side i) e.1 e.2)
     | inr e ↦ ap (λ c. c *ℚ value_at M i x) (no_cost e) ∙ ring rational (value_at M i x ∷ []) (num (pos 0) :* v 0) (num (pos 0)) refl ∙ sym (no_offset t (M.lower_side i) (M.upper_side i) (no_cost e))
   ]
 
-  pub slack_kept_reduces : (s : Sense) → Reduces s M R (slack_column_point M j i) (slack_column_offset M j i)
+  pub slack_kept_reduces : (s : Sense) → Reduces s M R (slack_column_singleton_point M j i) (slack_column_singleton_offset M j i)
   slack_kept_reduces s = record {
     lifts = lifted;
     costs = λ x h. cost_by_row M j i d.singleton (put x j (b x)) ∙ ap₂ ◌+ℚ◌ (cost_of_others M j i d.singleton x (b x)) (offset_is (put x j (b x)) (lifted x h));
@@ -202,20 +202,20 @@ module _ (M : LinearProgram) (j i : ℕ) (d : IsSlackColumnSingleton M j i) wher
 -- ---- the row deleted too
 module _ (M : LinearProgram) (j i : ℕ) (d : IsRowLeftFree M j i) where
   abbrev K : LinearProgram
-  K = slack_column_deleted M j i
+  K = slack_column_singleton_deleted M j i
 
   row_redundant : (s : Sense) → Reduces s K (slack_row_deleted M j i) (λ x. x) zero_ℚ
   row_redundant s = redundant_row s K i (λ x h. rw (put-same M.lower_side, put-same M.upper_side, d.lower, d.upper) (record { low = tt; high = tt }))
 
-  pub slack_dropped_reduces : (s : Sense) → Reduces s M (slack_row_deleted M j i) (slack_column_point M j i) (slack_column_offset M j i)
-  slack_dropped_reduces s = subst (Reduces s M (slack_row_deleted M j i) (slack_column_point M j i)) (sym (plus_zero (slack_column_offset M j i)))
-      (compose s M K (slack_row_deleted M j i) (slack_column_point M j i) (λ x. x) (slack_column_offset M j i) zero_ℚ (slack_kept_reduces M j i d.slack s) (row_redundant s))
+  pub slack_dropped_reduces : (s : Sense) → Reduces s M (slack_row_deleted M j i) (slack_column_singleton_point M j i) (slack_column_singleton_offset M j i)
+  slack_dropped_reduces s = subst (Reduces s M (slack_row_deleted M j i) (slack_column_singleton_point M j i)) (sym (plus_zero (slack_column_singleton_offset M j i)))
+      (compose s M K (slack_row_deleted M j i) (slack_column_singleton_point M j i) (λ x. x) (slack_column_singleton_offset M j i) zero_ℚ (slack_kept_reduces M j i d.slack s) (row_redundant s))
 
   undone_dropped : (p : Priced) → Carries (slack_row_deleted M j i) p → Carries M (slack_dropped_pair M j i p)
   undone_dropped p h = subst (Carries M) same (undone_kept M j i d.slack (undo_row i p) ((row_pairs K i (row_redundant Min).lifts).carries p h))
     where
       same : slack_kept_pair M j i (undo_row i p) ≡ slack_dropped_pair M j i p
-      same = ap₂ (λ (y z : Vector). record { x = slack_column_point M j i p.x; y = y; z = z }) dual reduced
+      same = ap₂ (λ (y z : Vector). record { x = slack_column_singleton_point M j i p.x; y = y; z = z }) dual reduced
         where
           none : put p.y i zero_ℚ i ≡ zero_ℚ
           none = put-same p.y i zero_ℚ

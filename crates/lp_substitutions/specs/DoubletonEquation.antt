@@ -51,27 +51,27 @@ substituted_by M i j k a b r = record M {
   costs = substituted M.costs j k (b /ℚ a);
 }
 
-abbrev pub doubleton_substituted : LinearProgram → ℕ → ℕ → ℕ → Number → LinearProgram
-doubleton_substituted M i j k r = substituted_by M i j k (M.coefficient i j) (M.coefficient i k) r
+abbrev pub doubleton_equation_substituted : LinearProgram → ℕ → ℕ → ℕ → Number → LinearProgram
+doubleton_equation_substituted M i j k r = substituted_by M i j k (M.coefficient i j) (M.coefficient i k) r
 
 -- the offset gains c_j (r/a)
-abbrev pub doubleton_offset : LinearProgram → ℕ → ℕ → Number → Number
-doubleton_offset M i j r = M.costs j *ℚ (r /ℚ M.coefficient i j)
+abbrev pub doubleton_equation_offset : LinearProgram → ℕ → ℕ → Number → Number
+doubleton_equation_offset M i j r = M.costs j *ℚ (r /ℚ M.coefficient i j)
 
 -- x_j = (r - b x_k) / a
-abbrev pub undo_doubleton : ℕ → ℕ → Number → Number → Number → Vector → Vector
-undo_doubleton j k a b r x = put x j ((r -ℚ b *ℚ x k) /ℚ a)
+abbrev pub undo_doubleton_equation : ℕ → ℕ → Number → Number → Number → Vector → Vector
+undo_doubleton_equation j k a b r x = put x j ((r -ℚ b *ℚ x k) /ℚ a)
 
 -- dj and dk are what is left of the costs of j and k where row i has the dual 0. Row i takes dk over where k holds z_k
 -- at an end that it has of j alone, else dj.
 -- l and u are k's old bounds, c the cost of j, and `column` its entries but that in row i, of n rows
-abbrev pub undo_doubleton_pair : ℕ → ℕ → ℕ → Number → Number → Number → Option Number → Option Number → Number → ℕ → Vector → Priced → Priced
-undo_doubleton_pair i j k a b r l u c n column p =
+abbrev pub undo_doubleton_equation_pair : ℕ → ℕ → ℕ → Number → Number → Number → Option Number → Option Number → Number → ℕ → Vector → Priced → Priced
+undo_doubleton_equation_pair i j k a b r l u c n column p =
     let dj : Number = c -ℚ products n p.y column in
     let dk : Number = p.z k +ℚ (b /ℚ a) *ℚ dj in
     let t : Number = if is_from_row l u (p.x k) (p.z k) then dk /ℚ b else dj /ℚ a in
-    record { x = undo_doubleton j k a b r p.x; y = put p.y i t; z = put (put p.z j (dj -ℚ a *ℚ t)) k (dk -ℚ b *ℚ t) }
+    record { x = undo_doubleton_equation j k a b r p.x; y = put p.y i t; z = put (put p.z j (dj -ℚ a *ℚ t)) k (dk -ℚ b *ℚ t) }
 
 -- the undoing with what M holds
-abbrev pub doubleton_pair : LinearProgram → ℕ → ℕ → ℕ → Number → Priced → Priced
-doubleton_pair M i j k r = undo_doubleton_pair i j k (M.coefficient i j) (M.coefficient i k) r (M.lower_bound k) (M.upper_bound k) (M.costs j) M.rows (put (λ m. M.coefficient m j) i zero_ℚ)
+abbrev pub doubleton_equation_pair : LinearProgram → ℕ → ℕ → ℕ → Number → Priced → Priced
+doubleton_equation_pair M i j k r = undo_doubleton_equation_pair i j k (M.coefficient i j) (M.coefficient i k) r (M.lower_bound k) (M.upper_bound k) (M.costs j) M.rows (put (λ m. M.coefficient m j) i zero_ℚ)

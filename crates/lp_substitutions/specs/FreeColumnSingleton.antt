@@ -36,24 +36,24 @@ pub record IsFreeColumnSingleton (M : LinearProgram) (j i : ℕ) (s : Number) : 
   pub upper : HighAbove (M.upper_bound j) (implied_upper M j i s)
 
 -- t times the row leaves the costs, and row and column are deleted
-abbrev pub free_column_deleted : LinearProgram → ℕ → ℕ → LinearProgram
-free_column_deleted M j i = without_row (column_put_into_row M j i) i
+abbrev pub free_column_singleton_deleted : LinearProgram → ℕ → ℕ → LinearProgram
+free_column_singleton_deleted M j i = without_row (column_put_into_row M j i) i
 
 -- the offset gains t s
-abbrev pub free_column_offset : LinearProgram → ℕ → ℕ → Number → Number
-free_column_offset M j i s = (M.costs j /ℚ M.coefficient i j) *ℚ s
+abbrev pub free_column_singleton_offset : LinearProgram → ℕ → ℕ → Number → Number
+free_column_singleton_offset M j i s = (M.costs j /ℚ M.coefficient i j) *ℚ s
 
 -- x_j = (s - the sum of row i without column j) / a; `row` is that row, of n columns
-abbrev pub undo_free_column : ℕ → Number → Number → ℕ → Vector → Vector → Vector
-undo_free_column j a s n row x = put x j ((s -ℚ products n row x) /ℚ a)
+abbrev pub undo_free_column_singleton : ℕ → Number → Number → ℕ → Vector → Vector → Vector
+undo_free_column_singleton j a s n row x = put x j ((s -ℚ products n row x) /ℚ a)
 
 -- y_i = t, z_j = 0
-abbrev pub undo_free_column_pair : ℕ → ℕ → Number → Number → Number → ℕ → Vector → Priced → Priced
-undo_free_column_pair j i a s t n row p = record { x = undo_free_column j a s n row p.x; y = put p.y i t; z = put p.z j zero_ℚ }
+abbrev pub undo_free_column_singleton_pair : ℕ → ℕ → Number → Number → Number → ℕ → Vector → Priced → Priced
+undo_free_column_singleton_pair j i a s t n row p = record { x = undo_free_column_singleton j a s n row p.x; y = put p.y i t; z = put p.z j zero_ℚ }
 
 -- the undoings with what M holds
-abbrev pub free_column_point : LinearProgram → ℕ → ℕ → Number → Vector → Vector
-free_column_point M j i s = undo_free_column j (M.coefficient i j) s M.columns (put (M.coefficient i) j zero_ℚ)
+abbrev pub free_column_singleton_point : LinearProgram → ℕ → ℕ → Number → Vector → Vector
+free_column_singleton_point M j i s = undo_free_column_singleton j (M.coefficient i j) s M.columns (put (M.coefficient i) j zero_ℚ)
 
-abbrev pub free_column_pair : LinearProgram → ℕ → ℕ → Number → Priced → Priced
-free_column_pair M j i s = undo_free_column_pair j i (M.coefficient i j) s (M.costs j /ℚ M.coefficient i j) M.columns (put (M.coefficient i) j zero_ℚ)
+abbrev pub free_column_singleton_pair : LinearProgram → ℕ → ℕ → Number → Priced → Priced
+free_column_singleton_pair M j i s = undo_free_column_singleton_pair j i (M.coefficient i j) s (M.costs j /ℚ M.coefficient i j) M.columns (put (M.coefficient i) j zero_ℚ)

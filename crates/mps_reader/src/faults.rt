@@ -5,19 +5,13 @@ ghost use Rattle.mps_reader.specs.declared.faults.MpsError.TheVariants.{NoMemory
 
 use mps_profile::MpsFaultKind;
 use std::alloc::AllocError;
-
-/// A fault with its line, from 1. The line of a missing ENDATA is one past the last.
-#[derive(Clone, Copy, Debug, PartialEq, Eq)]
-pub struct MpsFault {
-    pub kind: MpsFaultKind,
-    pub line: u64,
-}
+use text_lines::Fault;
 
 /// Why a text gives no program.
 #[derive(Clone, Copy, Debug, PartialEq, Eq)]
 pub enum MpsError {
-    /// The first fault by line, and at one line the one with the lowest number.
-    Fault(MpsFault),
+    /// The first fault by line, and at one line the one with the lowest number. The line of a missing ENDATA is one past the last.
+    Fault(Fault<MpsFaultKind>),
     /// Want of memory.
     NoMemory,
 }

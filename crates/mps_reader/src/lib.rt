@@ -5,7 +5,7 @@ mod faults;
 mod reader;
 mod reading;
 
-pub use faults::{MpsError, MpsFault};
+pub use faults::MpsError;
 pub use mps_profile::MpsFaultKind;
 pub use mps_profile::dialect::{Dialect, Format};
 pub use reading::read_mps;

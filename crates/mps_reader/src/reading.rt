@@ -7,7 +7,7 @@ ghost use Rattle.mps_tables.specs.Tables.{Holds};
 ghost use Rattle.mps_assembly.specs.Assembled.{AreOf};
 ghost use Rattle.mps_reader.specs.Reading.{IsRead, AreLines};
 
-use crate::faults::{MpsError, MpsFault};
+use crate::faults::MpsError;
 use crate::reader::Reader;
 use lp_model::Program;
 use mps_assembly::{ColumnTables, Parts, RowTables, assemble};
@@ -15,7 +15,7 @@ use mps_profile::MpsFaultKind;
 use mps_profile::dialect::Dialect;
 use mps_tables::{Stop, Tables};
 use std::alloc::Global;
-use text_lines::first_line;
+use text_lines::{Fault, first_line};
 
 /// Reads the lines of a text up to ENDATA.
 fn read_lines(alloc: Global, text: &[u8], dialect: Dialect) -> Result<Reader, MpsError>
@@ -35,7 +35,7 @@ fn read_lines(alloc: Global, text: &[u8], dialect: Dialect) -> Result<Reader, Mp
         match reader.line(alloc, line, after, words) {
             Ok(room) => words = room,
             Err(Stop::Fault(kind)) => {
-                return Err(MpsError::Fault(MpsFault { kind, line: number }));
+                return Err(MpsError::Fault(Fault { kind, line: number }));
             }
             Err(Stop::OutOfMemory) => return Err(MpsError::NoMemory),
         }
@@ -44,7 +44,7 @@ fn read_lines(alloc: Global, text: &[u8], dialect: Dialect) -> Result<Reader, Mp
     if reader.is_ended() {
         return Ok(reader);
     }
-    Err(MpsError::Fault(MpsFault {
+    Err(MpsError::Fault(Fault {
         kind: MpsFaultKind::NoEnd,
         line: number + 1,
     }))

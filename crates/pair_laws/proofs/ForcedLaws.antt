@@ -9,7 +9,7 @@ use Rattle.undo_records.specs.declared.side.Side.{Side}
 use Rattle.undo_records.specs.declared.side.Side.TheVariants.{Lower, Upper}
 use Rattle.undo_records.specs.declared.kinds.forcing_row.ForcingRow.{ForcingRow}
 use Rattle.undo_records.specs.declared.undo.Undo.TheVariants as kind
-use Rattle.postsolve_dual.specs.LiftPair.{furthest, undone_pair}
+use Rattle.undo_pairs.specs.LiftPair.{furthest, undone_pair}
 use Rattle.pair_laws.proofs.Furthest.{greatest_is, least_is, greatest_one, least_one}
 
 pub forced_lower : (n : ℕ) (r : ForcingRow) (p : Priced) → r.side ≡ Lower → Ascends 0 n r.entries → undone_pair (kind.ForcingRow r) p ≡ undo_forced_at_lower_side n r.row (dense r.entries) p

@@ -14,7 +14,7 @@ use Rattle.lp_model.specs.Sparse.{Ascends, dense}
 use Rattle.lp_rows.specs.ForcingRow.{IsGreatestRatio, IsLeastRatio}
 use Rattle.undo_records.specs.declared.side.Side.{Side}
 use Rattle.undo_records.specs.declared.side.Side.TheVariants.{Lower, Upper}
-use Rattle.postsolve_dual.specs.LiftPair.{further, furthest}
+use Rattle.undo_pairs.specs.LiftPair.{further, furthest}
 
 -- q isn't past t on that side
 abbrev Within : Side → Number → Number → Type 0

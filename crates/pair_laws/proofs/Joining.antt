@@ -4,7 +4,7 @@ use Rattle.lp_model.specs.declared.program.Sense.{Sense}
 use Rattle.lp_model.specs.LinearProgram.{LinearProgram}
 use Rattle.lp_model.specs.Reductions.{Priced, ReducesPairs}
 use Rattle.undo_records.specs.declared.undo.Undo.{Undo}
-use Rattle.postsolve_dual.specs.LiftPair.{lift_pair, undone_pair}
+use Rattle.undo_pairs.specs.LiftPair.{lift_pair, undone_pair}
 use Rattle.pair_laws.proofs.SenseLaws.{agreeing}
 
 pub none : (s : Sense) (M : LinearProgram) → ReducesPairs s M M (lift_pair [])

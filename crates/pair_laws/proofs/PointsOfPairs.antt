@@ -6,12 +6,10 @@ use Rattle.lp_theory.specs.MetEnds.{is_from_row}
 use Rattle.lp_model.specs.Sparse.{sparse_total}
 use Rattle.undo_records.specs.declared.side.RowFate.{RowFate}
 use Rattle.undo_records.specs.declared.side.RowFate.TheVariants.{Kept, Dropped}
-use Rattle.undo_records.specs.declared.side.Side.{Side}
-use Rattle.undo_records.specs.declared.side.Side.TheVariants.{Lower, Upper}
 use Rattle.undo_records.specs.declared.undo.Undo.{Undo}
 use Rattle.undo_records.specs.declared.undo.Undo.TheVariants as kind
 use Rattle.undo_records.specs.Lift.{lift, undone}
-use Rattle.postsolve_dual.specs.LiftPair.{duals_undone, is_off_bound, lift_pair, undo_slack, undone_pair}
+use Rattle.undo_pairs.specs.LiftPair.{duals_undone, is_off_bound, lift_pair, undo_slack, undone_pair}
 use Rattle.rational.specs.Number.{Number}
 use Rattle.std.specs.Prelude.{ℕ}
 
@@ -27,17 +25,17 @@ point_stays : (u : Undo) (p : Priced) → (duals_undone u p).x ≡ p.x
 point_stays (kind.EmptyRow r) p = refl
 point_stays (kind.SingletonRow r) p = either (is_from_row r.lower r.upper (p.x r.column) (p.z r.column)) _ _ p.x refl refl
 point_stays (kind.FixedColumn r) p = refl
-point_stays (kind.RoundBounds r) p = refl
+point_stays (kind.RoundedBounds r) p = refl
 point_stays (kind.RedundantRow r) p = refl
 point_stays (kind.RedundantSide r) p = refl
 point_stays (kind.ForcingRow r) p = refl
-point_stays (kind.TightenBound r) p = either (is_off_bound r.side r.bound (p.x r.column) (p.z r.column)) _ _ p.x refl refl
-point_stays (kind.TightenCoefficient r) p = refl
-point_stays (kind.DualFix r) p = refl
-point_stays (kind.Dominated r) p = refl
-point_stays (kind.Doubleton r) p = refl
-point_stays (kind.FreeSingleton r) p = refl
-point_stays (kind.SlackSingleton r) p = slack r.fate r.row r.column r.value r.price p
+point_stays (kind.BoundTightening r) p = either (is_off_bound r.side r.bound (p.x r.column) (p.z r.column)) _ _ p.x refl refl
+point_stays (kind.CoefficientTightening r) p = refl
+point_stays (kind.DualFixing r) p = refl
+point_stays (kind.DominatedColumn r) p = refl
+point_stays (kind.DoubletonEquation r) p = refl
+point_stays (kind.FreeColumnSingleton r) p = refl
+point_stays (kind.SlackColumnSingleton r) p = slack r.fate r.row r.column r.value r.price p
 point_stays (kind.ParallelRows r) p = either (is_from_row r.lower r.upper (sparse_total r.entries p.x) (p.y r.kept)) _ _ p.x refl refl
 point_stays (kind.ParallelColumns r) p = refl
 point_stays (kind.EmptyColumn r) p = refl

@@ -8,7 +8,7 @@ use Rattle.lp_model.specs.Vectors.{Vector, vector_of}
 use Rattle.lp_model.specs.LinearProgram.{LinearProgram}
 use Rattle.lp_model.specs.Optimality.{reduced_cost}
 use Rattle.lp_model.specs.Reductions.{IsPriced}
-use Rattle.postsolve_dual.specs.Numbers.{reduced_costs_of}
+use Rattle.undo_pairs.specs.Numbers.{reduced_costs_of}
 
 pub size : (M : LinearProgram) (y : Vector) (n : ℕ) → length (reduced_costs_of M y n) ≡ n
 size M y zero = refl

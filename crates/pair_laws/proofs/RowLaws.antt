@@ -6,17 +6,17 @@ use Rattle.lp_theory.proofs.SparseSums.{sparse-dense}
 use Rattle.lp_rows.specs.EmptyRow.{undo_empty_row}
 use Rattle.lp_rows.specs.RedundantRow.{undo_redundant_row}
 use Rattle.lp_rows.specs.SingletonRow.{undo_singleton_row}
-use Rattle.lp_rows.specs.TightenedBound.{undo_lower_bound_tightened, undo_upper_bound_tightened}
+use Rattle.lp_rows.specs.BoundTightening.{undo_lower_bound_tightened, undo_upper_bound_tightened}
 use Rattle.lp_rows.specs.ParallelRows.{undo_parallel_rows}
 use Rattle.undo_records.specs.declared.side.Side.{Side}
 use Rattle.undo_records.specs.declared.side.Side.TheVariants.{Lower, Upper}
 use Rattle.undo_records.specs.declared.kinds.empty_row.EmptyRow.{EmptyRow}
 use Rattle.undo_records.specs.declared.kinds.singleton_row.SingletonRow.{SingletonRow}
 use Rattle.undo_records.specs.declared.kinds.redundant_row.RedundantRow.{RedundantRow}
-use Rattle.undo_records.specs.declared.kinds.tighten_bound.TightenBound.{TightenBound}
+use Rattle.undo_records.specs.declared.kinds.bound_tightening.BoundTightening.{BoundTightening}
 use Rattle.undo_records.specs.declared.kinds.parallel_rows.ParallelRows.{ParallelRows}
 use Rattle.undo_records.specs.declared.undo.Undo.TheVariants as kind
-use Rattle.postsolve_dual.specs.LiftPair.{undone_pair, undo_bound, undo_multiple}
+use Rattle.undo_pairs.specs.LiftPair.{undone_pair, undo_bound, undo_multiple}
 
 pub empty : (r : EmptyRow) (p : Priced) → undone_pair (kind.EmptyRow r) p ≡ undo_empty_row r.row p
 empty r p = refl
@@ -27,10 +27,10 @@ singleton r p = refl
 pub redundant : (r : RedundantRow) (p : Priced) → undone_pair (kind.RedundantRow r) p ≡ undo_redundant_row r.row p
 redundant r p = refl
 
-pub tightened_lower : (r : TightenBound) (p : Priced) → r.side ≡ Lower → undone_pair (kind.TightenBound r) p ≡ undo_lower_bound_tightened r.row r.column r.bound (dense r.entries) p
+pub tightened_lower : (r : BoundTightening) (p : Priced) → r.side ≡ Lower → undone_pair (kind.BoundTightening r) p ≡ undo_lower_bound_tightened r.row r.column r.bound (dense r.entries) p
 tightened_lower r p e = ap (λ (s : Side). undo_bound s r.row r.column r.bound r.entries p) e
 
-pub tightened_upper : (r : TightenBound) (p : Priced) → r.side ≡ Upper → undone_pair (kind.TightenBound r) p ≡ undo_upper_bound_tightened r.row r.column r.bound (dense r.entries) p
+pub tightened_upper : (r : BoundTightening) (p : Priced) → r.side ≡ Upper → undone_pair (kind.BoundTightening r) p ≡ undo_upper_bound_tightened r.row r.column r.bound (dense r.entries) p
 tightened_upper r p e = ap (λ (s : Side). undo_bound s r.row r.column r.bound r.entries p) e
 
 pub parallel : (n : ℕ) (r : ParallelRows) (p : Priced) → Ascends 0 n r.entries → undone_pair (kind.ParallelRows r) p ≡ undo_parallel_rows n r.row r.kept r.factor r.lower r.upper (dense r.entries) p

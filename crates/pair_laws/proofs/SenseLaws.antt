@@ -9,8 +9,8 @@ use Rattle.lp_model.specs.LinearProgram.{LinearProgram}
 use Rattle.lp_model.specs.Reductions.{Priced, ReducesPairs}
 use Rattle.lp_model.specs.Turning.{in_sense}
 use Rattle.undo_records.specs.Postsolve.{Postsolve}
-use Rattle.postsolve_dual.specs.Numbers.{placed_pair, started, turned_for}
-use Rattle.postsolve_dual.specs.LiftPair.{lift_pair}
+use Rattle.undo_pairs.specs.Numbers.{placed_pair, started, turned_for}
+use Rattle.undo_pairs.specs.LiftPair.{lift_pair}
 
 by_sense : (s : Sense) (f : Priced → Priced) (p : Priced) → turned_for s (f (turned_for s p)) ≡ in_sense s f p
 by_sense Min f p = refl

@@ -19,8 +19,8 @@ singleton_row M i j = kind.SingletonRow (record { row = i; column = j; value = M
 abbrev pub fixed_column : LinearProgram → ℕ → Number → List Term → Undo
 fixed_column M j v ts = kind.FixedColumn (record { column = j; value = v; cost = M.costs j; entries = ts })
 
-abbrev pub round_bounds : ℕ → Undo
-round_bounds j = kind.RoundBounds (record { column = j })
+abbrev pub rounded_bounds : ℕ → Undo
+rounded_bounds j = kind.RoundedBounds (record { column = j })
 
 abbrev pub redundant_row : ℕ → Undo
 redundant_row i = kind.RedundantRow (record { row = i })
@@ -31,25 +31,25 @@ redundant_side i = kind.RedundantSide (record { row = i })
 abbrev pub forcing_row : ℕ → Side → List Term → Undo
 forcing_row i side ts = kind.ForcingRow (record { row = i; side = side; entries = ts })
 
-abbrev pub tighten_lower_bound : LinearProgram → ℕ → ℕ → List Term → Undo
-tighten_lower_bound M i j ts = kind.TightenBound (record { row = i; column = j; side = Lower; bound = M.lower_bound j; entries = ts })
+abbrev pub lower_bound_tightening : LinearProgram → ℕ → ℕ → List Term → Undo
+lower_bound_tightening M i j ts = kind.BoundTightening (record { row = i; column = j; side = Lower; bound = M.lower_bound j; entries = ts })
 
-abbrev pub tighten_upper_bound : LinearProgram → ℕ → ℕ → List Term → Undo
-tighten_upper_bound M i j ts = kind.TightenBound (record { row = i; column = j; side = Upper; bound = M.upper_bound j; entries = ts })
+abbrev pub upper_bound_tightening : LinearProgram → ℕ → ℕ → List Term → Undo
+upper_bound_tightening M i j ts = kind.BoundTightening (record { row = i; column = j; side = Upper; bound = M.upper_bound j; entries = ts })
 
-abbrev pub tighten_coefficient : ℕ → ℕ → Undo
-tighten_coefficient i j = kind.TightenCoefficient (record { row = i; column = j })
+abbrev pub coefficient_tightening : ℕ → ℕ → Undo
+coefficient_tightening i j = kind.CoefficientTightening (record { row = i; column = j })
 
-abbrev pub dual_fix : ℕ → Undo
-dual_fix j = kind.DualFix (record { column = j })
+abbrev pub dual_fixing : ℕ → Undo
+dual_fixing j = kind.DualFixing (record { column = j })
 
 -- column j is better than column k
 abbrev pub dominated_column : ℕ → ℕ → ℕ → Undo
-dominated_column i j k = kind.Dominated (record { row = i; better = j; column = k })
+dominated_column i j k = kind.DominatedColumn (record { row = i; better = j; column = k })
 
 -- row i, equal to q, was solved for column j
-abbrev pub doubleton : LinearProgram → ℕ → ℕ → ℕ → Number → List Term → Undo
-doubleton M i j k q ts = kind.Doubleton (record {
+abbrev pub doubleton_equation : LinearProgram → ℕ → ℕ → ℕ → Number → List Term → Undo
+doubleton_equation M i j k q ts = kind.DoubletonEquation (record {
   row = i;
   column = j;
   kept = k;
@@ -63,11 +63,11 @@ doubleton M i j k q ts = kind.Doubleton (record {
 })
 
 -- row i stands at s
-abbrev pub free_singleton : LinearProgram → ℕ → ℕ → Number → List Term → Undo
-free_singleton M j i s ts = kind.FreeSingleton (record { column = j; row = i; value = M.coefficient i j; at = s; price = M.costs j /ℚ M.coefficient i j; entries = ts })
+abbrev pub free_column_singleton : LinearProgram → ℕ → ℕ → Number → List Term → Undo
+free_column_singleton M j i s ts = kind.FreeColumnSingleton (record { column = j; row = i; value = M.coefficient i j; at = s; price = M.costs j /ℚ M.coefficient i j; entries = ts })
 
-abbrev pub slack_singleton : LinearProgram → ℕ → ℕ → RowFate → List Term → Undo
-slack_singleton M j i fate ts = kind.SlackSingleton (record {
+abbrev pub slack_column_singleton : LinearProgram → ℕ → ℕ → RowFate → List Term → Undo
+slack_column_singleton M j i fate ts = kind.SlackColumnSingleton (record {
   column = j;
   row = i;
   value = M.coefficient i j;

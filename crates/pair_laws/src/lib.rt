@@ -22,29 +22,29 @@ ghost use Rattle.lp_rows.specs.EmptyRow.{undo_empty_row};
 ghost use Rattle.lp_rows.specs.RedundantRow.{undo_redundant_row};
 ghost use Rattle.lp_rows.specs.SingletonRow.{undo_singleton_row};
 ghost use Rattle.lp_rows.specs.ForcingRow.{undo_forced_at_lower_side, undo_forced_at_upper_side};
-ghost use Rattle.lp_rows.specs.TightenedBound.{undo_lower_bound_tightened, undo_upper_bound_tightened};
+ghost use Rattle.lp_rows.specs.BoundTightening.{undo_lower_bound_tightened, undo_upper_bound_tightened};
 ghost use Rattle.lp_rows.specs.ParallelRows.{undo_parallel_rows};
 ghost use Rattle.lp_columns.specs.FixedColumn.{undo_fixed_column_pair};
 ghost use Rattle.lp_columns.specs.ParallelColumns.{undo_parallel_columns_pair};
-ghost use Rattle.lp_substitutions.specs.DoubletonEquation.{undo_doubleton_pair};
-ghost use Rattle.lp_substitutions.specs.FreeColumnSingleton.{undo_free_column_pair};
-ghost use Rattle.lp_substitutions.specs.SlackColumnSingleton.{undo_slack_column_kept, undo_slack_column_dropped};
+ghost use Rattle.lp_substitutions.specs.DoubletonEquation.{undo_doubleton_equation_pair};
+ghost use Rattle.lp_substitutions.specs.FreeColumnSingleton.{undo_free_column_singleton_pair};
+ghost use Rattle.lp_substitutions.specs.SlackColumnSingleton.{undo_slack_column_singleton_kept, undo_slack_column_singleton_dropped};
 ghost use Rattle.undo_records.specs.declared.side.Side.TheVariants.{Lower, Upper};
 ghost use Rattle.undo_records.specs.declared.side.RowFate.TheVariants.{Kept, Dropped};
 ghost use Rattle.undo_records.specs.declared.kinds.empty_row.EmptyRow.{EmptyRow};
 ghost use Rattle.undo_records.specs.declared.kinds.singleton_row.SingletonRow.{SingletonRow};
 ghost use Rattle.undo_records.specs.declared.kinds.fixed_column.FixedColumn.{FixedColumn};
-ghost use Rattle.undo_records.specs.declared.kinds.round_bounds.RoundBounds.{RoundBounds};
+ghost use Rattle.undo_records.specs.declared.kinds.rounded_bounds.RoundedBounds.{RoundedBounds};
 ghost use Rattle.undo_records.specs.declared.kinds.redundant_row.RedundantRow.{RedundantRow};
 ghost use Rattle.undo_records.specs.declared.kinds.redundant_side.RedundantSide.{RedundantSide};
 ghost use Rattle.undo_records.specs.declared.kinds.forcing_row.ForcingRow.{ForcingRow};
-ghost use Rattle.undo_records.specs.declared.kinds.tighten_bound.TightenBound.{TightenBound};
-ghost use Rattle.undo_records.specs.declared.kinds.tighten_coefficient.TightenCoefficient.{TightenCoefficient};
-ghost use Rattle.undo_records.specs.declared.kinds.dual_fix.DualFix.{DualFix};
-ghost use Rattle.undo_records.specs.declared.kinds.dominated.Dominated.{Dominated};
-ghost use Rattle.undo_records.specs.declared.kinds.doubleton.Doubleton.{Doubleton};
-ghost use Rattle.undo_records.specs.declared.kinds.free_singleton.FreeSingleton.{FreeSingleton};
-ghost use Rattle.undo_records.specs.declared.kinds.slack_singleton.SlackSingleton.{SlackSingleton};
+ghost use Rattle.undo_records.specs.declared.kinds.bound_tightening.BoundTightening.{BoundTightening};
+ghost use Rattle.undo_records.specs.declared.kinds.coefficient_tightening.CoefficientTightening.{CoefficientTightening};
+ghost use Rattle.undo_records.specs.declared.kinds.dual_fixing.DualFixing.{DualFixing};
+ghost use Rattle.undo_records.specs.declared.kinds.dominated_column.DominatedColumn.{DominatedColumn};
+ghost use Rattle.undo_records.specs.declared.kinds.doubleton_equation.DoubletonEquation.{DoubletonEquation};
+ghost use Rattle.undo_records.specs.declared.kinds.free_column_singleton.FreeColumnSingleton.{FreeColumnSingleton};
+ghost use Rattle.undo_records.specs.declared.kinds.slack_column_singleton.SlackColumnSingleton.{SlackColumnSingleton};
 ghost use Rattle.undo_records.specs.declared.kinds.parallel_rows.ParallelRows.{ParallelRows};
 ghost use Rattle.undo_records.specs.declared.kinds.parallel_columns.ParallelColumns.{ParallelColumns};
 ghost use Rattle.undo_records.specs.declared.kinds.empty_column.EmptyColumn.{EmptyColumn};
@@ -52,8 +52,8 @@ ghost use Rattle.undo_records.specs.declared.undo.Undo.TheVariants as kind;
 ghost use Rattle.lp_model.specs.ProgramData.{ProgramData};
 ghost use Rattle.lp_model.specs.Turning.{in_sense};
 ghost use Rattle.undo_records.specs.Postsolve.{Postsolve};
-ghost use Rattle.postsolve_dual.specs.Numbers.{placed_pair, reduced_costs_of, started, turned_for};
-ghost use Rattle.postsolve_dual.specs.LiftPair.{lift_pair, undone_pair};
+ghost use Rattle.undo_pairs.specs.Numbers.{placed_pair, reduced_costs_of, started, turned_for};
+ghost use Rattle.undo_pairs.specs.LiftPair.{lift_pair, undone_pair};
 
 /// K1, K2, K5: rows that were deleted.
 #[tactic(auto, using(crate::proofs::RowLaws::row_laws))]
@@ -72,9 +72,9 @@ pub fn forcing_rows_are_undone()
 
 /// K8: a bound that a row tightened, whose entries the record has.
 #[tactic(auto, using(crate::proofs::RowLaws::row_laws))]
-pub fn tightened_bounds_are_undone()
-    ensures lower { (r : TightenBound) (p : Priced) → r.side ≡ Lower → undone_pair (kind.TightenBound r) p ≡ undo_lower_bound_tightened r.row r.column r.bound (dense r.entries) p }
-    ensures upper { (r : TightenBound) (p : Priced) → r.side ≡ Upper → undone_pair (kind.TightenBound r) p ≡ undo_upper_bound_tightened r.row r.column r.bound (dense r.entries) p }
+pub fn bound_tightenings_are_undone()
+    ensures lower { (r : BoundTightening) (p : Priced) → r.side ≡ Lower → undone_pair (kind.BoundTightening r) p ≡ undo_lower_bound_tightened r.row r.column r.bound (dense r.entries) p }
+    ensures upper { (r : BoundTightening) (p : Priced) → r.side ≡ Upper → undone_pair (kind.BoundTightening r) p ≡ undo_upper_bound_tightened r.row r.column r.bound (dense r.entries) p }
 {}
 
 /// K15: of two parallel rows of n columns the record has the entries of the one that was kept.
@@ -91,16 +91,16 @@ pub fn fixed_columns_are_undone()
 
 /// K12: an equation of two columns; the record has the other entries of the one that was deleted, in n rows.
 #[tactic(auto, using(crate::proofs::ColumnLaws::column_laws))]
-pub fn equations_are_undone()
-    ensures { (n : ℕ) (r : Doubleton) (p : Priced) → Ascends 0 n r.entries → r.column ≢ r.kept → undone_pair (kind.Doubleton r) p ≡ undo_doubleton_pair r.row r.column r.kept r.value r.kept_value r.equal r.lower r.upper r.cost n (dense r.entries) p }
+pub fn doubleton_equations_are_undone()
+    ensures { (n : ℕ) (r : DoubletonEquation) (p : Priced) → Ascends 0 n r.entries → r.column ≢ r.kept → undone_pair (kind.DoubletonEquation r) p ≡ undo_doubleton_equation_pair r.row r.column r.kept r.value r.kept_value r.equal r.lower r.upper r.cost n (dense r.entries) p }
 {}
 
 /// K13, K14: a column with one entry; the record has the other entries of its row, of n columns.
 #[tactic(auto, using(crate::proofs::ColumnLaws::column_laws))]
 pub fn column_singletons_are_undone()
-    ensures free { (n : ℕ) (r : FreeSingleton) (p : Priced) → Ascends 0 n r.entries → undone_pair (kind.FreeSingleton r) p ≡ undo_free_column_pair r.column r.row r.value r.at r.price n (dense r.entries) p }
-    ensures kept { (n : ℕ) (r : SlackSingleton) (p : Priced) → r.fate ≡ Kept → Ascends 0 n r.entries → undone_pair (kind.SlackSingleton r) p ≡ undo_slack_column_kept r.column r.row r.value r.price r.lower_side r.upper_side r.lower r.upper n (dense r.entries) p }
-    ensures dropped { (n : ℕ) (r : SlackSingleton) (p : Priced) → r.fate ≡ Dropped → Ascends 0 n r.entries → undone_pair (kind.SlackSingleton r) p ≡ undo_slack_column_dropped r.column r.row r.value r.price r.lower_side r.upper_side r.lower r.upper n (dense r.entries) p }
+    ensures free { (n : ℕ) (r : FreeColumnSingleton) (p : Priced) → Ascends 0 n r.entries → undone_pair (kind.FreeColumnSingleton r) p ≡ undo_free_column_singleton_pair r.column r.row r.value r.at r.price n (dense r.entries) p }
+    ensures kept { (n : ℕ) (r : SlackColumnSingleton) (p : Priced) → r.fate ≡ Kept → Ascends 0 n r.entries → undone_pair (kind.SlackColumnSingleton r) p ≡ undo_slack_column_singleton_kept r.column r.row r.value r.price r.lower_side r.upper_side r.lower r.upper n (dense r.entries) p }
+    ensures dropped { (n : ℕ) (r : SlackColumnSingleton) (p : Priced) → r.fate ≡ Dropped → Ascends 0 n r.entries → undone_pair (kind.SlackColumnSingleton r) p ≡ undo_slack_column_singleton_dropped r.column r.row r.value r.price r.lower_side r.upper_side r.lower r.upper n (dense r.entries) p }
 {}
 
 /// K16: two parallel columns.
@@ -111,11 +111,11 @@ pub fn parallel_columns_are_undone()
 
 /// K4, K6, K9, K10, K11, K17: nothing is to be undone.
 pub fn other_records_leave_pairs()
-    ensures bounds { (r : RoundBounds) (p : Priced) → undone_pair (kind.RoundBounds r) p ≡ p }
+    ensures bounds { (r : RoundedBounds) (p : Priced) → undone_pair (kind.RoundedBounds r) p ≡ p }
     ensures side { (r : RedundantSide) (p : Priced) → undone_pair (kind.RedundantSide r) p ≡ p }
-    ensures coefficient { (r : TightenCoefficient) (p : Priced) → undone_pair (kind.TightenCoefficient r) p ≡ p }
-    ensures dual { (r : DualFix) (p : Priced) → undone_pair (kind.DualFix r) p ≡ p }
-    ensures dominated { (r : Dominated) (p : Priced) → undone_pair (kind.Dominated r) p ≡ p }
+    ensures coefficient { (r : CoefficientTightening) (p : Priced) → undone_pair (kind.CoefficientTightening r) p ≡ p }
+    ensures dual { (r : DualFixing) (p : Priced) → undone_pair (kind.DualFixing r) p ≡ p }
+    ensures dominated { (r : DominatedColumn) (p : Priced) → undone_pair (kind.DominatedColumn r) p ≡ p }
     ensures empty { (r : EmptyColumn) (p : Priced) → undone_pair (kind.EmptyColumn r) p ≡ p }
 {}
 

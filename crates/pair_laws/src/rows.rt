@@ -12,12 +12,12 @@ ghost use Rattle.lp_rows.specs.SingletonRow.{IsSingletonRow, singleton_row_met};
 ghost use Rattle.lp_rows.specs.RedundantRow.{IsRedundantRow, redundant_row_deleted};
 ghost use Rattle.lp_rows.specs.RedundantSide.{IsRedundantLowerSide, IsRedundantUpperSide, lower_side_dropped, upper_side_dropped};
 ghost use Rattle.lp_rows.specs.ForcingRow.{IsForcedAtLowerSide, IsForcedAtUpperSide, forced_at_lower_side, forced_at_upper_side};
-ghost use Rattle.lp_rows.specs.TightenedBound.{IsTighterLowerBound, IsTighterUpperBound, lower_bound_tightened, upper_bound_tightened};
-ghost use Rattle.lp_rows.specs.TightenedCoefficient.{IsTightenedCoefficient, OneSide, Tightening, coefficient_tightened};
+ghost use Rattle.lp_rows.specs.BoundTightening.{IsLowerBoundTightening, IsUpperBoundTightening, lower_bound_tightened, upper_bound_tightened};
+ghost use Rattle.lp_rows.specs.CoefficientTightening.{IsCoefficientTightening, OneSide, Tightening, coefficient_tightened};
 ghost use Rattle.lp_rows.specs.ParallelRows.{AreParallelRows, parallel_rows_joined};
 ghost use Rattle.undo_records.specs.declared.side.Side.TheVariants.{Lower, Upper};
-ghost use Rattle.postsolve_dual.specs.LiftPair.{undone_pair};
-ghost use Rattle.pair_laws.specs.Records.{empty_row, singleton_row, redundant_row, redundant_side, forcing_row, tighten_lower_bound, tighten_upper_bound, tighten_coefficient, parallel_rows};
+ghost use Rattle.undo_pairs.specs.LiftPair.{undone_pair};
+ghost use Rattle.pair_laws.specs.Records.{empty_row, singleton_row, redundant_row, redundant_side, forcing_row, lower_bound_tightening, upper_bound_tightening, coefficient_tightening, parallel_rows};
 
 /// K1, K2, K5: rows that were deleted.
 pub fn deleted_rows_keep_pairs()
@@ -38,15 +38,15 @@ pub fn forcing_rows_keep_pairs()
     ensures upper { (M : LinearProgram) (i : ℕ) (ts : List Term) → IsForcedAtUpperSide M i → Ascends 0 M.columns ts → dense ts ≡ M.coefficient i → ReducesPairs Min M (forced_at_upper_side M i) (undone_pair (forcing_row i Upper ts)) }
 {}
 
-/// K8: tightened bounds; the list has the row's entries.
-pub fn tightened_bounds_keep_pairs()
-    ensures lower { (M : LinearProgram) (i j : ℕ) (ts : List Term) → IsTighterLowerBound M i j → dense ts ≡ M.coefficient i → ReducesPairs Min M (lower_bound_tightened M i j) (undone_pair (tighten_lower_bound M i j ts)) }
-    ensures upper { (M : LinearProgram) (i j : ℕ) (ts : List Term) → IsTighterUpperBound M i j → dense ts ≡ M.coefficient i → ReducesPairs Min M (upper_bound_tightened M i j) (undone_pair (tighten_upper_bound M i j ts)) }
+/// K8: bound tightening; the list has the row's entries.
+pub fn bound_tightenings_keep_pairs()
+    ensures lower { (M : LinearProgram) (i j : ℕ) (ts : List Term) → IsLowerBoundTightening M i j → dense ts ≡ M.coefficient i → ReducesPairs Min M (lower_bound_tightened M i j) (undone_pair (lower_bound_tightening M i j ts)) }
+    ensures upper { (M : LinearProgram) (i j : ℕ) (ts : List Term) → IsUpperBoundTightening M i j → dense ts ≡ M.coefficient i → ReducesPairs Min M (upper_bound_tightened M i j) (undone_pair (upper_bound_tightening M i j ts)) }
 {}
 
-/// K9: a tightened coefficient. Its column has to be whole, so that nothing meets the optimality conditions.
-pub fn tightened_coefficients_keep_pairs()
-    ensures { (M : LinearProgram) (i j : ℕ) (f : OneSide) (t : Tightening) → IsTightenedCoefficient M i j f t → ReducesPairs Min M (coefficient_tightened M i j f t) (undone_pair (tighten_coefficient i j)) }
+/// K9: coefficient tightening. Its column has to be whole, so that nothing meets the optimality conditions.
+pub fn coefficient_tightenings_keep_pairs()
+    ensures { (M : LinearProgram) (i j : ℕ) (f : OneSide) (t : Tightening) → IsCoefficientTightening M i j f t → ReducesPairs Min M (coefficient_tightened M i j f t) (undone_pair (coefficient_tightening i j)) }
 {}
 
 /// K15: parallel rows; the list has the entries of the row that was kept.

@@ -1,11 +1,18 @@
 -- What a run says at a status, of how it ended.
-use Rattle.std.proofs.Common.{◌≡◌, ℕ, List, ◌≤◌, ◌⊎◌, inl, inr, Option, Some, None, arith, subst}
+use Rattle.std.proofs.Common.{◌≡◌, ℕ, List, ◌≤◌, ◌⊎◌, inl, inr, Option, Some, None, refl, arith, subst}
 use Rattle.file_ports.specs.Ports.{Moment}
 use Rattle.command_words.specs.Names.{Request, Presolve, Check, Postsolve}
 use Rattle.endings.specs.Ending.{status_of}
 use Rattle.endings.specs.declared.ending.Ending.{Ending}
 use Rattle.endings.specs.declared.ending.Ending.TheVariants.{Done, Usage, Refused, ReadFault, WriteFault, NoMemory, NoRoom, RecordsRefused, SolutionRefused, Violated, Infeasible, UnboundedOrInfeasible}
-use Rattle.papilo.specs.Runs.{AreThere, Ends, IsUnwritten}
+use Rattle.papilo.specs.Runs.{AreThere, Ends, IsDoneInOrder, IsUnwritten}
+
+-- a presolve has one worker
+pub in_order : (asked : Option Request) → IsDoneInOrder asked
+in_order None = tt
+in_order (Some (Presolve names)) = inl refl
+in_order (Some (Check names)) = tt
+in_order (Some (Postsolve names)) = tt
 
 -- the same at an equal status
 pub ends_at : (asked : Option Request) (status other : ℕ) (printed : List ℕ) (before now : Moment) → status ≡ other → Ends asked status printed before now → Ends asked other printed before now

@@ -6,7 +6,7 @@ ghost use Rattle.command_app.specs.Line.{texts};
 ghost use Rattle.command_line.specs.Line.{asked};
 ghost use Rattle.endings.specs.Ending.{status_of, text_of};
 ghost use Rattle.endings.specs.Moments.{IsQuiet};
-ghost use Rattle.papilo.specs.Runs.{AreRefused, AreThere, Ends, IsUnwritten, KeepsUnasked, Prints};
+ghost use Rattle.papilo.specs.Runs.{AreRefused, AreThere, Ends, IsDoneInOrder, IsUnwritten, KeepsUnasked, Prints};
 
 use check_command::check;
 use command_words::{Refusal, Request};
@@ -46,6 +46,9 @@ pub fn run<R, F: Files, S: Sink, G: Gate>(
 ) -> u8
     ensures ends { (status : ℕ) × (printed : List ℕ) × Ends (asked (texts words.now)) status printed (F.moment files.old) (F.moment files.new)
         × Prints result status printed (S.taken out.old) (S.taken out.new) (S.faults out.old) (S.faults out.new) }
+
+    // How a presolve comes about.
+    ensures in_order { IsDoneInOrder (asked (texts words.now)) }
 
     // What that says of the status.
     ensures answers { result ≢ 4 → (printed : List ℕ) × Ends (asked (texts words.now)) result printed (F.moment files.old) (F.moment files.new)

@@ -3,7 +3,7 @@ use Rattle.std.proofs.Common.{◌≡◌, ◌⊎◌, inl, inr, suc, ◌<◌, Bool
 use Rattle.std.specs.Prelude.{ℕ, if◌then◌else◌}
 use Rattle.std.specs.List.{Contains, filter}
 use Rattle.undo_records.specs.declared.side.Side.{Side}
-use Rattle.activity_laws.specs.TightenedBound.{bounds_of}
+use Rattle.activity_laws.specs.BoundTightening.{bounds_of}
 use Rattle.presolve_model.specs.Tallies.{Open}
 use Rattle.place_laws.proofs.ShortLists.{each_mapped}
 use Rattle.problem_model.specs.Parts.{changes_of}

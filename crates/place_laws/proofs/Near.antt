@@ -19,8 +19,8 @@ use Rattle.problem_laws.proofs.Entries.{has-live_only, live_entries_name}
 use Rattle.rule_words.specs.Reading.{bounds_named, bounds_of, parts_on, sides_named, sides_of, terms_in}
 use Rattle.aggregation_laws.specs.DoubletonEquation.{are_at, heads as equation_heads}
 use Rattle.aggregation_laws.proofs.DoubletonEquation.{SaidOf}
-use Rattle.column_laws.specs.FreeColumn.{heads as free_heads}
-use Rattle.column_laws.specs.SlackColumn.{heads as slack_heads}
+use Rattle.column_laws.specs.FreeColumnSingleton.{heads as free_heads}
+use Rattle.column_laws.specs.SlackColumnSingleton.{heads as slack_heads}
 use Rattle.column_laws.proofs.SoleEntry.{IsSole}
 use Rattle.dual_laws.specs.DominatedColumn.{heads, more, rows_of_both}
 use Rattle.dual_laws.proofs.DominatedColumn.{SaidAt}

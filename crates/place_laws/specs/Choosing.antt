@@ -7,9 +7,9 @@ use Rattle.problem_model.specs.declared.part.Part.{Part}
 use Rattle.problem_model.specs.declared.part.Part.TheVariants as part
 use Rattle.problem_model.specs.Problems.{column_entries, row_entries}
 use Rattle.problem_model.specs.Sparse.{Sparse}
-use Rattle.parallel_column_laws.specs.ParallelColumns as parallel_columns
-use Rattle.parallel_row_laws.specs.ParallelRows as parallel_rows
-use Rattle.line_groups.specs.Ascending.{AscendsFrom}
+use Rattle.parallel_laws.specs.ParallelColumns as parallel_columns
+use Rattle.parallel_laws.specs.ParallelRows as parallel_rows
+use Rattle.sorted_ids.specs.Ascending.{AscendsFrom}
 use Rattle.presolve_model.specs.declared.instance.Instance.{Instance}
 use Rattle.presolve_model.specs.declared.instance.Reach.{Reach}
 use Rattle.presolve_model.specs.declared.instance.Reach.TheVariants.{OwnRow, OwnColumn, RowsOfBounds, ColumnsOfSides, RowsOfBoth, SoleColumns, RowsBeside, ColumnsBeside}

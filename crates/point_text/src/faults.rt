@@ -5,6 +5,7 @@ ghost use Rattle.point_text.specs.Faults.{number_of_kind};
 ghost use Rattle.point_text.specs.declared.faults.SolError.TheVariants.{NoMemory};
 
 use std::alloc::AllocError;
+use text_lines::Fault;
 
 /// What is wrong with a line of a solution, by ascending number: S1 to S5.
 #[derive(Clone, Copy, Debug, PartialEq, Eq)]
@@ -38,18 +39,11 @@ impl SolFaultKind {
     }
 }
 
-/// A fault with its line, from 1.
-#[derive(Clone, Copy, Debug, PartialEq, Eq)]
-pub struct SolFault {
-    pub kind: SolFaultKind,
-    pub line: u64,
-}
-
 /// Why a text gives no point.
 #[derive(Clone, Copy, Debug, PartialEq, Eq)]
 pub enum SolError {
     /// The first fault by line, and at one line the one with the lowest number.
-    Fault(SolFault),
+    Fault(Fault<SolFaultKind>),
     /// Want of memory.
     NoMemory,
 }

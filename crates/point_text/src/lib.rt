@@ -10,7 +10,7 @@ mod solution_lines;
 mod values;
 mod writing;
 
-pub use faults::{SolError, SolFault, SolFaultKind};
+pub use faults::{SolError, SolFaultKind};
 pub use laws::{values_are_given, written_pair_is_read, written_solution_is_read};
 pub use pair_reading::read_pair;
 pub use pair_writing::write_pair;

@@ -4,13 +4,13 @@ ghost use Rattle.std.specs.Prelude.{◌≡◌, ◌+◌, ◌<◌, ◌^◌, length
 ghost use Rattle.point_text.specs.Holding.{Holds};
 ghost use Rattle.point_text.specs.PairReading.{TookColumns, AreColumnsRead, AreDualsRead, IsPairRead};
 
-use crate::faults::{SolError, SolFault};
+use crate::faults::SolError;
 use crate::reading::take_lines;
 use crate::solution_lines::split_pair_line;
 use crate::values::Values;
 use lp_model::{Duals, Labels, Pair, Point};
 use std::alloc::Global;
-use text_lines::first_line;
+use text_lines::{Fault, first_line};
 
 /// What follows the line of the duals.
 #[derive(Drop)]
@@ -52,7 +52,7 @@ fn take_column_lines<'a>(
             }));
         };
         if let Err(kind) = values.take_line(said) {
-            return Err(SolError::Fault(SolFault {
+            return Err(SolError::Fault(Fault {
                 kind,
                 line: line_number,
             }));

@@ -5,12 +5,12 @@ ghost use Rattle.point_text.specs.Reading.{IsRead};
 ghost use Rattle.point_text.specs.Holding.{Holds, TookAll};
 ghost use Rattle.point_text.specs.PairText.{silent};
 
-use crate::faults::{SolError, SolFault};
+use crate::faults::SolError;
 use crate::solution_lines::split_line;
 use crate::values::Values;
 use lp_model::{Labels, Point};
 use std::alloc::Global;
-use text_lines::first_line;
+use text_lines::{Fault, first_line};
 
 /// Takes in the lines of a text that follows so many lines.
 pub fn take_lines(
@@ -34,7 +34,7 @@ pub fn take_lines(
         number += 1;
         let said = split_line(&mut fields, line)?;
         if let Err(kind) = values.take_line(said) {
-            return Err(SolError::Fault(SolFault { kind, line: number }));
+            return Err(SolError::Fault(Fault { kind, line: number }));
         }
         rest = after;
     }

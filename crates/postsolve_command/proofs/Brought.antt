@@ -5,17 +5,16 @@ use Rattle.rational.specs.Number.{Number}
 use Rattle.file_ports.specs.Ports.{Moment}
 use Rattle.command_words.specs.Names.{PostsolveNames}
 use Rattle.lp_model.specs.ProgramData.{ProgramData}
-use Rattle.mps_profile.specs.Reading.{first_fault}
 use Rattle.record_reader.specs.Reading as record_texts
 use Rattle.undo_records.specs.Postsolve.{Postsolve}
 use Rattle.endings.specs.Moments.{Finds, IsThere, Reads}
-use Rattle.endings.specs.ProgramTexts.{IsProgramOf}
+use Rattle.endings.specs.ProgramTexts.{IsFaultOf, IsProgramOf}
 use Rattle.endings.specs.SolutionTexts.{IsPairOf, SaysPairFault, fault_of}
 use Rattle.endings.specs.declared.reads.TheConstants.{SOLUTION_LIMIT}
 use Rattle.endings.proofs.Earlier.{finds_there, given_reads}
 use Rattle.postsolve_command.specs.RecordTexts.{AreRecordsOf, SaysRecordFault}
 use Rattle.postsolve_command.specs.Lifted.{GivesTexts}
-use Rattle.postsolve_command.specs.Given.{FaultsDuals, FaultsMatch, FaultsProgram, FaultsRecords, FaultsSolution, GivesPair, GivesProgram, GivesRecords, IfFound, reduced_dialect}
+use Rattle.postsolve_command.specs.Given.{FaultsDuals, FaultsMatch, FaultsProgram, FaultsRecords, FaultsSolution, GivesPair, GivesProgram, GivesRecords, IfFound, reduced_form}
 use Rattle.postsolve_command.specs.Postsolved.{AreFound, AreGiven, AreMatched, AreRead, AreRecordsIn, IsBrought, IsPairIn, IsProgramIn, RefusesProgram}
 use Rattle.postsolve_command.specs.declared.given.TheConstants.{PROGRAM_LIMIT, RECORDS_LIMIT}
 use Rattle.postsolve_command.specs.declared.given.Found.{Found}
@@ -30,8 +29,8 @@ found_reads limit name before now None P finds has = absurd has
 found_reads limit name before now (Some text) P finds has = given_reads limit (before.told name) text P finds.0 finds.1 has
 
 pub program_given : (names : PostsolveNames) (before now : Moment) (found : Option (List ℕ)) (program : ProgramData)
-    → Finds PROGRAM_LIMIT names.program before now found → IfFound found (λ text. IsProgramOf reduced_dialect text program) → IsProgramIn names before program
-program_given names before now found program finds has = found_reads PROGRAM_LIMIT names.program before now found (λ text. IsProgramOf reduced_dialect text program) finds has
+    → Finds PROGRAM_LIMIT names.program before now found → IfFound found (λ text. IsProgramOf reduced_form text program) → IsProgramIn names before program
+program_given names before now found program finds has = found_reads PROGRAM_LIMIT names.program before now found (λ text. IsProgramOf reduced_form text program) finds has
 
 pub records_given : (names : PostsolveNames) (before now : Moment) (found : Option (List ℕ)) (records : Postsolve)
     → Finds RECORDS_LIMIT names.records before now found → IfFound found (λ text. AreRecordsOf text records) → AreRecordsIn names before records
@@ -46,7 +45,7 @@ program_line : (names : PostsolveNames) (before now : Moment) (found : Option (L
 program_line names before now None said finds says = inr (finds, says)
 program_line names before now (Some text) said finds says =
     let fault = says.0 in
-    inl (fault, given_reads PROGRAM_LIMIT (before.told names.program) text (λ t. first_fault reduced_dialect t ≡ Some (fault.kind, fault.line)) finds.0 finds.1 says.1, says.2)
+    inl (fault, given_reads PROGRAM_LIMIT (before.told names.program) text (λ t. IsFaultOf reduced_form t fault) finds.0 finds.1 says.1, says.2)
 
 pub program_refused : (names : PostsolveNames) (before now : Moment) (found : Option (List ℕ)) (refusal : Refusal)
     → Finds PROGRAM_LIMIT names.program before now found

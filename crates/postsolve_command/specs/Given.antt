@@ -1,27 +1,26 @@
 -- What the bytes that reads found give, by text; none where they are more than is read.
 use Rattle.std.specs.Prelude.{◌≡◌, ℕ, true, false, List, [], ◌∷◌, ◌++◌, codes, Option, Some, None, Result, Ok, Err}
 use Rattle.rational.specs.Number.{Number}
-use Rattle.fractions.specs.declared.Numbers.TheVariants.{Fractions}
 use Rattle.lp_model.specs.ProgramData.{ProgramData}
 use Rattle.lp_model.specs.declared.point.Pair.{Pair}
-use Rattle.mps_profile.specs.Reading.{first_fault}
-use Rattle.mps_profile.specs.declared.dialect.Dialect.{Dialect}
-use Rattle.mps_profile.specs.declared.dialect.Format.TheVariants.{Free}
-use Rattle.mps_reader.specs.declared.faults.MpsFault.{MpsFault}
-use Rattle.point_text.specs.declared.faults.SolFault.{SolFault}
+use Rattle.text_lines.specs.declared.fault.Fault.{Fault}
+use Rattle.point_text.specs.declared.faults.SolFaultKind.{SolFaultKind}
 use Rattle.record_reader.specs.Reading as record_texts
-use Rattle.record_reader.specs.declared.faults.RecordFault.{RecordFault}
+use Rattle.record_reader.specs.declared.faults.RecordFaultKind.{RecordFaultKind}
 use Rattle.record_reader.specs.Matching.{Matches}
 use Rattle.undo_records.specs.Postsolve.{Postsolve}
-use Rattle.endings.specs.ProgramTexts.{IsProgramOf, fault_text}
+use Rattle.endings.specs.declared.forms.Form.{Form}
+use Rattle.endings.specs.declared.forms.ProgramFault.{ProgramFault}
+use Rattle.endings.specs.Forms.{fractions_form}
+use Rattle.endings.specs.ProgramTexts.{IsFaultOf, IsProgramOf, fault_text}
 use Rattle.endings.specs.SolutionTexts.{IsPairOf, fault_of, solution_fault_text}
 use Rattle.postsolve_command.specs.RecordTexts.{AreRecordsOf, record_fault_text}
 use Rattle.postsolve_command.specs.declared.refusal.Refusal.{Refusal}
 use Rattle.postsolve_command.specs.declared.refusal.Refusal.TheVariants.{Program, Records, Solution, NoMemory}
 
 -- how OUT is read: in the free format, with fractions
-abbrev pub reduced_dialect : Dialect
-reduced_dialect = record { format = Free; numbers = Fractions }
+abbrev pub reduced_form : Form
+reduced_form = fractions_form false
 
 -- bytes were found, and have this property
 abbrev pub IfFound : Option (List ℕ) → (List ℕ → Type 0) → Type 0
@@ -30,18 +29,18 @@ IfFound (Some text) P = P text
 
 abbrev pub FaultsProgram : Option (List ℕ) → List ℕ → Type 0
 FaultsProgram None said = said ≡ codes "error M17" ++ 10 ∷ []
-FaultsProgram (Some text) said = (fault : MpsFault) × (first_fault reduced_dialect text ≡ Some (fault.kind, fault.line)) × (said ≡ fault_text fault)
+FaultsProgram (Some text) said = (fault : ProgramFault) × IsFaultOf reduced_form text fault × (said ≡ fault_text fault)
 
 -- the program, or the line that refuses it
 abbrev pub GivesProgram : Option (List ℕ) → Result ProgramData Refusal → Type 0
-GivesProgram found (Ok program) = IfFound found (λ text. IsProgramOf reduced_dialect text program)
+GivesProgram found (Ok program) = IfFound found (λ text. IsProgramOf reduced_form text program)
 GivesProgram found (Err (Program line)) = FaultsProgram found line.items
 GivesProgram found (Err NoMemory) = Unit {0}
 GivesProgram found (Err other) = ⊥
 
 abbrev pub FaultsRecords : Option (List ℕ) → List ℕ → Type 0
 FaultsRecords None said = said ≡ codes "error F8" ++ 10 ∷ []
-FaultsRecords (Some text) said = (fault : RecordFault) × (record_texts.first_fault text ≡ Some (fault.kind, fault.line)) × (said ≡ record_fault_text fault)
+FaultsRecords (Some text) said = (fault : Fault RecordFaultKind) × (record_texts.first_fault text ≡ Some (fault.kind, fault.line)) × (said ≡ record_fault_text fault)
 
 -- the records, or the line that refuses them
 abbrev pub GivesRecords : Option (List ℕ) → Result Postsolve Refusal → Type 0
@@ -64,7 +63,7 @@ Fitting records program (Err refusal) = FaultsMatch records program refusal
 abbrev pub FaultsSolution : ProgramData → Option (List ℕ) → List ℕ → Type 0
 FaultsSolution program None said = said ≡ codes "error S6" ++ 10 ∷ []
 FaultsSolution program (Some text) said =
-    (fault : SolFault) × (fault_of program text ≡ Some (fault.kind, fault.line)) × (said ≡ solution_fault_text fault)
+    (fault : Fault SolFaultKind) × (fault_of program text ≡ Some (fault.kind, fault.line)) × (said ≡ solution_fault_text fault)
 
 -- the point and the duals, or the line that refuses the solution
 abbrev pub GivesPair : ProgramData → Option (List ℕ) → Result Pair Refusal → Type 0

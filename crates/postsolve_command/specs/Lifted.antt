@@ -8,14 +8,14 @@ use Rattle.lp_model.specs.Meaning.{meaning}
 use Rattle.lp_model.specs.Reductions.{Priced}
 use Rattle.lp_model.specs.Vectors.{Vector, vector_of}
 use Rattle.lp_model.specs.declared.point.Pair.{Pair}
-use Rattle.lp_check.specs.DecidingPairs.{ReducedCostsFit}
+use Rattle.lp_prices.specs.Prices.{ReducedCostsFit}
 use Rattle.point_text.specs.PairText.{pair_text}
-use Rattle.record_reader.specs.Matching.{live_names}
+use Rattle.undo_records.specs.Named.{live_names}
 use Rattle.undo_records.specs.Lift.{lift, placed}
 use Rattle.undo_records.specs.Postsolve.{Postsolve}
 use Rattle.undo_records.specs.Room.{LiftFits, StopsAt}
-use Rattle.postsolve_dual.specs.LiftPair.{lift_pair}
-use Rattle.postsolve_dual.specs.Numbers.{IsSized, PairNumbers, priced_of, started, turned_for}
+use Rattle.undo_pairs.specs.LiftPair.{lift_pair}
+use Rattle.undo_pairs.specs.Numbers.{IsSized, PairNumbers, priced_of, started, turned_for}
 use Rattle.postsolve_dual.specs.PairRoom.{IsFirstPast, LiftPairFits, PairStopsAt}
 use Rattle.endings.specs.ProgramTexts.{column_text}
 use Rattle.postsolve_command.specs.declared.refusal.Refusal.{Refusal}

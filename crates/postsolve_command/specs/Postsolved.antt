@@ -13,7 +13,7 @@ use Rattle.endings.specs.SolutionTexts.{IsPairOf, SaysPairFault}
 use Rattle.endings.specs.declared.reads.TheConstants.{SOLUTION_LIMIT}
 use Rattle.postsolve_command.specs.RecordTexts.{AreRecordsOf, SaysRecordFault}
 use Rattle.postsolve_command.specs.Lifted.{AreTexts, Stops}
-use Rattle.postsolve_command.specs.Given.{LeavesThem, UndoesThem, reduced_dialect}
+use Rattle.postsolve_command.specs.Given.{LeavesThem, UndoesThem, reduced_form}
 use Rattle.postsolve_command.specs.declared.given.TheConstants.{PROGRAM_LIMIT, RECORDS_LIMIT}
 use Rattle.postsolve_command.specs.declared.given.Found.{Found}
 use Rattle.postsolve_command.specs.declared.lifted.Texts.{Texts}
@@ -28,7 +28,7 @@ pub record AreFound (names : PostsolveNames) (found : Found) (before now : Momen
 
 -- OUT has no fault, and this is its program
 abbrev pub IsProgramIn : PostsolveNames → Moment → ProgramData → Type 0
-IsProgramIn names before program = Reads PROGRAM_LIMIT (before.told names.program) (λ text. IsProgramOf reduced_dialect text program)
+IsProgramIn names before program = Reads PROGRAM_LIMIT (before.told names.program) (λ text. IsProgramOf reduced_form text program)
 
 -- REC has no fault, and these are its records
 abbrev pub AreRecordsIn : PostsolveNames → Moment → Postsolve → Type 0
@@ -75,7 +75,7 @@ pub record IsStopped (names : PostsolveNames) (said : List ℕ) (before : Moment
 
 -- this is said of OUT's text
 abbrev pub RefusesProgram : PostsolveNames → List ℕ → Moment → Moment → Type 0
-RefusesProgram names said before now = SaysFaultOf PROGRAM_LIMIT reduced_dialect names.program said before now
+RefusesProgram names said before now = SaysFaultOf PROGRAM_LIMIT reduced_form names.program said before now
 
 -- OUT has no fault, and this is said of REC's text: its fault, or that the records are not those of the program
 abbrev pub RefusesTexts : PostsolveNames → List ℕ → Moment → Moment → Type 0

@@ -5,7 +5,8 @@ use Rattle.file_ports.specs.Ports.{Moment}
 use Rattle.endings.specs.Moments.{IsOverlong, Reads}
 use Rattle.record_reader.specs.Faults.{number_of_kind}
 use Rattle.record_reader.specs.Reading.{first_fault, records_of}
-use Rattle.record_reader.specs.declared.faults.RecordFault.{RecordFault}
+use Rattle.text_lines.specs.declared.fault.Fault.{Fault}
+use Rattle.record_reader.specs.declared.faults.RecordFaultKind.{RecordFaultKind}
 use Rattle.undo_records.specs.Postsolve.{Postsolve}
 use Rattle.postsolve_command.specs.declared.given.TheConstants.{RECORDS_LIMIT}
 
@@ -14,11 +15,11 @@ abbrev pub AreRecordsOf : List ℕ → Postsolve → Type 0
 AreRecordsOf text records = (first_fault text ≡ None) × (records ≡ records_of text)
 
 -- the line that names a fault of a text of records
-abbrev pub record_fault_text : RecordFault → List ℕ
+abbrev pub record_fault_text : Fault RecordFaultKind → List ℕ
 record_fault_text fault = codes "error F" ++ (decimal (number_of_kind fault.kind) ++ (codes " line " ++ (decimal fault.line ++ 10 ∷ [])))
 
 -- what is said of the text of records by this name: its first fault; or that it is longer than is read
 abbrev pub SaysRecordFault : List ℕ → List ℕ → Moment → Moment → Type 0
 SaysRecordFault name said before now =
-    ((fault : RecordFault) × Reads RECORDS_LIMIT (before.told name) (λ text. first_fault text ≡ Some (fault.kind, fault.line)) × (said ≡ record_fault_text fault))
+    ((fault : Fault RecordFaultKind) × Reads RECORDS_LIMIT (before.told name) (λ text. first_fault text ≡ Some (fault.kind, fault.line)) × (said ≡ record_fault_text fault))
     ⊎ (IsOverlong RECORDS_LIMIT name before now × (said ≡ codes "error F8" ++ 10 ∷ []))

@@ -6,13 +6,12 @@ ghost use Rattle.postsolve_command.specs.Given.{Fitting, GivesPair, GivesProgram
 ghost use Rattle.postsolve_command.specs.RecordTexts.{record_fault_text};
 
 use crate::refusal::Refusal;
-use endings::{fault_line, solution_fault_line};
-use fractions::Numbers;
+use endings::{ProgramError, fault_line, fractions_form, read_program, solution_fault_line};
 use lp_model::{Pair, Program};
-use mps_reader::{Dialect, Format, MpsError, read_mps};
 use point_text::{SolError, read_pair};
-use record_reader::{RecordError, RecordFault, matches, read_records};
+use record_reader::{RecordError, RecordFaultKind, matches, read_records};
 use std::alloc::{AllocError, Global};
+use text_lines::Fault;
 use undo_records::Records;
 
 /// The longest reduced program that is read, in bytes.
@@ -38,19 +37,15 @@ pub fn program_of(alloc: Global, found: Option<Vec<u8>>) -> Result<Program, Refu
     let Some(text) = found else {
         return Err(Refusal::Program(Vec::from_slice(alloc, b"error M17\n")?));
     };
-    let dialect = Dialect {
-        format: Format::Free,
-        numbers: Numbers::Fractions,
-    };
-    match read_mps(alloc, &text, dialect) {
+    match read_program(alloc, &text, fractions_form(false)) {
         Ok(program) => Ok(program),
-        Err(MpsError::Fault(fault)) => Err(Refusal::Program(fault_line(alloc, fault)?)),
-        Err(MpsError::NoMemory) => Err(Refusal::NoMemory),
+        Err(ProgramError::Fault(fault)) => Err(Refusal::Program(fault_line(alloc, fault)?)),
+        Err(ProgramError::NoMemory) => Err(Refusal::NoMemory),
     }
 }
 
 /// The line that names a fault of a text of records.
-fn record_fault_line(alloc: Global, fault: RecordFault) -> Result<Vec<u8>, AllocError>
+fn record_fault_line(alloc: Global, fault: Fault<RecordFaultKind>) -> Result<Vec<u8>, AllocError>
     ensures { IfOk result (λ text. text.items ≡ record_fault_text fault) }
 {
     let number = fault.kind.number();

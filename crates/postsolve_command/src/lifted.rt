@@ -4,8 +4,8 @@ ghost use Rattle.std.specs.Prelude.{◌≡◌, ◌<◌, Some, None, length, All,
 ghost use Rattle.rational.specs.Lowest.{Fits};
 ghost use Rattle.lp_model.specs.Writable.{EntriesAscend};
 ghost use Rattle.point_text.specs.PairText.{pair_text};
-ghost use Rattle.postsolve_dual.specs.LiftPair.{lift_pair as lift_pair_of};
-ghost use Rattle.postsolve_dual.specs.Numbers.{IsSized, priced_of};
+ghost use Rattle.undo_pairs.specs.LiftPair.{lift_pair as lift_pair_of};
+ghost use Rattle.undo_pairs.specs.Numbers.{IsSized, priced_of};
 ghost use Rattle.record_reader.specs.Matching.{Matches};
 ghost use Rattle.postsolve_command.specs.Lifted.{GivesTexts, Lifts, Starts, column_names, columns_text, counts_text, row_names, rows_text, stop_text, unpriced_text};
 

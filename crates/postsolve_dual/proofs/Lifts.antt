@@ -3,7 +3,7 @@ use Rattle.std.proofs.Common.{◌≡◌, ℕ, zero, suc, pred, ◌<◌, List, []
 use Rattle.std.proofs.Math.Seq.{drop-cons}
 use Rattle.lp_model.specs.Reductions.{Priced}
 use Rattle.undo_records.specs.declared.undo.Undo.{Undo}
-use Rattle.postsolve_dual.specs.LiftPair.{undone_pair, lift_pair}
+use Rattle.undo_pairs.specs.LiftPair.{undone_pair, lift_pair}
 use Rattle.postsolve_dual.specs.PairRoom.{PairFits, LiftPairFits, PairStopsAt}
 
 -- record n, and those after it

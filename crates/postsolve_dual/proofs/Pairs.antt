@@ -10,8 +10,8 @@ use Rattle.lp_model.specs.Turning.{turned}
 use Rattle.lp_model.specs.declared.program.Sense.{Sense}
 use Rattle.lp_model.specs.declared.program.Sense.TheVariants.{Max}
 use Rattle.lp_rows.specs.ForcingRow.{set_for_row}
-use Rattle.lp_rows.specs.TightenedBound.{handed_to_row}
-use Rattle.postsolve_dual.specs.Numbers.{PairNumbers, priced_of, turned_for}
+use Rattle.lp_rows.specs.BoundTightening.{handed_to_row}
+use Rattle.undo_pairs.specs.Numbers.{PairNumbers, priced_of, turned_for}
 
 -- t times the row is taken, and then row i has the dual t
 pub forced_is : (old mid new : PairNumbers) (i : ℕ) (ts : List Term) (t u : Number) → t ≡ u → mid.point ≡ old.point → mid.duals ≡ old.duals

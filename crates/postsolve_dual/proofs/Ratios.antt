@@ -7,7 +7,7 @@ use Rattle.lp_model.specs.declared.terms.Term.{Term}
 use Rattle.lp_model.specs.Vectors.{Vector}
 use Rattle.lp_model.specs.Sparse.{Ascends}
 use Rattle.undo_records.specs.declared.side.Side.{Side}
-use Rattle.postsolve_dual.specs.LiftPair.{further, furthest}
+use Rattle.undo_pairs.specs.LiftPair.{further, furthest}
 use Rattle.postsolve_dual.specs.PairRoom.{RatiosFit}
 
 -- best is the furthest of 0 and the ratios of the terms before the rest

@@ -5,8 +5,8 @@ use Rattle.rational.specs.Number.{Number}
 use Rattle.lp_model.specs.Vectors.{Vector}
 use Rattle.lp_model.specs.LinearProgram.{LinearProgram}
 use Rattle.lp_model.specs.Optimality.{reduced_cost}
-use Rattle.lp_check.specs.DecidingPairs.{ReducedCostFits}
-use Rattle.postsolve_dual.specs.Numbers.{reduced_costs_of}
+use Rattle.lp_prices.specs.Prices.{ReducedCostFits}
+use Rattle.undo_pairs.specs.Numbers.{reduced_costs_of}
 
 pub costs_more : (M : LinearProgram) (y : Vector) (n : ℕ) (xs ys : List Number) (q : Number) → xs ≡ reduced_costs_of M y n → q ≡ reduced_cost M y n → ys ≡ xs ++ q ∷ [] → ys ≡ reduced_costs_of M y (n + 1)
 costs_more M y n xs ys q ex eq ey = ey ∙ ap₂ (λ (zs : List Number) (c : Number). zs ++ c ∷ []) ex eq ∙ ap (reduced_costs_of M y) (sym (add-one n))

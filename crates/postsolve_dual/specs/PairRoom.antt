@@ -10,14 +10,14 @@ use Rattle.lp_model.specs.Sparse.{dense, sparse_total}
 use Rattle.lp_model.specs.LinearProgram.{LinearProgram}
 use Rattle.lp_model.specs.Reductions.{Priced}
 use Rattle.lp_theory.specs.MetEnds.{is_from_row}
-use Rattle.lp_check.specs.DecidingPairs.{ReducedCostFits}
+use Rattle.lp_prices.specs.Prices.{ReducedCostFits}
 use Rattle.undo_records.specs.declared.side.RowFate.{RowFate}
 use Rattle.undo_records.specs.declared.side.RowFate.TheVariants.{Kept, Dropped}
 use Rattle.undo_records.specs.declared.undo.Undo.{Undo}
-use Rattle.undo_records.specs.declared.undo.Undo.TheVariants.{SingletonRow, FixedColumn, ForcingRow, TightenBound, Doubleton, SlackSingleton, ParallelRows, ParallelColumns}
+use Rattle.undo_records.specs.declared.undo.Undo.TheVariants.{SingletonRow, FixedColumn, ForcingRow, BoundTightening, DoubletonEquation, SlackColumnSingleton, ParallelRows, ParallelColumns}
 use Rattle.undo_records.specs.Fitting.{TermsFit, LessProductFits}
 use Rattle.undo_records.specs.Room.{UndoFits}
-use Rattle.postsolve_dual.specs.LiftPair.{cost_left, furthest, is_off_bound, joint_cost, equation_dual, point_undone, lift_pair}
+use Rattle.undo_pairs.specs.LiftPair.{cost_left, furthest, is_off_bound, joint_cost, equation_dual, point_undone, lift_pair}
 
 -- the reduced cost of column j is the first without room
 pub record IsFirstPast (M : LinearProgram) (y : Vector) (j : ℕ) : Type 0 where
@@ -66,9 +66,9 @@ abbrev pub DualsFit : Undo → Priced → Type 0
 DualsFit (SingletonRow r) p = IsTrue (is_from_row r.lower r.upper (p.x r.column) (p.z r.column)) → Fits (p.z r.column /ℚ r.value)
 DualsFit (FixedColumn r) p = CostLeftFits r.cost r.entries p.y
 DualsFit (ForcingRow r) p = RatiosFit r.entries p.z × TakenFits r.entries (furthest r.side zero_ℚ r.entries p.z) p.z
-DualsFit (TightenBound r) p = IsTrue (is_off_bound r.side r.bound (p.x r.column) (p.z r.column)) → HandedFits r.column r.entries (p.y r.row) p.z
-DualsFit (Doubleton r) p = CostLeftFits r.cost r.entries p.y × EquationFits r.value r.kept_value r.lower r.upper (p.x r.kept) (p.z r.kept) (cost_left r.cost r.entries p.y)
-DualsFit (SlackSingleton r) p = SlackPriceFits r.fate r.value r.price (p.y r.row)
+DualsFit (BoundTightening r) p = IsTrue (is_off_bound r.side r.bound (p.x r.column) (p.z r.column)) → HandedFits r.column r.entries (p.y r.row) p.z
+DualsFit (DoubletonEquation r) p = CostLeftFits r.cost r.entries p.y × EquationFits r.value r.kept_value r.lower r.upper (p.x r.kept) (p.z r.kept) (cost_left r.cost r.entries p.y)
+DualsFit (SlackColumnSingleton r) p = SlackPriceFits r.fate r.value r.price (p.y r.row)
 DualsFit (ParallelRows r) p = MultipleFits r.factor r.lower r.upper r.entries p.x (p.y r.kept)
 DualsFit (ParallelColumns r) p = Fits (r.factor *ℚ p.z r.kept)
 DualsFit other p = ⊤

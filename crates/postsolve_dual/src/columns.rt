@@ -3,15 +3,15 @@
 ghost use Rattle.std.specs.Prelude.{◌≡◌, ℕ, ◌<◌, length, IsOk, OnOk, ◌↔◌};
 ghost use Rattle.undo_records.specs.Sound.{IsSound};
 ghost use Rattle.undo_records.specs.declared.undo.Undo.TheVariants as kind;
-ghost use Rattle.postsolve_dual.specs.Numbers.{IsSized, priced_of};
-ghost use Rattle.postsolve_dual.specs.LiftPair.{duals_undone, with_price};
+ghost use Rattle.undo_pairs.specs.Numbers.{IsSized, priced_of};
+ghost use Rattle.undo_pairs.specs.LiftPair.{duals_undone, with_price};
 ghost use Rattle.postsolve_dual.specs.PairRoom.{DualsFit};
 
 use crate::pair::PairBuf;
 use crate::terms::cost_left;
 use fractions::Past;
 use fractions::frac::Frac;
-use undo_records::{FixedColumn, ParallelColumns, RowFate, SlackSingleton};
+use undo_records::{FixedColumn, ParallelColumns, RowFate, SlackColumnSingleton};
 
 /// K3: the column has what the duals leave of its cost.
 ///
@@ -45,12 +45,15 @@ pub fn undo_priced_column(pair: &mut PairBuf, column: u32, row: u32, price: Frac
 ///
 /// # Errors
 /// [`Past`] exactly where the row was kept, and the product or the sum is.
-pub fn undo_slack_singleton(undo: &SlackSingleton, pair: &mut PairBuf) -> Result<(), Past>
-    requires sound { IsSound (length pair.old.duals) (length pair.old.point) (kind.SlackSingleton undo.now) }
+pub fn undo_slack_column_singleton(
+    undo: &SlackColumnSingleton,
+    pair: &mut PairBuf,
+) -> Result<(), Past>
+    requires sound { IsSound (length pair.old.duals) (length pair.old.point) (kind.SlackColumnSingleton undo.now) }
     requires costs { length pair.old.reduced_costs ≡ length pair.old.point }
     ensures sized { (m n : ℕ) → IsSized m n pair.old → IsSized m n pair.new }
-    ensures lifted { OnOk result (priced_of pair.new ≡ duals_undone (kind.SlackSingleton undo.now) (priced_of pair.old)) }
-    ensures fits { IsOk result ↔ DualsFit (kind.SlackSingleton undo.now) (priced_of pair.old) }
+    ensures lifted { OnOk result (priced_of pair.new ≡ duals_undone (kind.SlackColumnSingleton undo.now) (priced_of pair.old)) }
+    ensures fits { IsOk result ↔ DualsFit (kind.SlackColumnSingleton undo.now) (priced_of pair.old) }
 {
     match undo.fate {
         RowFate::Kept => {

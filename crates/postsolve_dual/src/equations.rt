@@ -7,8 +7,8 @@ ghost use Rattle.lp_model.specs.Vectors.{vector_of};
 ghost use Rattle.undo_records.specs.Fitting.{LessProductFits};
 ghost use Rattle.undo_records.specs.Sound.{IsSound};
 ghost use Rattle.undo_records.specs.declared.undo.Undo.TheVariants as kind;
-ghost use Rattle.postsolve_dual.specs.Numbers.{IsSized, priced_of};
-ghost use Rattle.postsolve_dual.specs.LiftPair.{duals_undone, equation_dual as equation_dual_of, joint_cost as joint_cost_of, undo_equation as equation_of, with_equation};
+ghost use Rattle.undo_pairs.specs.Numbers.{IsSized, priced_of};
+ghost use Rattle.undo_pairs.specs.LiftPair.{duals_undone, equation_dual as equation_dual_of, joint_cost as joint_cost_of, undo_equation as equation_of, with_equation};
 ghost use Rattle.postsolve_dual.specs.PairRoom.{DualsFit, EquationFits, JointFits};
 
 use crate::numbers::is_from_row;
@@ -17,13 +17,13 @@ use crate::terms::cost_left;
 use fractions::Past;
 use fractions::frac::Frac;
 use postsolve_primal::{Range, less_product};
-use undo_records::Doubleton;
+use undo_records::DoubletonEquation;
 
 /// What is left of the kept column's reduced cost where the row has the dual 0.
 ///
 /// # Errors
 /// [`Past`] exactly where the quotient, the product or the sum is.
-fn joint_cost(equation: &Doubleton, left: &Frac, reduced_cost: &Frac) -> Result<Frac, Past>
+fn joint_cost(equation: &DoubletonEquation, left: &Frac, reduced_cost: &Frac) -> Result<Frac, Past>
     requires { equation.now.value ≢ zero_ℚ }
     ensures value { IfOk result (λ r. r ≡ joint_cost_of equation.now.value equation.now.kept_value left.now reduced_cost.now) }
     ensures fits { IsOk result ↔ JointFits equation.now.value equation.now.kept_value left.now reduced_cost.now }
@@ -39,7 +39,7 @@ fn joint_cost(equation: &Doubleton, left: &Frac, reduced_cost: &Frac) -> Result<
 /// # Errors
 /// [`Past`] exactly where the quotient is.
 fn equation_dual(
-    equation: &Doubleton,
+    equation: &DoubletonEquation,
     value: &Frac,
     reduced_cost: &Frac,
     left: &Frac,
@@ -65,7 +65,7 @@ fn equation_dual(
 /// [`Past`] exactly where a product or a difference is.
 fn set_equation(
     pair: &mut PairBuf,
-    equation: &Doubleton,
+    equation: &DoubletonEquation,
     left: &Frac,
     joint: &Frac,
     dual: Frac,
@@ -90,7 +90,7 @@ fn set_equation(
 ///
 /// # Errors
 /// [`Past`] exactly where a number on the way is.
-fn undo_equation(pair: &mut PairBuf, equation: &Doubleton, left: &Frac) -> Result<(), Past>
+fn undo_equation(pair: &mut PairBuf, equation: &DoubletonEquation, left: &Frac) -> Result<(), Past>
     requires row { equation.now.row < length pair.old.duals }
     requires column { equation.now.column < length pair.old.point }
     requires kept { equation.now.kept < length pair.old.point }
@@ -117,12 +117,12 @@ fn undo_equation(pair: &mut PairBuf, equation: &Doubleton, left: &Frac) -> Resul
 ///
 /// # Errors
 /// [`Past`] exactly where a number on the way is.
-pub fn undo_doubleton(undo: &Doubleton, pair: &mut PairBuf) -> Result<(), Past>
-    requires sound { IsSound (length pair.old.duals) (length pair.old.point) (kind.Doubleton undo.now) }
+pub fn undo_doubleton_equation(undo: &DoubletonEquation, pair: &mut PairBuf) -> Result<(), Past>
+    requires sound { IsSound (length pair.old.duals) (length pair.old.point) (kind.DoubletonEquation undo.now) }
     requires costs { length pair.old.reduced_costs ≡ length pair.old.point }
     ensures sized { (m n : ℕ) → IsSized m n pair.old → IsSized m n pair.new }
-    ensures lifted { OnOk result (priced_of pair.new ≡ duals_undone (kind.Doubleton undo.now) (priced_of pair.old)) }
-    ensures fits { IsOk result ↔ DualsFit (kind.Doubleton undo.now) (priced_of pair.old) }
+    ensures lifted { OnOk result (priced_of pair.new ≡ duals_undone (kind.DoubletonEquation undo.now) (priced_of pair.old)) }
+    ensures fits { IsOk result ↔ DualsFit (kind.DoubletonEquation undo.now) (priced_of pair.old) }
 {
     let left = cost_left(&undo.cost.get(), undo.entries.as_slice(), pair.duals())?;
     undo_equation(pair, undo, &left)

@@ -2,8 +2,8 @@
 
 ghost use Rattle.std.specs.Prelude.{◌≡◌, ℕ, length, All, IfErr, IsOk, OnOk, ◌↔◌};
 ghost use Rattle.undo_records.specs.Sound.{IsSound};
-ghost use Rattle.postsolve_dual.specs.Numbers.{IsSized, priced_of};
-ghost use Rattle.postsolve_dual.specs.LiftPair.{lift_pair as lift_pair_of};
+ghost use Rattle.undo_pairs.specs.Numbers.{IsSized, priced_of};
+ghost use Rattle.undo_pairs.specs.LiftPair.{lift_pair as lift_pair_of};
 ghost use Rattle.postsolve_dual.specs.PairRoom.{LiftPairFits, PairStopsAt};
 
 use crate::pair::PairBuf;

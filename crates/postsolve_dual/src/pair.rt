@@ -30,7 +30,7 @@ pub struct PairBuf {
 impl Model for PairBuf {
     ghost use Rattle.std.specs.Coded.{codes};
     ghost use Rattle.rational.specs.Lowest.{number_code};
-    ghost use Rattle.postsolve_dual.specs.Numbers.{PairNumbers};
+    ghost use Rattle.undo_pairs.specs.Numbers.{PairNumbers};
 
     ghost Value = { PairNumbers };
 

@@ -7,12 +7,12 @@ ghost use Rattle.lp_model.specs.Sparse.{Ascends, dense, has, sparse_total};
 ghost use Rattle.lp_theory.specs.MetEnds.{is_from_row as is_from_row_of};
 ghost use Rattle.lp_rows.specs.EmptyRow.{undo_empty_row as empty_row_of};
 ghost use Rattle.lp_rows.specs.ForcingRow.{set_for_row};
-ghost use Rattle.lp_rows.specs.TightenedBound.{handed_to_row};
+ghost use Rattle.lp_rows.specs.BoundTightening.{handed_to_row};
 ghost use Rattle.undo_records.specs.Fitting.{TermsFit};
 ghost use Rattle.undo_records.specs.Sound.{IsSound};
 ghost use Rattle.undo_records.specs.declared.undo.Undo.TheVariants as kind;
-ghost use Rattle.postsolve_dual.specs.Numbers.{IsSized, priced_of};
-ghost use Rattle.postsolve_dual.specs.LiftPair.{duals_undone, furthest};
+ghost use Rattle.undo_pairs.specs.Numbers.{IsSized, priced_of};
+ghost use Rattle.undo_pairs.specs.LiftPair.{duals_undone, furthest};
 ghost use Rattle.postsolve_dual.specs.PairRoom.{DualsFit, HandedFits, RatiosFit, TakenFits};
 
 use crate::numbers::{is_from_row, is_off_bound};
@@ -22,7 +22,7 @@ use fractions::Past;
 use fractions::frac::Frac;
 use lp_model::{Term, number_at};
 use postsolve_primal::{Range, sum_of_terms};
-use undo_records::{ParallelRows, Side, SingletonRow, TightenBound};
+use undo_records::{BoundTightening, ParallelRows, Side, SingletonRow};
 
 /// K1, K5: a row that asks nothing has the dual 0.
 pub fn undo_empty_row(pair: &mut PairBuf, row: u32)
@@ -104,12 +104,12 @@ fn hand_to_row(pair: &mut PairBuf, row: u32, column: u32, entries: &[Term]) -> R
 ///
 /// # Errors
 /// [`Past`] exactly where the row takes it over, and a number on the way is.
-pub fn undo_tightened_bound(undo: &TightenBound, pair: &mut PairBuf) -> Result<(), Past>
-    requires sound { IsSound (length pair.old.duals) (length pair.old.point) (kind.TightenBound undo.now) }
+pub fn undo_bound_tightening(undo: &BoundTightening, pair: &mut PairBuf) -> Result<(), Past>
+    requires sound { IsSound (length pair.old.duals) (length pair.old.point) (kind.BoundTightening undo.now) }
     requires costs { length pair.old.reduced_costs ≡ length pair.old.point }
     ensures sized { (m n : ℕ) → IsSized m n pair.old → IsSized m n pair.new }
-    ensures lifted { OnOk result (priced_of pair.new ≡ duals_undone (kind.TightenBound undo.now) (priced_of pair.old)) }
-    ensures fits { IsOk result ↔ DualsFit (kind.TightenBound undo.now) (priced_of pair.old) }
+    ensures lifted { OnOk result (priced_of pair.new ≡ duals_undone (kind.BoundTightening undo.now) (priced_of pair.old)) }
+    ensures fits { IsOk result ↔ DualsFit (kind.BoundTightening undo.now) (priced_of pair.old) }
 {
     let multiplier = pair.reduced_cost(undo.column);
     let value = pair.value(undo.column);

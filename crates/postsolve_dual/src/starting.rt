@@ -4,15 +4,15 @@ ghost use Rattle.std.specs.Prelude.{◌≡◌, length, IfOk, IfErr, IsOk, ◌↔
 ghost use Rattle.lp_model.specs.Vectors.{vector_of};
 ghost use Rattle.lp_model.specs.Writable.{EntriesAscend};
 ghost use Rattle.lp_model.specs.Meaning.{meaning};
-ghost use Rattle.lp_check.specs.DecidingPairs.{ReducedCostsFit};
-ghost use Rattle.postsolve_dual.specs.Numbers.{IsSized, priced_of, reduced_costs_of, started};
+ghost use Rattle.lp_prices.specs.Prices.{ReducedCostsFit};
+ghost use Rattle.undo_pairs.specs.Numbers.{IsSized, priced_of, reduced_costs_of, started};
 ghost use Rattle.postsolve_dual.specs.PairRoom.{IsFirstPast};
 
 use crate::pair::PairBuf;
 use fractions::Past;
 use fractions::frac::Frac;
-use lp_check::reduced_cost;
 use lp_model::{Duals, Point, Program};
+use lp_prices::reduced_cost;
 use postsolve_primal::placed;
 use std::alloc::{AllocError, Global};
 use undo_records::Records;

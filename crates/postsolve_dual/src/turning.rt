@@ -3,7 +3,7 @@
 ghost use Rattle.std.specs.Prelude.{◌≡◌, ℕ, length};
 ghost use Rattle.rational.specs.Number.{neg_ℚ};
 ghost use Rattle.lp_model.specs.Vectors.{vector_of};
-ghost use Rattle.postsolve_dual.specs.Numbers.{IsSized, priced_of, turned_for};
+ghost use Rattle.undo_pairs.specs.Numbers.{IsSized, priced_of, turned_for};
 
 use crate::pair::PairBuf;
 use fractions::frac::Frac;

@@ -2,17 +2,17 @@
 
 ghost use Rattle.std.specs.Prelude.{◌≡◌, ℕ, length, IsOk, OnOk, ◌↔◌};
 ghost use Rattle.undo_records.specs.Sound.{IsSound};
-ghost use Rattle.postsolve_dual.specs.Numbers.{IsSized, priced_of};
-ghost use Rattle.postsolve_dual.specs.LiftPair.{duals_undone, undone_pair};
+ghost use Rattle.undo_pairs.specs.Numbers.{IsSized, priced_of};
+ghost use Rattle.undo_pairs.specs.LiftPair.{duals_undone, undone_pair};
 ghost use Rattle.postsolve_dual.specs.PairRoom.{DualsFit, PairFits};
 
 use crate::columns::{
-    undo_fixed_column, undo_parallel_columns, undo_priced_column, undo_slack_singleton,
+    undo_fixed_column, undo_parallel_columns, undo_priced_column, undo_slack_column_singleton,
 };
-use crate::equations::undo_doubleton;
+use crate::equations::undo_doubleton_equation;
 use crate::pair::PairBuf;
 use crate::rows::{
-    undo_empty_row, undo_forcing_row, undo_parallel_rows, undo_singleton_row, undo_tightened_bound,
+    undo_bound_tightening, undo_empty_row, undo_forcing_row, undo_parallel_rows, undo_singleton_row,
 };
 use fractions::Past;
 use undo_records::Undo;
@@ -39,13 +39,13 @@ fn undo_duals(undo: &Undo, pair: &mut PairBuf) -> Result<(), Past>
         Undo::ForcingRow(record) => {
             undo_forcing_row(pair, record.row, record.side, record.entries.as_slice())
         }
-        Undo::TightenBound(record) => undo_tightened_bound(record, pair),
-        Undo::Doubleton(record) => undo_doubleton(record, pair),
-        Undo::FreeSingleton(record) => {
+        Undo::BoundTightening(record) => undo_bound_tightening(record, pair),
+        Undo::DoubletonEquation(record) => undo_doubleton_equation(record, pair),
+        Undo::FreeColumnSingleton(record) => {
             undo_priced_column(pair, record.column, record.row, record.price.get());
             Ok(())
         }
-        Undo::SlackSingleton(record) => undo_slack_singleton(record, pair),
+        Undo::SlackColumnSingleton(record) => undo_slack_column_singleton(record, pair),
         Undo::ParallelRows(record) => undo_parallel_rows(record, pair),
         Undo::ParallelColumns(record) => undo_parallel_columns(record, pair),
         _ => Ok(()),

@@ -5,9 +5,9 @@ ghost use Rattle.rational.specs.Number.{zero_ℚ};
 ghost use Rattle.rational.specs.Lowest.{Fits};
 ghost use Rattle.lp_model.specs.Vectors.{vector_of};
 ghost use Rattle.lp_model.specs.Sparse.{sparse_total};
-ghost use Rattle.undo_records.specs.Doubleton as doubleton;
-ghost use Rattle.undo_records.specs.FreeSingleton as free_singleton;
-ghost use Rattle.undo_records.specs.SlackSingleton as slack_singleton;
+ghost use Rattle.undo_records.specs.DoubletonEquation as doubleton_equation;
+ghost use Rattle.undo_records.specs.FreeColumnSingleton as free_column_singleton;
+ghost use Rattle.undo_records.specs.SlackColumnSingleton as slack_column_singleton;
 ghost use Rattle.undo_records.specs.ParallelColumns as parallel_columns;
 ghost use Rattle.undo_records.specs.Fitting.{TermsFit, LessProductFits, QuotientFits, SlackFits, ShareFits};
 ghost use Rattle.undo_records.specs.Lift.{undone};
@@ -18,13 +18,15 @@ use crate::ends::{Range, share, slack};
 use crate::sums::{difference_over, less_product, number_of, set_number, sum_of_terms};
 use fractions::Past;
 use fractions::frac::Frac;
-use undo_records::{Doubleton, FreeSingleton, ParallelColumns, SlackSingleton, Undo};
+use undo_records::{
+    DoubletonEquation, FreeColumnSingleton, ParallelColumns, SlackColumnSingleton, Undo,
+};
 
 /// The number that solves a row of two columns for the one that was deleted.
-fn solved(undo: &Doubleton, point: &[Frac]) -> Result<Frac, Past>
-    requires { doubleton.CanUndo (length point.now) undo.now }
-    ensures value { IfOk result (λ r. r ≡ doubleton.solved undo.now (vector_of point.now)) }
-    ensures fits { IsOk result ↔ doubleton.UndoFits undo.now (vector_of point.now) }
+fn solved(undo: &DoubletonEquation, point: &[Frac]) -> Result<Frac, Past>
+    requires { doubleton_equation.CanUndo (length point.now) undo.now }
+    ensures value { IfOk result (λ r. r ≡ doubleton_equation.solved undo.now (vector_of point.now)) }
+    ensures fits { IsOk result ↔ doubleton_equation.UndoFits undo.now (vector_of point.now) }
 {
     let number = number_of(point, undo.kept);
     let rest = less_product(&undo.equal.get(), &undo.kept_value.get(), &number)?;
@@ -32,11 +34,11 @@ fn solved(undo: &Doubleton, point: &[Frac]) -> Result<Frac, Past>
 }
 
 /// K12: solves the row for the deleted column.
-fn undo_doubleton(undo: &Doubleton, point: &mut [Frac]) -> Result<(), Past>
-    requires { doubleton.CanUndo (length point.old) undo.now }
+fn undo_doubleton_equation(undo: &DoubletonEquation, point: &mut [Frac]) -> Result<(), Past>
+    requires { doubleton_equation.CanUndo (length point.old) undo.now }
     ensures size { length point.new ≡ length point.old }
-    ensures lifted { OnOk result (vector_of point.new ≡ doubleton.undone undo.now (vector_of point.old)) }
-    ensures fits { IsOk result ↔ doubleton.UndoFits undo.now (vector_of point.old) }
+    ensures lifted { OnOk result (vector_of point.new ≡ doubleton_equation.undone undo.now (vector_of point.old)) }
+    ensures fits { IsOk result ↔ doubleton_equation.UndoFits undo.now (vector_of point.old) }
 {
     let number = solved(undo, point)?;
     set_number(point, undo.column, number);
@@ -44,21 +46,21 @@ fn undo_doubleton(undo: &Doubleton, point: &mut [Frac]) -> Result<(), Past>
 }
 
 /// The number with which a row stands at a side.
-fn at_side(undo: &FreeSingleton, point: &[Frac]) -> Result<Frac, Past>
-    requires { free_singleton.CanUndo (length point.now) undo.now }
-    ensures value { IfOk result (λ r. r ≡ free_singleton.at_side undo.now (vector_of point.now)) }
-    ensures fits { IsOk result ↔ free_singleton.UndoFits undo.now (vector_of point.now) }
+fn at_side(undo: &FreeColumnSingleton, point: &[Frac]) -> Result<Frac, Past>
+    requires { free_column_singleton.CanUndo (length point.now) undo.now }
+    ensures value { IfOk result (λ r. r ≡ free_column_singleton.at_side undo.now (vector_of point.now)) }
+    ensures fits { IsOk result ↔ free_column_singleton.UndoFits undo.now (vector_of point.now) }
 {
     let rest = sum_of_terms(undo.entries.as_slice(), point)?;
     difference_over(&undo.at.get(), &rest, &undo.value.get())
 }
 
 /// K13: puts the row at its side.
-fn undo_free_singleton(undo: &FreeSingleton, point: &mut [Frac]) -> Result<(), Past>
-    requires { free_singleton.CanUndo (length point.old) undo.now }
+fn undo_free_column_singleton(undo: &FreeColumnSingleton, point: &mut [Frac]) -> Result<(), Past>
+    requires { free_column_singleton.CanUndo (length point.old) undo.now }
     ensures size { length point.new ≡ length point.old }
-    ensures lifted { OnOk result (vector_of point.new ≡ free_singleton.undone undo.now (vector_of point.old)) }
-    ensures fits { IsOk result ↔ free_singleton.UndoFits undo.now (vector_of point.old) }
+    ensures lifted { OnOk result (vector_of point.new ≡ free_column_singleton.undone undo.now (vector_of point.old)) }
+    ensures fits { IsOk result ↔ free_column_singleton.UndoFits undo.now (vector_of point.old) }
 {
     let number = at_side(undo, point)?;
     set_number(point, undo.column, number);
@@ -66,10 +68,10 @@ fn undo_free_singleton(undo: &FreeSingleton, point: &mut [Frac]) -> Result<(), P
 }
 
 /// The number of a slack column with which its row is within its sides.
-fn within_sides(undo: &SlackSingleton, point: &[Frac]) -> Result<Frac, Past>
-    requires { slack_singleton.CanUndo (length point.now) undo.now }
-    ensures value { IfOk result (λ r. r ≡ slack_singleton.within_sides undo.now (vector_of point.now)) }
-    ensures fits { IsOk result ↔ slack_singleton.UndoFits undo.now (vector_of point.now) }
+fn within_sides(undo: &SlackColumnSingleton, point: &[Frac]) -> Result<Frac, Past>
+    requires { slack_column_singleton.CanUndo (length point.now) undo.now }
+    ensures value { IfOk result (λ r. r ≡ slack_column_singleton.within_sides undo.now (vector_of point.now)) }
+    ensures fits { IsOk result ↔ slack_column_singleton.UndoFits undo.now (vector_of point.now) }
 {
     let sides = Range::between(&undo.lower_side.get(), &undo.upper_side.get());
     let bounds = Range::between(&undo.lower.get(), &undo.upper.get());
@@ -78,11 +80,11 @@ fn within_sides(undo: &SlackSingleton, point: &[Frac]) -> Result<Frac, Past>
 }
 
 /// K14: brings the row within its sides.
-fn undo_slack_singleton(undo: &SlackSingleton, point: &mut [Frac]) -> Result<(), Past>
-    requires { slack_singleton.CanUndo (length point.old) undo.now }
+fn undo_slack_column_singleton(undo: &SlackColumnSingleton, point: &mut [Frac]) -> Result<(), Past>
+    requires { slack_column_singleton.CanUndo (length point.old) undo.now }
     ensures size { length point.new ≡ length point.old }
-    ensures lifted { OnOk result (vector_of point.new ≡ slack_singleton.undone undo.now (vector_of point.old)) }
-    ensures fits { IsOk result ↔ slack_singleton.UndoFits undo.now (vector_of point.old) }
+    ensures lifted { OnOk result (vector_of point.new ≡ slack_column_singleton.undone undo.now (vector_of point.old)) }
+    ensures fits { IsOk result ↔ slack_column_singleton.UndoFits undo.now (vector_of point.old) }
 {
     let number = within_sides(undo, point)?;
     set_number(point, undo.column, number);
@@ -141,9 +143,12 @@ pub fn undo_one(undo: &Undo, point: &mut [Frac]) -> Result<(), Past>
             set_number(point, fixed.column, fixed.value.get());
             Ok(())
         }
-        Undo::Doubleton(doubleton) => undo_doubleton(doubleton, point),
-        Undo::FreeSingleton(singleton) => undo_free_singleton(singleton, point),
-        Undo::SlackSingleton(singleton) => undo_slack_singleton(singleton, point),
+        Undo::DoubletonEquation(doubleton_equation) => undo_doubleton_equation(
+            doubleton_equation,
+            point,
+        ),
+        Undo::FreeColumnSingleton(singleton) => undo_free_column_singleton(singleton, point),
+        Undo::SlackColumnSingleton(singleton) => undo_slack_column_singleton(singleton, point),
         Undo::ParallelColumns(columns) => undo_parallel_columns(columns, point),
         _ => Ok(()),
     }

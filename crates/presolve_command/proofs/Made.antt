@@ -3,8 +3,9 @@ use Rattle.std.proofs.Common.{◌≡◌, ◌≤◌, ℕ, List, length, Result, O
 use Rattle.file_ports.specs.Ports.{Told, Gives}
 use Rattle.lp_model.specs.ProgramData.{ProgramData}
 use Rattle.command_words.specs.declared.words.PresolveOptions.{PresolveOptions}
-use Rattle.mps_profile.specs.declared.dialect.Dialect.{Dialect}
-use Rattle.endings.specs.Dialects.{dialect_of}
+use Rattle.fractions.specs.declared.Numbers.{Numbers}
+use Rattle.endings.specs.declared.forms.Form.{Form}
+use Rattle.endings.specs.Forms.{form_of, numbers_in}
 use Rattle.endings.specs.Moments.{Reads}
 use Rattle.endings.specs.ProgramTexts.{IsProgramOf}
 use Rattle.endings.proofs.Earlier.{given_reads}
@@ -12,6 +13,7 @@ use Rattle.presolve_model.specs.Conclusions.{Concluded}
 use Rattle.presolve_rounds.specs.Conclusions.{Concludes}
 use Rattle.presolve_model.specs.declared.conclusion.End.{End}
 use Rattle.presolve_model.specs.declared.conclusion.Options.{Options}
+use Rattle.presolve_model.specs.Workers.{one_worker, Workers}
 use Rattle.presolve_rounds.specs.declared.outcome.Presolved.{Presolved}
 use Rattle.presolve_rounds.specs.declared.outcome.Presolved.TheVariants.{Reduced}
 use Rattle.presolve_rounds.specs.declared.outcome.Presolved.TheVariants as presolved
@@ -20,26 +22,29 @@ use Rattle.presolve_rounds.specs.declared.outcome.ReducedProgram.{ReducedProgram
 use Rattle.presolve_command.specs.declared.reduce.Texts.{Texts}
 use Rattle.presolve_command.specs.declared.reduce.NotReduced.{NotReduced}
 use Rattle.presolve_command.specs.declared.reduce.NotReduced.TheVariants.{Fault, NotContinuous, Infeasible, UnboundedOrInfeasible, NoMemory}
-use Rattle.presolve_command.specs.Texts.{IsMade, IsNotTaken, IsReduced, IsTaken, options_for, ProgramIsInfeasible, ProgramIsUnboundedOrInfeasible, TextIsInfeasible, TextIsNotTaken, TextIsUnboundedOrInfeasible}
+use Rattle.presolve_command.specs.Texts.{IsMade, IsNotTaken, IsReduced, IsTaken, options_for, ProgramIsInfeasible, ProgramIsUnboundedOrInfeasible, TextIsInfeasible, TextIsNotTaken, TextIsUnboundedOrInfeasible, workers_for}
 
 reduced_so : (options : PresolveOptions) (text : List ℕ) (program : ProgramData) (r : Result Texts NotReduced)
-    → IsProgramOf (dialect_of options) text program → IsMade (options_for options) program r → IsReduced options text r
+    → IsProgramOf (form_of options) text program → IsMade (options_for options) (workers_for options) program r → IsReduced options text r
 reduced_so options text program (Ok texts) read made = (made.0, (read.0, made.1 ∙ read.1), made.2)
 reduced_so options text program (Err (Fault fault)) read made = absurd made
 reduced_so options text program (Err (NotContinuous line)) read made =
     (read.0, subst (λ (x : ProgramData). IsNotTaken (options_for options) x line.items) read.1 made)
-reduced_so options text program (Err Infeasible) read made = (read.0, subst (ProgramIsInfeasible (options_for options)) read.1 made)
-reduced_so options text program (Err UnboundedOrInfeasible) read made = (read.0, subst (ProgramIsUnboundedOrInfeasible (options_for options)) read.1 made)
+reduced_so options text program (Err Infeasible) read made = (read.0, subst (ProgramIsInfeasible (options_for options) (workers_for options)) read.1 made)
+reduced_so options text program (Err UnboundedOrInfeasible) read made = (read.0, subst (ProgramIsUnboundedOrInfeasible (options_for options) (workers_for options)) read.1 made)
 reduced_so options text program (Err NoMemory) read made = tt
 
--- what is told of the numbers of the dialect
-abbrev told_by : PresolveOptions → Dialect → Options
-told_by options dialect = record { numbers = dialect.numbers; limit = options.limit; dual = options.dual }
+-- what is told with these numbers
+abbrev told_by : PresolveOptions → Numbers → Options
+told_by options numbers = record { numbers = numbers; limit = options.limit; dual = options.dual }
 
-pub made_reduced : (options : PresolveOptions) (dialect : Dialect) (text : List ℕ) (program : ProgramData) (r : Result Texts NotReduced) → dialect ≡ dialect_of options
-    → IsProgramOf dialect text program → IsMade (told_by options dialect) program r → IsReduced options text r
-made_reduced options dialect text program r same =
-    subst (λ (d : Dialect). IsProgramOf d text program → IsMade (told_by options d) program r → IsReduced options text r) (sym same) (reduced_so options text program r)
+pub made_reduced : (options : PresolveOptions) (form : Form) (numbers : Numbers) (workers : Workers) (text : List ℕ) (program : ProgramData) (r : Result Texts NotReduced)
+    → form ≡ form_of options → numbers ≡ numbers_in form → workers ≡ one_worker
+    → IsProgramOf form text program → IsMade (told_by options numbers) workers program r → IsReduced options text r
+made_reduced options form numbers workers text program r same taken alone =
+    subst (λ (n : Numbers). IsProgramOf form text program → IsMade (told_by options n) workers program r → IsReduced options text r) (sym taken)
+    (subst (λ (w : Workers). IsProgramOf form text program → IsMade (told_by options (numbers_in form)) w program r → IsReduced options text r) (sym alone)
+    (subst (λ (f : Form). IsProgramOf f text program → IsMade (told_by options (numbers_in f)) one_worker program r → IsReduced options text r) (sym same) (reduced_so options text program r)))
 
 -- what is said of what a read gave is said of what is told
 pub said_read : (Said : List ℕ → Type 0) (limit : ℕ) (told : Told) (held text : List ℕ) → Gives told held → length held ≤ limit → text ≡ held → Said text → Reads limit told Said
@@ -59,22 +64,22 @@ pub unbounded_said : (options : PresolveOptions) (text : List ℕ) (n : NotReduc
 unbounded_said options text n is h = subst (λ (x : NotReduced). IsReduced options text (Err x)) is h
 
 -- what presolve says where it gives a reduced program
-pub concluded_of : (options : Options) (program : ProgramData) (p : Presolved) (made : ReducedProgram) → p ≡ Reduced made → Concludes options program p
-    → Concluded options program made.program made.records made.end
-concluded_of options program p made is h = subst (λ (x : Presolved). Concludes options program x) is h
+pub concluded_of : (options : Options) (workers : Workers) (program : ProgramData) (p : Presolved) (made : ReducedProgram) → p ≡ Reduced made → Concludes options workers program p
+    → Concluded options workers program made.program made.records made.end
+concluded_of options workers program p made is h = subst (λ (x : Presolved). Concludes options workers program x) is h
 
 -- the same of an end that is told of it
-pub concluded_with : (options : Options) (program : ProgramData) (made : ReducedProgram) (ended : End) → ended ≡ made.end → Concluded options program made.program made.records made.end
-    → Concluded options program made.program made.records ended
-concluded_with options program made ended same h = subst (λ (x : End). Concluded options program made.program made.records x) (sym same) h
+pub concluded_with : (options : Options) (workers : Workers) (program : ProgramData) (made : ReducedProgram) (ended : End) → ended ≡ made.end → Concluded options workers program made.program made.records made.end
+    → Concluded options workers program made.program made.records ended
+concluded_with options workers program made ended same h = subst (λ (x : End). Concluded options workers program made.program made.records x) (sym same) h
 
 -- what presolve says where it gives a decided program
-pub infeasible_of : (options : Options) (program : ProgramData) (p : Presolved) (made : DecidedProgram) → p ≡ presolved.Infeasible made → IsTaken options program
-    → Concludes options program p → ProgramIsInfeasible options program
-infeasible_of options program p made is taken h = let k = subst (λ (x : Presolved). Concludes options program x) is h in
+pub infeasible_of : (options : Options) (workers : Workers) (program : ProgramData) (p : Presolved) (made : DecidedProgram) → p ≡ presolved.Infeasible made → IsTaken options program
+    → Concludes options workers program p → ProgramIsInfeasible options workers program
+infeasible_of options workers program p made is taken h = let k = subst (λ (x : Presolved). Concludes options workers program x) is h in
     record { taken = taken; history = made.history.items; verdict = made.verdict; decided = k.0; says = k.1; no_point = k.2 }
 
-pub unbounded_of : (options : Options) (program : ProgramData) (p : Presolved) (made : DecidedProgram) → p ≡ presolved.UnboundedOrInfeasible made → IsTaken options program
-    → Concludes options program p → ProgramIsUnboundedOrInfeasible options program
-unbounded_of options program p made is taken h = let k = subst (λ (x : Presolved). Concludes options program x) is h in
+pub unbounded_of : (options : Options) (workers : Workers) (program : ProgramData) (p : Presolved) (made : DecidedProgram) → p ≡ presolved.UnboundedOrInfeasible made → IsTaken options program
+    → Concludes options workers program p → ProgramIsUnboundedOrInfeasible options workers program
+unbounded_of options workers program p made is taken h = let k = subst (λ (x : Presolved). Concludes options workers program x) is h in
     record { taken = taken; history = made.history.items; verdict = made.verdict; decided = k.0; says = k.1; endless = k.2 }

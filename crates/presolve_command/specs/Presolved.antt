@@ -2,18 +2,23 @@
 use Rattle.std.specs.Prelude.{◌≡◌, ◌≢◌, ◌⊎◌, ℕ, ◌==◌, List}
 use Rattle.file_ports.specs.Ports.{Moment, Unsettled, KeepsOthers, Written}
 use Rattle.command_words.specs.Names.{PresolveNames}
-use Rattle.endings.specs.Dialects.{dialect_of}
+use Rattle.endings.specs.Forms.{form_of}
 use Rattle.endings.specs.Ending.{When, infeasible_line, no_memory_line, read_fault_line, unbounded_line, write_fault_line}
 use Rattle.endings.specs.Moments.{FailsToRead, FailsToWrite, IsQuiet, IsThere, KeepsAllBut, Reads}
 use Rattle.endings.specs.ProgramTexts.{IsProgramOf, SaysFaultOf}
 use Rattle.endings.specs.declared.reads.TheConstants.{INPUT_LIMIT}
-use Rattle.presolve_command.specs.Texts.{Outcome, IsConcluded, options_for, TextIsInfeasible, TextIsNotTaken, TextIsUnboundedOrInfeasible}
+use Rattle.presolve_model.specs.Workers.{IsInOrder}
+use Rattle.presolve_command.specs.Texts.{Outcome, IsConcluded, options_for, TextIsInfeasible, TextIsNotTaken, TextIsUnboundedOrInfeasible, workers_for}
+
+-- what presolve concludes is what comes of the ordered run: so are its workers
+abbrev pub IsDoneInOrder : PresolveNames → Type 0
+IsDoneInOrder names = IsInOrder (workers_for names.options)
 
 -- IN's text has no fault; presolve concluded some outcome of its program, with these texts
 pub record IsMadeOf (names : PresolveNames) (program records printed : List ℕ) (before : Moment) : Type 0 where
   pub outcome : Outcome
-  pub source : Reads INPUT_LIMIT (before.told names.input) (λ text. IsProgramOf (dialect_of names.options) text outcome.source)
-  pub concluded : IsConcluded (options_for names.options) outcome program records printed
+  pub source : Reads INPUT_LIMIT (before.told names.input) (λ text. IsProgramOf (form_of names.options) text outcome.source)
+  pub concluded : IsConcluded (options_for names.options) (workers_for names.options) outcome program records printed
 
 -- both texts were written, and the report goes with them; no other name changed
 pub record IsPresolved (names : PresolveNames) (printed : List ℕ) (before now : Moment) : Type 0 where
@@ -26,7 +31,7 @@ pub record IsPresolved (names : PresolveNames) (printed : List ℕ) (before now 
 
 -- what is said of IN's text
 abbrev pub SaysFault : PresolveNames → List ℕ → Moment → Moment → Type 0
-SaysFault names said before now = SaysFaultOf INPUT_LIMIT (dialect_of names.options) names.input said before now
+SaysFault names said before now = SaysFaultOf INPUT_LIMIT (form_of names.options) names.input said before now
 
 -- `--dual` was given, IN's text has no fault, and this line names the first column of its program that has to be whole
 abbrev pub SaysNotTaken : PresolveNames → List ℕ → Moment → Type 0

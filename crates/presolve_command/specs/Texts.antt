@@ -1,5 +1,5 @@
 -- The texts that a presolve writes and prints.
-use Rattle.std.specs.Prelude.{◌≡◌, ℕ, ◌-◌, ◌^◌, true, false, List, length, min, Some, None, Result, Ok, Err}
+use Rattle.std.specs.Prelude.{◌≡◌, ℕ, ◌-◌, ◌^◌, true, false, List, length, min, None, Result, Ok, Err}
 use Rattle.std.specs.List.{sum_by}
 use Rattle.lp_model.specs.ProgramData.{ProgramData}
 use Rattle.lp_model.specs.Meaning.{meaning}
@@ -16,6 +16,7 @@ use Rattle.presolve_model.specs.declared.instance.Verdict.{Verdict}
 use Rattle.presolve_model.specs.Accounts.{ReducesPairsTo}
 use Rattle.presolve_model.specs.Conclusions.{Concluded, Decided}
 use Rattle.presolve_model.specs.Meanings.{says_no_point}
+use Rattle.presolve_model.specs.Workers.{one_worker, Workers}
 use Rattle.presolve_model.specs.declared.conclusion.Options.{Options}
 use Rattle.mps_writer.specs.MpsText.{mps_text}
 use Rattle.record_file.specs.RecordText.{record_text}
@@ -23,8 +24,8 @@ use Rattle.undo_records.specs.Postsolve.{Postsolve}
 use Rattle.record_round_trip.specs.Ranges.{HasRange}
 use Rattle.whole_way.specs.Texts.{TextsFit}
 use Rattle.endings.specs.Continuity.{NamesFirstWhole}
-use Rattle.endings.specs.Dialects.{dialect_of, numbers_of}
-use Rattle.endings.specs.ProgramTexts.{IsProgramOf}
+use Rattle.endings.specs.Forms.{form_of, numbers_of}
+use Rattle.endings.specs.ProgramTexts.{HasNoFault, IsFaultOf, IsProgramOf, program_in}
 use Rattle.presolve_command.specs.declared.report.Report.{Report}
 use Rattle.presolve_command.specs.declared.reduce.Texts.{Texts}
 use Rattle.presolve_command.specs.declared.reduce.NotReduced.{NotReduced}
@@ -81,71 +82,75 @@ IsTaken options program = options.dual ≡ true → Continuous (meaning program)
 abbrev pub IsNotTaken : Options → ProgramData → List ℕ → Type 0
 IsNotTaken options program said = (options.dual ≡ true) × NamesFirstWhole program said
 
--- presolve, told this, concludes this outcome of its program, and these are its texts, which read back; the records' numbers have room.
+-- presolve, told this, concludes by these workers this outcome of its program, and these are its texts, which read back; the records' numbers have room.
 -- Where duals are asked for, the records bring back what meets the optimality conditions of what is left
-pub record IsConcluded (options : Options) (outcome : Outcome) (program records printed : List ℕ) : Type 0 where
+pub record IsConcluded (options : Options) (workers : Workers) (outcome : Outcome) (program records printed : List ℕ) : Type 0 where
   pub taken : IsTaken options outcome.source
-  pub concluded : Concluded options outcome.source outcome.program outcome.records outcome.report.end
+  pub concluded : Concluded options workers outcome.source outcome.program outcome.records outcome.report.end
   pub pairs : options.dual ≡ true → ReducesPairsTo outcome.source outcome.program outcome.records
   pub range : HasRange outcome.records
   pub texts : AreTexts outcome program records printed
   pub reads_back : ReadsBack options.numbers outcome program
   pub comes_back : ComesBack outcome program records
 
--- presolve, told this, decides the program by a verdict that says that no point is feasible: none is
-pub record ProgramIsInfeasible (options : Options) (program : ProgramData) : Type 0 where
+-- presolve, told this, decides by these workers the program, by a verdict that says that no point is feasible: none is
+pub record ProgramIsInfeasible (options : Options) (workers : Workers) (program : ProgramData) : Type 0 where
   pub taken : IsTaken options program
   pub history : List Reduction
   pub verdict : Verdict
-  pub decided : Decided options program history verdict
+  pub decided : Decided options workers program history verdict
   pub says : says_no_point verdict ≡ true
   pub no_point : NoPoint (meaning program)
 
--- presolve, told this, decides the program by a verdict of the other kind: each feasible point, if there is one, gives others of any cost
-pub record ProgramIsUnboundedOrInfeasible (options : Options) (program : ProgramData) : Type 0 where
+-- presolve, told this, decides by these workers the program, by a verdict of the other kind: each feasible point, if there is one, gives others of any cost
+pub record ProgramIsUnboundedOrInfeasible (options : Options) (workers : Workers) (program : ProgramData) : Type 0 where
   pub taken : IsTaken options program
   pub history : List Reduction
   pub verdict : Verdict
-  pub decided : Decided options program history verdict
+  pub decided : Decided options workers program history verdict
   pub says : says_no_point verdict ≡ false
   pub endless : NoPointOrEndless program.sense (meaning program)
 
 -- what is made of a program: the texts of an outcome of it, or that it is not taken, or decided, in one way or the other
-abbrev pub IsMade : Options → ProgramData → Result Texts NotReduced → Type 0
-IsMade options program (Ok texts) =
-    (outcome : Outcome) × (outcome.source ≡ program) × IsConcluded options outcome texts.program.items texts.records.items texts.report.items
-IsMade options program (Err (Fault fault)) = ⊥
-IsMade options program (Err (NotContinuous line)) = IsNotTaken options program line.items
-IsMade options program (Err Infeasible) = ProgramIsInfeasible options program
-IsMade options program (Err UnboundedOrInfeasible) = ProgramIsUnboundedOrInfeasible options program
-IsMade options program (Err NoMemory) = Unit {0}
+abbrev pub IsMade : Options → Workers → ProgramData → Result Texts NotReduced → Type 0
+IsMade options workers program (Ok texts) =
+    (outcome : Outcome) × (outcome.source ≡ program) × IsConcluded options workers outcome texts.program.items texts.records.items texts.report.items
+IsMade options workers program (Err (Fault fault)) = ⊥
+IsMade options workers program (Err (NotContinuous line)) = IsNotTaken options program line.items
+IsMade options workers program (Err Infeasible) = ProgramIsInfeasible options workers program
+IsMade options workers program (Err UnboundedOrInfeasible) = ProgramIsUnboundedOrInfeasible options workers program
+IsMade options workers program (Err NoMemory) = Unit {0}
 
 -- what presolve is told by the words
 abbrev pub options_for : PresolveOptions → Options
 options_for options = record { numbers = numbers_of options; limit = options.limit; dual = options.dual }
 
+-- the workers among whom the words have the work shared out
+abbrev pub workers_for : PresolveOptions → Workers
+workers_for options = one_worker
+
 -- a text has no fault, and its program is not taken: this line names its first column that has to be whole
 abbrev pub TextIsNotTaken : PresolveOptions → List ℕ → List ℕ → Type 0
 TextIsNotTaken options text said =
-    (first_fault (dialect_of options) text ≡ None) × IsNotTaken (options_for options) (program_of (dialect_of options) text) said
+    HasNoFault (form_of options) text × IsNotTaken (options_for options) (program_in (form_of options) text) said
 
 -- a text has no fault, and its program is found to have no feasible point
 abbrev pub TextIsInfeasible : PresolveOptions → List ℕ → Type 0
 TextIsInfeasible options text =
-    (first_fault (dialect_of options) text ≡ None) × ProgramIsInfeasible (options_for options) (program_of (dialect_of options) text)
+    HasNoFault (form_of options) text × ProgramIsInfeasible (options_for options) (workers_for options) (program_in (form_of options) text)
 
 -- a text has no fault, and its program is found to have no feasible point, or none of least cost
 abbrev pub TextIsUnboundedOrInfeasible : PresolveOptions → List ℕ → Type 0
 TextIsUnboundedOrInfeasible options text =
-    (first_fault (dialect_of options) text ≡ None) × ProgramIsUnboundedOrInfeasible (options_for options) (program_of (dialect_of options) text)
+    HasNoFault (form_of options) text × ProgramIsUnboundedOrInfeasible (options_for options) (workers_for options) (program_in (form_of options) text)
 
 -- what is made of a text: the texts of an outcome of its program, that this is not taken, or decided, in one way or the other, or the
 -- text's first fault
 abbrev pub IsReduced : PresolveOptions → List ℕ → Result Texts NotReduced → Type 0
 IsReduced options text (Ok texts) =
-    (outcome : Outcome) × IsProgramOf (dialect_of options) text outcome.source
-    × IsConcluded (options_for options) outcome texts.program.items texts.records.items texts.report.items
-IsReduced options text (Err (Fault fault)) = first_fault (dialect_of options) text ≡ Some (fault.kind, fault.line)
+    (outcome : Outcome) × IsProgramOf (form_of options) text outcome.source
+    × IsConcluded (options_for options) (workers_for options) outcome texts.program.items texts.records.items texts.report.items
+IsReduced options text (Err (Fault fault)) = IsFaultOf (form_of options) text fault
 IsReduced options text (Err (NotContinuous line)) = TextIsNotTaken options text line.items
 IsReduced options text (Err Infeasible) = TextIsInfeasible options text
 IsReduced options text (Err UnboundedOrInfeasible) = TextIsUnboundedOrInfeasible options text

@@ -5,7 +5,7 @@ ghost use Rattle.file_ports.specs.Ports.{Written};
 ghost use Rattle.command_words.specs.Seen.{names_of};
 ghost use Rattle.endings.specs.Ending.{status_of, text_of};
 ghost use Rattle.endings.specs.Moments.{IsQuiet, KeepsAllBut};
-ghost use Rattle.presolve_command.specs.Presolved.{EndsPresolve, FailsBetween};
+ghost use Rattle.presolve_command.specs.Presolved.{EndsPresolve, FailsBetween, IsDoneInOrder};
 
 use crate::reduce::{NotReduced, Texts, reduce};
 use command_words::PresolveWords;
@@ -40,6 +40,7 @@ pub fn presolve<F: Files>(
     requires { words.now.output.now ≢ words.now.records.now }
     ensures ends { IfOk result (λ e. EndsPresolve (names_of words.now) (status_of e) (text_of e) (F.moment files.old) (F.moment files.new)) }
     ensures no_memory { OnErr result (IsQuiet (F.moment files.old) (F.moment files.new)) }
+    ensures in_order { IsDoneInOrder (names_of words.now) }
 {
     let text = match files.read(alloc, words.input, INPUT_LIMIT) {
         Ok(text) => text,

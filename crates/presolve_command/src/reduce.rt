@@ -11,16 +11,16 @@ ghost use Rattle.mps_writer.specs.MpsText.{mps_text, WidthsFit};
 
 use crate::report::{Change, Report, report_of};
 use command_words::PresolveOptions;
-use endings::{dialect_of, not_continuous_text};
+use endings::{ProgramError, ProgramFault, form_of, not_continuous_text, read_program};
 use lp_check::first_whole_column;
 use lp_model::{ColumnDef, Program};
-use mps_reader::{MpsError, MpsFault, read_mps};
 use mps_writer::{WriteError, write_mps};
-use presolve_model::Options;
+use presolve_model::{Options, Workers};
 use presolve_rounds::{Presolved, ReducedProgram, presolve};
 use record_file::write_records;
 use record_round_trip::records_have_range;
 use std::alloc::{AllocError, Global};
+use text_lines::Fault;
 use whole_way::laws::texts_come_back;
 
 /// All that a presolve writes and prints.
@@ -35,7 +35,7 @@ pub struct Texts {
 #[derive(Drop)]
 pub enum NotReduced {
     /// The text's first fault.
-    Fault(MpsFault),
+    Fault(ProgramFault),
     /// Duals are asked for, and a column has to be whole: the line that names the first one.
     NotContinuous(Vec<u8>),
     /// The text's program has no feasible point.
@@ -156,17 +156,22 @@ fn column_in_the_way(program: &Program, options: &Options) -> Option<u32>
 }
 
 // Reduces a program, and makes the texts of what is left.
-fn reduce_program(alloc: Global, program: Program, options: &Options) -> Result<Texts, NotReduced>
+fn reduce_program(
+    alloc: Global,
+    program: Program,
+    options: &Options,
+    workers: &Workers,
+) -> Result<Texts, NotReduced>
     requires few_rows { length program.rows < 2 ^ 32 }
     requires few_columns { length program.columns < 2 ^ 32 }
     requires ascends { EntriesAscend program }
     requires writable { Writable options.now.numbers program }
     requires taken { IsTaken options.now program }
-    ensures { IsMade options.now program result }
+    ensures { IsMade options.now workers.now program result }
 {
     let before = size_of(&program);
     texts_come_back();
-    match presolve(alloc, program, options) {
+    match presolve(alloc, program, options, workers) {
         Ok(Presolved::Reduced(made)) => {
             records_have_range(&made.records);
             let report = report_for(&made, before);
@@ -180,19 +185,24 @@ fn reduce_program(alloc: Global, program: Program, options: &Options) -> Result<
 }
 
 // Reduces a program that is taken: where duals are asked for, no column may have to be whole.
-fn reduce_taken(alloc: Global, program: Program, options: &Options) -> Result<Texts, NotReduced>
+fn reduce_taken(
+    alloc: Global,
+    program: Program,
+    options: &Options,
+    workers: &Workers,
+) -> Result<Texts, NotReduced>
     requires few_rows { length program.rows < 2 ^ 32 }
     requires few_columns { length program.columns < 2 ^ 32 }
     requires ascends { EntriesAscend program }
     requires writable { Writable options.now.numbers program }
-    ensures { IsMade options.now program result }
+    ensures { IsMade options.now workers.now program result }
 {
     match column_in_the_way(&program, options) {
         Some(column) => {
             let line = not_continuous_text(alloc, &program, column)?;
             Err(NotReduced::NotContinuous(line))
         }
-        None => reduce_program(alloc, program, options),
+        None => reduce_program(alloc, program, options, workers),
     }
 }
 
@@ -205,15 +215,15 @@ pub fn reduce(alloc: Global, text: &[u8], options: PresolveOptions) -> Result<Te
     requires { length text.now < 2 ^ 32 }
     ensures { IsReduced options text.now result }
 {
-    let dialect = dialect_of(options);
+    let form = form_of(options);
     let told = Options {
-        numbers: dialect.numbers,
+        numbers: form.numbers(),
         limit: options.limit,
         dual: options.dual,
     };
-    match read_mps(alloc, text, dialect) {
-        Ok(program) => reduce_taken(alloc, program, &told),
-        Err(MpsError::Fault(fault)) => Err(NotReduced::Fault(fault)),
-        Err(MpsError::NoMemory) => Err(NotReduced::NoMemory),
+    match read_program(alloc, text, form) {
+        Ok(program) => reduce_taken(alloc, program, &told, &Workers::one()),
+        Err(ProgramError::Fault(fault)) => Err(NotReduced::Fault(fault)),
+        Err(ProgramError::NoMemory) => Err(NotReduced::NoMemory),
     }
 }

@@ -10,7 +10,7 @@ use Rattle.lp_model.specs.Sparse.{has}
 use Rattle.problem_laws.proofs.Terms.{has-cons_other}
 use Rattle.undo_records.specs.declared.side.Side.{Side}
 use Rattle.undo_records.specs.declared.side.Side.TheVariants.{Lower, Upper}
-use Rattle.activity_laws.specs.TightenedBound.{bounds_of as named_bounds}
+use Rattle.activity_laws.specs.BoundTightening.{bounds_of as named_bounds}
 use Rattle.dual_laws.specs.DominatedColumn.{pairs_of}
 
 flat_at : {X Y : Type 0} (f : X → List Y) (xs : List X) (x : X) (y : Y) (k : ℕ) → k < length xs → get_or xs k x ≡ x → Contains (f x) y → Contains (flat_map f xs) y

@@ -6,7 +6,7 @@ use Rattle.std.proofs.lemmas.List.{get_or-set_other, get_or-set_same, length-app
 use Rattle.std.proofs.lemmas.List.Elements.{filter-append}
 use Rattle.undo_records.specs.declared.side.Side.{Side}
 use Rattle.undo_records.specs.declared.side.Side.TheVariants.{Lower, Upper}
-use Rattle.undo_records.specs.declared.kinds.tighten_bound.TightenBound.{TightenBound}
+use Rattle.undo_records.specs.declared.kinds.bound_tightening.BoundTightening.{BoundTightening}
 use Rattle.undo_records.specs.declared.undo.Undo.{Undo}
 use Rattle.undo_records.specs.declared.undo.Undo.TheVariants as undo
 use Rattle.presolve_model.specs.Tallies.{AreCountsOf, count_on, counted, Counts, is_tightening, IsTally, no_counts, one_more, open_by, open_on, same_side, tightenings}
@@ -77,9 +77,9 @@ taken false n m u e = let z : m + 0 ≡ m = omega arith in e ∙ ap (λ (k : ℕ
 with_one : (us : List Undo) (u : Undo) (k : ℕ) (s : Side) → tightenings (us ++ u ∷ []) k s ≡ tightenings us k s + tightenings (u ∷ []) k s
 with_one us u k s = ap length (filter-append (is_tightening k s) us (u ∷ [])) ∙ length-append (filter (is_tightening k s) us) (filter (is_tightening k s) (u ∷ []))
 
-pub tally_more : (c : Counts) (us : List Undo) (n : ℕ) (r : TightenBound) → AreCountsOf n c → r.column < n → IsTally c us → IsTally (counted c r.column r.side) (us ++ undo.TightenBound r ∷ [])
+pub tally_more : (c : Counts) (us : List Undo) (n : ℕ) (r : BoundTightening) → AreCountsOf n c → r.column < n → IsTally c us → IsTally (counted c r.column r.side) (us ++ undo.BoundTightening r ∷ [])
 tally_more c us n r a l h k s =
-    let u : Undo = undo.TightenBound r in
+    let u : Undo = undo.BoundTightening r in
     count_after c n r.column r.side a l k s
     ∙ taken (nat_eq r.column k && same_side r.side s) (count_on c k s) (tightenings us k s) u (h k s)
     ∙ ap (λ (m : ℕ). min m 10) (sym (with_one us u k s))

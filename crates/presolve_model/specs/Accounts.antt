@@ -10,7 +10,7 @@ use Rattle.lp_passages.specs.Renumbering.{spread, spread_pair}
 use Rattle.undo_records.specs.Postsolve.{Postsolve}
 use Rattle.undo_records.specs.Lift.{lift}
 use Rattle.undo_records.specs.declared.label.Label.{Label}
-use Rattle.postsolve_dual.specs.LiftPair.{lift_pair}
+use Rattle.undo_pairs.specs.LiftPair.{lift_pair}
 use Rattle.presolve_model.specs.declared.instance.Reduction.{Reduction}
 use Rattle.problem_model.specs.Programs.{IsProblemOf, written_program}
 use Rattle.presolve_model.specs.Replay.{replay, records, Replays}

@@ -1,13 +1,12 @@
 -- What presolve concludes of a program.
-use Rattle.std.specs.Prelude.{◌≡◌, ℕ, ◌<◌, ◌≤◌, true, List, [], ◌∷◌, length, Some, None, if◌then◌else◌}
+use Rattle.std.specs.Prelude.{◌≡◌, ℕ, ◌<◌, ◌≤◌, true, List, length, Some, None}
 use Rattle.lp_model.specs.Meaning.{meaning}
 use Rattle.lp_model.specs.Names.{names_of_rows, names_of_columns, WellNamed}
 use Rattle.lp_model.specs.Optimality.{Continuous}
 use Rattle.lp_model.specs.ProgramData.{ProgramData}
 use Rattle.lp_model.specs.Writable.{EntriesAscend, Writable}
-use Rattle.undo_records.specs.declared.label.Label.{Label}
 use Rattle.undo_records.specs.declared.undo.Undo.{Undo}
-use Rattle.undo_records.specs.Named.{AreNamed}
+use Rattle.undo_records.specs.Named.{AreNamed, live_names}
 use Rattle.undo_records.specs.Postsolve.{Postsolve}
 use Rattle.problem_model.specs.Programs.{IsProblemOf}
 use Rattle.problem_model.specs.Sparse.{Sparse}
@@ -26,6 +25,7 @@ use Rattle.presolve_model.specs.Ordered.{IsMadeInOrder, RunsTo}
 use Rattle.presolve_model.specs.Stuck.{IsUndecided, skipped_on, Stuck}
 use Rattle.presolve_model.specs.Tallies.{Open, open_by}
 use Rattle.presolve_model.specs.Telling.{names_in}
+use Rattle.presolve_model.specs.Workers.{IsInOrder, Workers}
 
 -- So many reductions were applied, and p is what is left. At a fixpoint there is room for more, and none that is open can be applied: those
 -- that are enabled are counted, and each has a number that is past or can't be written. At the limit there is no room, and no verdict is
@@ -37,11 +37,6 @@ TellsEndBy LimitReached options applied opens p = (applied ≡ options.limit) ×
 -- of these records, and of what they leave open
 abbrev pub TellsEnd : End → Options → List Undo → Sparse → Type 0
 TellsEnd ended options us p = TellsEndBy ended options (length us) (open_by us) p
-
--- the names of those that are live, in the same order
-abbrev pub live_names : List Label → List (List ℕ)
-live_names [] = []
-live_names (label ∷ labels) = if label.live then label.name ∷ live_names labels else live_names labels
 
 -- The records carry the program's sense and names, and the reduced program the names of what is live, in the same order.
 pub record CarriesNames (program reduced : ProgramData) (told : Postsolve) : Type 0 where
@@ -59,8 +54,9 @@ pub record HaveNames (program reduced : ProgramData) (told : Postsolve) : Type 0
   pub records : AreNamed told
 
 -- A program was reduced: the records walk from it to the reduced one, which they reduce it to, with duals too where no column has to be
--- whole, and the end is told of what was left; all of that as the ordered run has it. The reduced program can be written.
-pub record Concluded (options : Options) (program reduced : ProgramData) (told : Postsolve) (ended : End) : Type 0 where
+-- whole, and the end is told of what was left. The reduced program can be written. Where the workers' run is in order, all of that is as the
+-- ordered run has it.
+pub record Concluded (options : Options) (workers : Workers) (program reduced : ProgramData) (told : Postsolve) (ended : End) : Type 0 where
   pub walked : Walked options.numbers program reduced told
   pub reduces : ReducesTo program reduced told
   pub pairs : Continuous (meaning program) → ReducesPairsTo program reduced told
@@ -70,7 +66,7 @@ pub record Concluded (options : Options) (program reduced : ProgramData) (told :
   pub named : HaveNames program reduced told
   pub ascends : EntriesAscend reduced
   pub writable : Writable options.numbers reduced
-  pub ordered : IsMadeInOrder options program reduced told ended
+  pub ordered : IsInOrder workers → IsMadeInOrder options program reduced told ended
 
 -- the ordered run of the program ends with this verdict, after this history
 pub record IsDecidedInOrder (options : Options) (program : ProgramData) (history : List Reduction) (verdict : Verdict) : Type 0 where
@@ -80,12 +76,13 @@ pub record IsDecidedInOrder (options : Options) (program : ProgramData) (history
   pub closed : book.verdict ≡ Some verdict
 
 -- A program was decided: the reductions of the history can be applied one after the other, from the program's problem on, and the verdict
--- is enabled on what they leave. It means of the program what it says. All of that as the ordered run has it.
-pub record Decided (options : Options) (program : ProgramData) (history : List Reduction) (verdict : Verdict) : Type 0 where
+-- is enabled on what they leave. It means of the program what it says. Where the workers' run is in order, all of that is as the ordered run
+-- has it.
+pub record Decided (options : Options) (workers : Workers) (program : ProgramData) (history : List Reduction) (verdict : Verdict) : Type 0 where
   pub start : Sparse
   pub opened : IsProblemOf program start
   pub replays : Replays options.numbers start history
   pub within : length history ≤ options.limit
   pub enabled : enabled_on (replay start history) (at.Verdict verdict) ≡ true
   pub means : Meant verdict program.sense (meaning program)
-  pub ordered : IsDecidedInOrder options program history verdict
+  pub ordered : IsInOrder workers → IsDecidedInOrder options program history verdict

@@ -4,14 +4,14 @@ use Rattle.std.specs.List.{filter, range_with_len}
 use Rattle.lp_model.specs.declared.terms.Term.{Term}
 use Rattle.problem_model.specs.Problems.{column_entries, row_entries}
 use Rattle.problem_model.specs.Sparse.{Sparse}
-use Rattle.activity_laws.specs.TightenedBound.{bounds_of}
+use Rattle.activity_laws.specs.BoundTightening.{bounds_of}
 use Rattle.dual_laws.specs.DominatedColumn.{pairs_of}
 use Rattle.dual_laws.specs.declared.form.Form.{Form}
 use Rattle.dual_laws.specs.Forms.{LetsByCost, LetsInPairs}
 use Rattle.presolve_model.specs.declared.instance.Reduction.{Reduction}
-use Rattle.presolve_model.specs.declared.instance.Reduction.TheVariants.{EmptyRow, SingletonRow, FixedColumn, RoundBounds, RedundantRow, RedundantSide, ForcingRow, TightenedBound, TightenedCoefficient, FixedByCost, DominatedColumn, DoubletonEquation, FreeColumn, SlackColumn, ParallelRows, ParallelColumns, EmptyColumn}
+use Rattle.presolve_model.specs.declared.instance.Reduction.TheVariants.{EmptyRow, SingletonRow, FixedColumn, RoundedBounds, RedundantRow, RedundantSide, ForcingRow, BoundTightening, CoefficientTightening, DualFixing, DominatedColumn, DoubletonEquation, FreeColumnSingleton, SlackColumnSingleton, ParallelRows, ParallelColumns, EmptyColumn}
 use Rattle.presolve_model.specs.declared.instance.Verdict.{Verdict}
-use Rattle.presolve_model.specs.declared.instance.Verdict.TheVariants.{CrossedBounds, CrossedSides, OutOfReach, Ray}
+use Rattle.presolve_model.specs.declared.instance.Verdict.TheVariants.{CrossedBounds, CrossedSides, InfeasibleRow, UnboundedColumn}
 use Rattle.presolve_model.specs.declared.instance.Reach.{Reach}
 use Rattle.presolve_model.specs.declared.instance.Reach.TheVariants.{OwnRow, OwnColumn, RowsOfBounds, ColumnsOfSides, RowsOfBoth, SoleColumns, RowsBeside, ColumnsBeside}
 use Rattle.presolve_model.specs.declared.instance.Rule.{Rule}
@@ -34,22 +34,22 @@ sole_row other = []
 abbrev pub instances_from : Open → Sparse → Rule → ℕ → List Instance
 instances_from opens p rule.CrossedBounds j = at.Verdict (CrossedBounds j) ∷ []
 instances_from opens p rule.CrossedSides i = at.Verdict (CrossedSides i) ∷ []
-instances_from opens p rule.OutOfReach i = at.Verdict (OutOfReach i) ∷ []
-instances_from opens p rule.Ray j = at.Verdict (Ray j) ∷ []
+instances_from opens p rule.InfeasibleRow i = at.Verdict (InfeasibleRow i) ∷ []
+instances_from opens p rule.UnboundedColumn j = at.Verdict (UnboundedColumn j) ∷ []
 instances_from opens p rule.EmptyRow i = at.Reduction (EmptyRow i) ∷ []
 instances_from opens p rule.SingletonRow i = at.Reduction (SingletonRow i) ∷ []
 instances_from opens p rule.FixedColumn j = at.Reduction (FixedColumn j) ∷ []
-instances_from opens p rule.RoundBounds j = at.Reduction (RoundBounds j) ∷ []
+instances_from opens p rule.RoundedBounds j = at.Reduction (RoundedBounds j) ∷ []
 instances_from opens p rule.RedundantRow i = at.Reduction (RedundantRow i) ∷ []
 instances_from opens p rule.RedundantSide i = at.Reduction (RedundantSide i) ∷ []
 instances_from opens p rule.ForcingRow i = at.Reduction (ForcingRow i) ∷ []
-instances_from opens p rule.TightenedBound i = map (λ x. at.Reduction (TightenedBound i x.0 x.1)) (filter (λ x. opens x.0 x.1) (bounds_of (row_entries p i)))
-instances_from opens p rule.TightenedCoefficient i = map (λ j. at.Reduction (TightenedCoefficient i j)) (map (λ t. t.id) (row_entries p i))
-instances_from opens p rule.FixedByCost j = at.Reduction (FixedByCost j) ∷ []
+instances_from opens p rule.BoundTightening i = map (λ x. at.Reduction (BoundTightening i x.0 x.1)) (filter (λ x. opens x.0 x.1) (bounds_of (row_entries p i)))
+instances_from opens p rule.CoefficientTightening i = map (λ j. at.Reduction (CoefficientTightening i j)) (map (λ t. t.id) (row_entries p i))
+instances_from opens p rule.DualFixing j = at.Reduction (DualFixing j) ∷ []
 instances_from opens p rule.DominatedColumn i = map (λ x. at.Reduction (DominatedColumn i x.0 x.1)) (pairs_of (row_entries p i))
 instances_from opens p rule.DoubletonEquation i = map (λ x. at.Reduction (DoubletonEquation i x.0 x.1)) (both_orders (row_entries p i))
-instances_from opens p rule.FreeColumn j = map (λ i. at.Reduction (FreeColumn j i)) (sole_row (column_entries p j))
-instances_from opens p rule.SlackColumn j = map (λ i. at.Reduction (SlackColumn j i)) (sole_row (column_entries p j))
+instances_from opens p rule.FreeColumnSingleton j = map (λ i. at.Reduction (FreeColumnSingleton j i)) (sole_row (column_entries p j))
+instances_from opens p rule.SlackColumnSingleton j = map (λ i. at.Reduction (SlackColumnSingleton j i)) (sole_row (column_entries p j))
 instances_from opens p rule.ParallelRows i = map (λ k. at.Reduction (ParallelRows i k)) (range_with_len 0 (length p.matrix.rows))
 instances_from opens p rule.ParallelColumns j = map (λ k. at.Reduction (ParallelColumns j k)) (range_with_len 0 (length p.matrix.columns))
 instances_from opens p rule.EmptyColumn j = at.Reduction (EmptyColumn j) ∷ []
@@ -58,22 +58,22 @@ instances_from opens p rule.EmptyColumn j = at.Reduction (EmptyColumn j) ∷ []
 abbrev pub reach_of : Rule → Reach
 reach_of rule.CrossedBounds = OwnColumn
 reach_of rule.CrossedSides = OwnRow
-reach_of rule.OutOfReach = RowsOfBounds
-reach_of rule.Ray = ColumnsOfSides
+reach_of rule.InfeasibleRow = RowsOfBounds
+reach_of rule.UnboundedColumn = ColumnsOfSides
 reach_of rule.EmptyRow = OwnRow
 reach_of rule.SingletonRow = OwnRow
 reach_of rule.FixedColumn = OwnColumn
-reach_of rule.RoundBounds = OwnColumn
+reach_of rule.RoundedBounds = OwnColumn
 reach_of rule.RedundantRow = RowsOfBounds
 reach_of rule.RedundantSide = RowsOfBounds
 reach_of rule.ForcingRow = RowsOfBounds
-reach_of rule.TightenedBound = RowsOfBounds
-reach_of rule.TightenedCoefficient = RowsOfBounds
-reach_of rule.FixedByCost = ColumnsOfSides
+reach_of rule.BoundTightening = RowsOfBounds
+reach_of rule.CoefficientTightening = RowsOfBounds
+reach_of rule.DualFixing = ColumnsOfSides
 reach_of rule.DominatedColumn = RowsOfBoth
 reach_of rule.DoubletonEquation = RowsOfBounds
-reach_of rule.FreeColumn = SoleColumns
-reach_of rule.SlackColumn = SoleColumns
+reach_of rule.FreeColumnSingleton = SoleColumns
+reach_of rule.SlackColumnSingleton = SoleColumns
 reach_of rule.ParallelRows = RowsBeside
 reach_of rule.ParallelColumns = ColumnsBeside
 reach_of rule.EmptyColumn = OwnColumn
@@ -119,30 +119,30 @@ lets_by ColumnsBeside f g = f ≡ g
 abbrev pub rests_on_reading : Rule → Bool
 rests_on_reading rule.CrossedBounds = false
 rests_on_reading rule.CrossedSides = false
-rests_on_reading rule.OutOfReach = false
-rests_on_reading rule.Ray = false
+rests_on_reading rule.InfeasibleRow = false
+rests_on_reading rule.UnboundedColumn = false
 rests_on_reading rule.EmptyRow = false
 rests_on_reading rule.SingletonRow = false
 rests_on_reading rule.FixedColumn = false
-rests_on_reading rule.RoundBounds = true
+rests_on_reading rule.RoundedBounds = true
 rests_on_reading rule.RedundantRow = false
 rests_on_reading rule.RedundantSide = false
 rests_on_reading rule.ForcingRow = false
-rests_on_reading rule.TightenedBound = true
-rests_on_reading rule.TightenedCoefficient = true
-rests_on_reading rule.FixedByCost = false
+rests_on_reading rule.BoundTightening = true
+rests_on_reading rule.CoefficientTightening = true
+rests_on_reading rule.DualFixing = false
 rests_on_reading rule.DominatedColumn = false
 rests_on_reading rule.DoubletonEquation = false
-rests_on_reading rule.FreeColumn = false
-rests_on_reading rule.SlackColumn = false
+rests_on_reading rule.FreeColumnSingleton = false
+rests_on_reading rule.SlackColumnSingleton = false
 rests_on_reading rule.ParallelRows = false
 rests_on_reading rule.ParallelColumns = false
 rests_on_reading rule.EmptyColumn = false
 
 -- whether all instances of a rule with a first id read the same parts, so that the first one that is applied leaves the others stale
 abbrev pub shares_reading : Rule → Bool
-shares_reading rule.TightenedBound = true
-shares_reading rule.TightenedCoefficient = true
+shares_reading rule.BoundTightening = true
+shares_reading rule.CoefficientTightening = true
 shares_reading other = false
 
 -- whether its instances are lines that are multiples of one another
@@ -164,17 +164,17 @@ abbrev pub rule_of : Reduction → Rule
 rule_of (EmptyRow i) = rule.EmptyRow
 rule_of (SingletonRow i) = rule.SingletonRow
 rule_of (FixedColumn j) = rule.FixedColumn
-rule_of (RoundBounds j) = rule.RoundBounds
+rule_of (RoundedBounds j) = rule.RoundedBounds
 rule_of (RedundantRow i) = rule.RedundantRow
 rule_of (RedundantSide i) = rule.RedundantSide
 rule_of (ForcingRow i) = rule.ForcingRow
-rule_of (TightenedBound i j side) = rule.TightenedBound
-rule_of (TightenedCoefficient i j) = rule.TightenedCoefficient
-rule_of (FixedByCost j) = rule.FixedByCost
+rule_of (BoundTightening i j side) = rule.BoundTightening
+rule_of (CoefficientTightening i j) = rule.CoefficientTightening
+rule_of (DualFixing j) = rule.DualFixing
 rule_of (DominatedColumn i j k) = rule.DominatedColumn
 rule_of (DoubletonEquation i j k) = rule.DoubletonEquation
-rule_of (FreeColumn j i) = rule.FreeColumn
-rule_of (SlackColumn j i) = rule.SlackColumn
+rule_of (FreeColumnSingleton j i) = rule.FreeColumnSingleton
+rule_of (SlackColumnSingleton j i) = rule.SlackColumnSingleton
 rule_of (ParallelRows i k) = rule.ParallelRows
 rule_of (ParallelColumns j k) = rule.ParallelColumns
 rule_of (EmptyColumn j) = rule.EmptyColumn
@@ -183,17 +183,17 @@ abbrev pub first_id : Reduction → ℕ
 first_id (EmptyRow i) = i
 first_id (SingletonRow i) = i
 first_id (FixedColumn j) = j
-first_id (RoundBounds j) = j
+first_id (RoundedBounds j) = j
 first_id (RedundantRow i) = i
 first_id (RedundantSide i) = i
 first_id (ForcingRow i) = i
-first_id (TightenedBound i j side) = i
-first_id (TightenedCoefficient i j) = i
-first_id (FixedByCost j) = j
+first_id (BoundTightening i j side) = i
+first_id (CoefficientTightening i j) = i
+first_id (DualFixing j) = j
 first_id (DominatedColumn i j k) = i
 first_id (DoubletonEquation i j k) = i
-first_id (FreeColumn j i) = j
-first_id (SlackColumn j i) = j
+first_id (FreeColumnSingleton j i) = j
+first_id (SlackColumnSingleton j i) = j
 first_id (ParallelRows i k) = i
 first_id (ParallelColumns j k) = j
 first_id (EmptyColumn j) = j
@@ -201,14 +201,14 @@ first_id (EmptyColumn j) = j
 abbrev pub verdict_rule : Verdict → Rule
 verdict_rule (CrossedBounds j) = rule.CrossedBounds
 verdict_rule (CrossedSides i) = rule.CrossedSides
-verdict_rule (OutOfReach i) = rule.OutOfReach
-verdict_rule (Ray j) = rule.Ray
+verdict_rule (InfeasibleRow i) = rule.InfeasibleRow
+verdict_rule (UnboundedColumn j) = rule.UnboundedColumn
 
 abbrev pub verdict_id : Verdict → ℕ
 verdict_id (CrossedBounds j) = j
 verdict_id (CrossedSides i) = i
-verdict_id (OutOfReach i) = i
-verdict_id (Ray j) = j
+verdict_id (InfeasibleRow i) = i
+verdict_id (UnboundedColumn j) = j
 
 abbrev pub rule_at : Instance → Rule
 rule_at (at.Reduction r) = rule_of r
@@ -221,10 +221,10 @@ id_at (at.Verdict v) = verdict_id v
 -- ---- counts
 -- one that tightens a bound is open where that bound may be tightened; every other one is
 abbrev pub is_open : Open → Instance → Bool
-is_open opens (at.Reduction (TightenedBound i j side)) = opens j side
+is_open opens (at.Reduction (BoundTightening i j side)) = opens j side
 is_open opens other = true
 
 -- the counts after a reduction
 abbrev pub tallied : Reduction → Counts → Counts
-tallied (TightenedBound i j side) c = counted c j side
+tallied (BoundTightening i j side) c = counted c j side
 tallied other c = c

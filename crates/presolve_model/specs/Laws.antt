@@ -6,7 +6,7 @@ use Rattle.lp_model.specs.declared.program.Sense.TheVariants.{Min}
 use Rattle.lp_model.specs.Optimality.{Continuous}
 use Rattle.lp_model.specs.Reductions.{Reduces, ReducesPairs}
 use Rattle.undo_records.specs.Lift.{lift}
-use Rattle.postsolve_dual.specs.LiftPair.{lift_pair}
+use Rattle.undo_pairs.specs.LiftPair.{lift_pair}
 use Rattle.problem_model.specs.Sparse.{Sparse}
 use Rattle.problem_model.specs.Problems.{IsSparse}
 use Rattle.problem_model.specs.Showing.{shown}

@@ -15,6 +15,7 @@ pub mod Laws
 pub mod Stuck
 pub mod Accounts
 pub mod Worlds
+pub mod Workers
 pub mod Conclusions
 pub mod Telling
 pub mod Ordered

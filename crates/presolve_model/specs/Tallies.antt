@@ -47,7 +47,7 @@ same_side Upper Upper = true
 
 -- whether a record is that of a bound tightened on this side of this column
 abbrev pub is_tightening : ℕ → Side → Undo → Bool
-is_tightening j side (undo.TightenBound r) = nat_eq r.column j && same_side r.side side
+is_tightening j side (undo.BoundTightening r) = nat_eq r.column j && same_side r.side side
 is_tightening j side other = false
 
 -- how many are

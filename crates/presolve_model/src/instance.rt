@@ -10,9 +10,9 @@ pub enum Rule {
     /// V1 of rows: crossed sides.
     CrossedSides,
     /// V2: a row of which a side is out of reach of its columns' bounds.
-    OutOfReach,
+    InfeasibleRow,
     /// V3: a column that can move without end, which pays.
-    Ray,
+    UnboundedColumn,
     /// K1: a row without entries is deleted.
     EmptyRow,
     /// K2: a row with one entry becomes bounds of that entry's column.
@@ -20,7 +20,7 @@ pub enum Rule {
     /// K3: a column with equal bounds is put into the sides of its rows.
     FixedColumn,
     /// K4: the bounds of a whole column are rounded inwards.
-    RoundBounds,
+    RoundedBounds,
     /// K5: a row whose sides its columns' bounds keep is deleted.
     RedundantRow,
     /// K6: of two sides of a row the one that its columns' bounds keep becomes infinite.
@@ -28,19 +28,19 @@ pub enum Rule {
     /// K7: a row that only just reaches a side is deleted, and its columns are fixed at the ends that reach it.
     ForcingRow,
     /// K8: a bound of a column becomes the one that a row implies with the bounds of its other columns.
-    TightenedBound,
+    BoundTightening,
     /// K9: the coefficient of a whole column in a row with one side comes closer to 0, and the side moves with it.
-    TightenedCoefficient,
+    CoefficientTightening,
     /// K10: a column that no row locks where it costs least is fixed there.
-    FixedByCost,
+    DualFixing,
     /// K11: a column that another one can stand in for stays at its lower bound.
     DominatedColumn,
     /// K12: a column of an equation of two is put elsewhere by the other one.
     DoubletonEquation,
     /// K13: a continuous column with one entry, whose bounds its row implies, leaves with the row.
-    FreeColumn,
+    FreeColumnSingleton,
     /// K14: a continuous column with one entry leaves as a slack of its row.
-    SlackColumn,
+    SlackColumnSingleton,
     /// K15: a row that is a multiple of another one gives its sides to it.
     ParallelRows,
     /// K16: a column that is a multiple of another one joins it.
@@ -82,7 +82,7 @@ pub enum Reduction {
     /// K3.
     FixedColumn { column: u32 },
     /// K4.
-    RoundBounds { column: u32 },
+    RoundedBounds { column: u32 },
     /// K5.
     RedundantRow { row: u32 },
     /// K6.
@@ -90,19 +90,19 @@ pub enum Reduction {
     /// K7.
     ForcingRow { row: u32 },
     /// K8: the bound on a side of `column`, by `row`.
-    TightenedBound { row: u32, column: u32, side: Side },
+    BoundTightening { row: u32, column: u32, side: Side },
     /// K9: the coefficient of `column` in `row`.
-    TightenedCoefficient { row: u32, column: u32 },
+    CoefficientTightening { row: u32, column: u32 },
     /// K10.
-    FixedByCost { column: u32 },
+    DualFixing { column: u32 },
     /// K11: in a row that has both, `better` stands in for `column`.
     DominatedColumn { row: u32, better: u32, column: u32 },
     /// K12: `row` puts `other` in the place of `column`.
     DoubletonEquation { row: u32, column: u32, other: u32 },
     /// K13: `column` leaves with `row`.
-    FreeColumn { column: u32, row: u32 },
+    FreeColumnSingleton { column: u32, row: u32 },
     /// K14: `column` leaves as a slack of `row`.
-    SlackColumn { column: u32, row: u32 },
+    SlackColumnSingleton { column: u32, row: u32 },
     /// K15: `row` gives its sides to `other`.
     ParallelRows { row: u32, other: u32 },
     /// K16: `column` joins `other`.
@@ -119,9 +119,9 @@ pub enum Verdict {
     /// V1 at a row: no value is between its sides.
     CrossedSides { row: u32 },
     /// V2 at a row: no point within the bounds of its columns gives it a value between its sides.
-    OutOfReach { row: u32 },
+    InfeasibleRow { row: u32 },
     /// V3 at a column: each feasible point, if there is one, gives others of any cost.
-    Ray { column: u32 },
+    UnboundedColumn { column: u32 },
 }
 
 /// A rule at a row or a column.

@@ -15,7 +15,7 @@ ghost use Rattle.undo_records.specs.declared.undo.Undo.{Undo};
 ghost use Rattle.undo_records.specs.Lift.{undone};
 ghost use Rattle.undo_records.specs.Sound.{IsSound};
 ghost use Rattle.undo_records.specs.Walk.{NamesLive, after};
-ghost use Rattle.postsolve_dual.specs.LiftPair.{undone_pair};
+ghost use Rattle.undo_pairs.specs.LiftPair.{undone_pair};
 ghost use Rattle.problem_model.specs.declared.part.Part.{Part};
 ghost use Rattle.problem_model.specs.declared.part.Read.{Read};
 ghost use Rattle.problem_model.specs.Flags.{flags_of};

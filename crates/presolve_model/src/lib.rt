@@ -8,9 +8,11 @@ mod instance;
 pub mod laws;
 mod outcome;
 pub mod tightening;
+mod workers;
 
 pub use conclusion::{End, Options};
 pub use instance::{Instance, Reach, Reduction, Rule, Verdict};
 pub use outcome::Outcome;
 pub use problem_model::{Bounds, Contents, Edit, Line, Part, Read, Refusal, Sides};
 pub use undo_records::Side;
+pub use workers::Workers;

@@ -9,24 +9,24 @@ ghost use Rattle.problem_model.specs.Problems.{IsSparse};
 ghost use Rattle.problem_model.specs.Raised.{risen};
 ghost use Rattle.problem_model.specs.Sparse.{Sparse};
 ghost use Rattle.presolve_model.specs.declared.instance.Instance.TheVariants as at;
-ghost use Rattle.presolve_model.specs.declared.instance.Reduction.TheVariants.{TightenedBound, TightenedCoefficient};
+ghost use Rattle.presolve_model.specs.declared.instance.Reduction.TheVariants.{BoundTightening, CoefficientTightening};
 ghost use Rattle.presolve_model.specs.Changes.{changed};
 ghost use Rattle.presolve_model.specs.Enabled.{enabled_on, reads};
 
 /// Each tightened bound is another one, so the number of changes of the column's bounds rises; these are read; and all that a row tightens
 /// read the same parts.
-pub fn tightened_bounds_change()
-    ensures differ { (p : Sparse) (i j : ℕ) (side : Side) → IsSparse p → enabled_on p (at.Reduction (TightenedBound i j side)) ≡ true → contents_of (changed (TightenedBound i j side) p) (part.Bounds j) ≢ contents_of p (part.Bounds j) }
-    ensures rise { (p : Sparse) (i j : ℕ) (side : Side) → IsSparse p → enabled_on p (at.Reduction (TightenedBound i j side)) ≡ true → changes_of (changed (TightenedBound i j side) p) (part.Bounds j) ≡ risen (changes_of p (part.Bounds j)) }
-    ensures read { (p : Sparse) (i j : ℕ) (side : Side) → enabled_on p (at.Reduction (TightenedBound i j side)) ≡ true → Contains (reads p (at.Reduction (TightenedBound i j side))) (part.Bounds j) }
-    ensures alike { (p : Sparse) (i j k : ℕ) (side other : Side) → reads p (at.Reduction (TightenedBound i j side)) ≡ reads p (at.Reduction (TightenedBound i k other)) }
+pub fn bound_tightenings_change()
+    ensures differ { (p : Sparse) (i j : ℕ) (side : Side) → IsSparse p → enabled_on p (at.Reduction (BoundTightening i j side)) ≡ true → contents_of (changed (BoundTightening i j side) p) (part.Bounds j) ≢ contents_of p (part.Bounds j) }
+    ensures rise { (p : Sparse) (i j : ℕ) (side : Side) → IsSparse p → enabled_on p (at.Reduction (BoundTightening i j side)) ≡ true → changes_of (changed (BoundTightening i j side) p) (part.Bounds j) ≡ risen (changes_of p (part.Bounds j)) }
+    ensures read { (p : Sparse) (i j : ℕ) (side : Side) → enabled_on p (at.Reduction (BoundTightening i j side)) ≡ true → Contains (reads p (at.Reduction (BoundTightening i j side))) (part.Bounds j) }
+    ensures alike { (p : Sparse) (i j k : ℕ) (side other : Side) → reads p (at.Reduction (BoundTightening i j side)) ≡ reads p (at.Reduction (BoundTightening i k other)) }
 {}
 
 /// With each tightened coefficient the row holds another one, so the number of changes of the row rises; the row is read; and all
 /// coefficients of a row are tightened by what is read of the same parts.
-pub fn tightened_coefficients_change()
-    ensures differ { (p : Sparse) (i j : ℕ) → IsSparse p → enabled_on p (at.Reduction (TightenedCoefficient i j)) ≡ true → contents_of (changed (TightenedCoefficient i j) p) (part.Row i) ≢ contents_of p (part.Row i) }
-    ensures rise { (p : Sparse) (i j : ℕ) → IsSparse p → enabled_on p (at.Reduction (TightenedCoefficient i j)) ≡ true → changes_of (changed (TightenedCoefficient i j) p) (part.Row i) ≡ risen (changes_of p (part.Row i)) }
-    ensures read { (p : Sparse) (i j : ℕ) → Contains (reads p (at.Reduction (TightenedCoefficient i j))) (part.Row i) }
-    ensures alike { (p : Sparse) (i j k : ℕ) → reads p (at.Reduction (TightenedCoefficient i j)) ≡ reads p (at.Reduction (TightenedCoefficient i k)) }
+pub fn coefficient_tightenings_change()
+    ensures differ { (p : Sparse) (i j : ℕ) → IsSparse p → enabled_on p (at.Reduction (CoefficientTightening i j)) ≡ true → contents_of (changed (CoefficientTightening i j) p) (part.Row i) ≢ contents_of p (part.Row i) }
+    ensures rise { (p : Sparse) (i j : ℕ) → IsSparse p → enabled_on p (at.Reduction (CoefficientTightening i j)) ≡ true → changes_of (changed (CoefficientTightening i j) p) (part.Row i) ≡ risen (changes_of p (part.Row i)) }
+    ensures read { (p : Sparse) (i j : ℕ) → Contains (reads p (at.Reduction (CoefficientTightening i j))) (part.Row i) }
+    ensures alike { (p : Sparse) (i j k : ℕ) → reads p (at.Reduction (CoefficientTightening i j)) ≡ reads p (at.Reduction (CoefficientTightening i k)) }
 {}

@@ -1,18 +1,17 @@
 -- Lines of a group in place of all lines.
-use Rattle.std.proofs.Common.{◌≡◌, ◌⊎◌, ℕ, suc, ◌<◌, true, false, List, [], ◌∷◌, ◌++◌, length, map, refl, sym, ap, ◌∙◌, subst, arith, true≢false}
+use Rattle.std.proofs.Common.{◌≡◌, ℕ, ◌<◌, true, false, List, [], ◌∷◌, length, map, refl, sym, ap, ◌∙◌, subst, arith, true≢false}
 use Rattle.std.specs.List.{Contains, filter}
-use Rattle.problem_model.specs.Problems.{column_at, row_at}
 use Rattle.problem_model.specs.Sparse.{Sparse}
-use Rattle.parallel_column_laws.proofs.ParallelColumns as parallel_columns
-use Rattle.parallel_row_laws.proofs.ParallelRows as parallel_rows
+use Rattle.parallel_laws.proofs.ParallelColumns as parallel_columns
+use Rattle.parallel_laws.proofs.ParallelRows as parallel_rows
 use Rattle.line_groups.specs.Groups.{AreGroupsOf, LineGroups}
 use Rattle.presolve_model.specs.declared.instance.Instance.{Instance}
 use Rattle.presolve_model.specs.declared.instance.Rule.{Rule}
 use Rattle.presolve_model.specs.declared.instance.Rule.TheVariants as rule
 use Rattle.presolve_model.specs.Enabled.{enabled_on}
-use Rattle.presolve_model.specs.Instances.{beside_at, goes_by_form, goes_by_groups, instances_from, reach_of, rule_at}
-use Rattle.presolve_model.specs.Ledger.{Ledger}
-use Rattle.presolve_model.specs.Tallies.{Open, open_on}
+use Rattle.presolve_model.specs.Instances.{beside_at, goes_by_form, goes_by_groups, instances_from, reach_of}
+use Rattle.presolve_model.specs.Ledger.{instance_count, Ledger}
+use Rattle.presolve_model.specs.Tallies.{open_on}
 use Rattle.presolve_model.proofs.Lists.{contains_filter}
 use Rattle.instances.specs.Beside.{ids_beside}
 use Rattle.instances.proofs.Beside.{lines_beside}
@@ -39,7 +38,7 @@ by_value r t = absurd (true≢false (sym t))
 -- those at the lines of the group are those at all lines
 pub passed_lines : (a : Ledger) (g : LineGroups) (r : Rule) (i : ℕ) (w v : Watched) (b c : Ledger) → AreGroupsOf g a.problem → goes_by_groups r ≡ true → IsGoing a w b → IsPassed a (map (beside_at r i) (ids_beside g r i)) w b v c → IsPassed a (instances_from (open_on a.tally) a.problem r i) w b v c
 passed_lines a g r i w v b c told t going h = record {
-  passed = passed_beside (open_on a.tally) a.problem all some w.marks v.marks b c going.follows same among (λ x there. ap (λ (s : Rule). goes_by_form (reach_of s)) (from_is (open_on a.tally) a.problem r i x there).0 ∙ by_value r t) going.noted h.passed;
+  passed = passed_beside (open_on a.tally) a.problem (instance_count a) all some w.marks v.marks b c going.follows same among (λ x there. ap (λ (s : Rule). goes_by_form (reach_of s)) (from_is (open_on a.tally) a.problem r i x there).0 ∙ by_value r t) going.noted h.passed;
   forms = h.forms;
 }
   where
@@ -76,7 +75,7 @@ underway_none a r i all w b (k ∷ ks) v c l h = absurd (omega (arith, l))
 -- where the line is gone none of the others is enabled
 pub underway_gone : (a : Ledger) (r : Rule) (i : ℕ) (all : List Instance) (w : Watched) (b : Ledger) (rest : List ℕ) (v : Watched) (c : Ledger) → has_line c.problem r i ≡ false → IsUnderway a all w b (map (beside_at r i) rest) v c → IsPassed a all w b v c
 underway_gone a r i all w b rest v c off h = h.leads v c (record {
-  passed = passed_gone (open_on a.tally) a.problem v.marks c h.going.follows (map (beside_at r i) rest)
+  passed = passed_gone (open_on a.tally) a.problem (instance_count a) v.marks c h.going.follows (map (beside_at r i) rest)
       (λ x there. each_mapped (λ (y : Instance). enabled_on c.problem y ≡ true → ⊥) (beside_at r i) rest x (λ k d on. true≢false (sym (line_there c.problem r i k on) ∙ off)) there);
   forms = h.going.forms;
 })

@@ -33,9 +33,11 @@ use Rattle.run_laws.proofs.Telling.{problem_is_of, program_ascends, program_writ
 use Rattle.presolve_model.specs.declared.conclusion.End.{End}
 use Rattle.presolve_model.specs.declared.conclusion.End.TheVariants.{Fixpoint, LimitReached}
 use Rattle.presolve_model.specs.declared.conclusion.Options.{Options}
-use Rattle.presolve_model.specs.Conclusions.{Concluded, HaveNames, live_names, TellsEnd}
+use Rattle.undo_records.specs.Named.{live_names}
+use Rattle.presolve_model.specs.Conclusions.{Concluded, HaveNames, TellsEnd}
 use Rattle.presolve_model.specs.Telling.{names_in}
 use Rattle.presolve_model.specs.Ordered.{Ordered, new_book, options_of, RunsTo}
+use Rattle.presolve_model.specs.Workers.{IsInOrder, Workers}
 use Rattle.presolve_rounds.specs.Running.{EndsWith}
 
 -- ---- names
@@ -70,10 +72,10 @@ undecided_at (Fixpoint n) b h = h.1.undecided
 undecided_at LimitReached b h = h.1
 
 -- ---- all of it
-pub concluded : (dual : Bool) (program : ProgramData) (b : Ledger) (told : Postsolve) (e : End) → EntriesAscend program → Writable b.numbers program → IsProblemOf program b.start → Stands b → EndsWith (Some e) b → IsToldOf dual program b told
-    → HaveNames program (written_program program b.problem) told → RunsTo (options_of dual b) program (Some e) b
-    → Concluded (options_of dual b) program (written_program program b.problem) told e
-concluded dual program b told e ascends writes o s h t named runs =
+pub concluded : (dual : Bool) (workers : Workers) (program : ProgramData) (b : Ledger) (told : Postsolve) (e : End) → EntriesAscend program → Writable b.numbers program → IsProblemOf program b.start → Stands b → EndsWith (Some e) b → IsToldOf dual program b told
+    → HaveNames program (written_program program b.problem) told → (IsInOrder workers → RunsTo (options_of dual b) program (Some e) b)
+    → Concluded (options_of dual b) workers program (written_program program b.problem) told e
+concluded dual workers program b told e ascends writes o s h t named runs =
     let is : IsOf program b.problem = problem_is_of program b o s in
     let sparse : IsSparse b.problem = subst IsSparse (sym s.problem) (sparse_replay b.numbers b.start b.history s.sound s.replays) in
     record {
@@ -93,7 +95,7 @@ concluded dual program b told e ascends writes o s h t named runs =
       named = named;
       ascends = program_ascends program b o s;
       writable = program_written program b writes o s (undecided_at e b h);
-      ordered = record { book = b; runs = runs; written = refl; tells = t };
+      ordered = λ on. record { book = b; runs = runs on; written = refl; tells = t };
     }
 
 -- options with these numbers and this limit

@@ -1,4 +1,5 @@
 pub mod Concluding
+pub mod Sources
 pub mod Running
 pub mod Sharing
 pub mod Beside

@@ -22,7 +22,7 @@ use Rattle.presolve_model.specs.declared.outcome.Outcome.{Outcome}
 use Rattle.presolve_model.specs.declared.outcome.Outcome.TheVariants.{NoMemory}
 use Rattle.presolve_model.specs.Commits.{Allows, left_by, with_instance}
 use Rattle.presolve_model.specs.Enabled.{enabled_on}
-use Rattle.presolve_model.specs.Ledger.{Ledger, Stands}
+use Rattle.presolve_model.specs.Ledger.{instance_count, Ledger, Stands}
 use Rattle.presolve_model.specs.Order.{verdict_order}
 use Rattle.presolve_model.specs.Ordered.{Closes, Committed, enabled_verdicts, Ordered, round_list}
 use Rattle.presolve_model.specs.Scans.{all_ids, all_of, instances_at, proposal_of}
@@ -124,7 +124,7 @@ over_stirred p q n ColumnsBeside k a h = record { stirred = h.stirred; roused = 
 -- a stale instance is left over
 pub stale_left : (f : Ledger) (w v : Watched) (b : Ledger) (e : Instance) (a : Part) → IsGoing f w b → (IsFresh f.problem b.problem e → ⊥) → v ≡ record { marks = left_over w.marks e a; forms = w.forms } → Contains (heads e) a → IsPassed f (e ∷ []) w b v b
 stale_left f w v b e a going stale is own = subst (λ (x : Watched). IsPassed f (e ∷ []) w b x b) (sym is) (record {
-  passed = met_stale (open_on f.tally) f.problem w.marks (left_over w.marks e a) b e a going.follows stale (over_grows (reach_of (rule_at e)) w.marks a) own (over_counts (reach_of (rule_at e)) w.marks a);
+  passed = met_stale (open_on f.tally) f.problem (instance_count f) w.marks (left_over w.marks e a) b e a going.follows stale (over_grows (reach_of (rule_at e)) w.marks a) own (over_counts (reach_of (rule_at e)) w.marks a);
   forms = going.forms;
 })
 
@@ -136,15 +136,15 @@ module _ (opens : Open) (f : Sparse) (w : ℕ) (n k m : Marks) (b c : Ledger) (e
   sleeps_still x d = subst (λ (xs : List Part). Contains xs x) (sym asleep) d
 
   -- it is left over
-  met_left : Passed opens f (e ∷ []) n b (left_over k e a) c
+  met_left : Passed opens f w (e ∷ []) n b (left_over k e a) c
   met_left = let r : Reach = reach_of (rule_at e) in
       met opens f w n (left_for r k a) b c e o a h fresh on answered allows left (over_noted b.problem c.problem n.noted r k a noted) (over_stirred b.problem c.problem n r k a stirred)
       (λ x d. (over_grows r k a).asleep x (sleeps_still x d)) own (over_counts r k a)
 
-  pub met_marked : m ≡ marked k e o a → Passed opens f (e ∷ []) n b m c
-  met_marked is = subst (λ (x : Marks). Passed opens f (e ∷ []) n b x c) (sym is) (by (is_refusal o) (rests_on_reading (rule_at e)) refl refl)
+  pub met_marked : m ≡ marked k e o a → Passed opens f w (e ∷ []) n b m c
+  met_marked is = subst (λ (x : Marks). Passed opens f w (e ∷ []) n b x c) (sym is) (by (is_refusal o) (rests_on_reading (rule_at e)) refl refl)
     where
-      by : (s t : Bool) → is_refusal o ≡ s → rests_on_reading (rule_at e) ≡ t → Passed opens f (e ∷ []) n b (if s && t then record k { asleep = k.asleep ++ a ∷ [] } else left_over k e a) c
+      by : (s t : Bool) → is_refusal o ≡ s → rests_on_reading (rule_at e) ≡ t → Passed opens f w (e ∷ []) n b (if s && t then record k { asleep = k.asleep ++ a ∷ [] } else left_over k e a) c
       by true true refused rests = met_asleep opens f w n (record k { asleep = k.asleep ++ a ∷ [] }) b c e o a h fresh on refused rests allows left
           (record { noted = noted.kept; stirred = stirred.stirred.kept; roused = stirred.roused.kept; asleep = λ x d. (more_in k.asleep a).0 x (sleeps_still x d) }) own (more_in k.asleep a).1
       by true false refused rests = met_left
@@ -284,10 +284,10 @@ flat_both g (x ∷ xs) ys = ap (λ (es : List Instance). g x ++ es) (flat_both g
 
 -- one pass after another
 pub both_passed : (a : Ledger) (es fs : List Instance) (w v u : Watched) (b c d : Ledger) → IsPassed a es w b v c → IsPassed a fs v c u d → IsPassed a (es ++ fs) w b u d
-both_passed a es fs w v u b c d h k = record { passed = passed_on (open_on a.tally) a.problem es fs w.marks v.marks u.marks b c d h.passed k.passed; forms = k.forms }
+both_passed a es fs w v u b c d h k = record { passed = passed_on (open_on a.tally) a.problem (instance_count a) es fs w.marks v.marks u.marks b c d h.passed k.passed; forms = k.forms }
 
 pub none_passed : (a : Ledger) (w : Watched) (b : Ledger) → IsGoing a w b → IsPassed a [] w b w b
-none_passed a w b h = record { passed = passed_none (open_on a.tally) a.problem w.marks b h.follows; forms = h.forms }
+none_passed a w b h = record { passed = passed_none (open_on a.tally) a.problem (instance_count a) w.marks b h.follows; forms = h.forms }
 
 pub goes_on : (a : Ledger) (es : List Instance) (w v : Watched) (b c : Ledger) → IsGoing a w b → IsPassed a es w b v c → IsGoing a v c
 goes_on a es w v b c going h = record { began = going.began; follows = h.passed.follows; forms = h.forms; noted = λ x. after x (going.noted x) (h.passed.moved x) }

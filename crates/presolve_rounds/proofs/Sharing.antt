@@ -12,7 +12,7 @@ use Rattle.presolve_model.specs.declared.outcome.Outcome.TheVariants.{Closed, Fu
 use Rattle.presolve_model.specs.Commits.{Allows, left_by}
 use Rattle.presolve_model.specs.Enabled.{enabled_on}
 use Rattle.presolve_model.specs.Instances.{instances_from, reach_of, rule_at, shares_reading}
-use Rattle.presolve_model.specs.Ledger.{Ledger}
+use Rattle.presolve_model.specs.Ledger.{instance_count, Ledger}
 use Rattle.presolve_model.specs.Scans.{proposal_of}
 use Rattle.presolve_model.specs.Tables.{heads}
 use Rattle.presolve_model.specs.Tallies.{Open, open_on}
@@ -61,7 +61,7 @@ all_fresh a b e es h there fresh x c = fresh_alike a.problem b.problem e x es (h
 pub all_stale : (a : Ledger) (w v : Watched) (b : Ledger) (e : Instance) (es : List Instance) (p : Part) → IsGoing a w b → AreAlike b es → Contains es e → (IsFresh a.problem b.problem e → ⊥) → v ≡ record { marks = left_over w.marks e p; forms = w.forms } → Contains (heads e) p
     → IsPassed a es w b v b
 all_stale a w v b e es p going h there stale is own = subst (λ (x : Watched). IsPassed a es w b x b) (sym is) (record {
-  passed = row_stale (open_on a.tally) a.problem w.marks (left_over w.marks e p) b e es p going.follows stale (h.alike e there) (over_grows (reach_of (rule_at e)) w.marks p) own noted;
+  passed = row_stale (open_on a.tally) a.problem (instance_count a) w.marks (left_over w.marks e p) b e es p going.follows stale (h.alike e there) (over_grows (reach_of (rule_at e)) w.marks p) own noted;
   forms = going.forms;
 })
   where
@@ -80,21 +80,22 @@ not_applied b c w e NoMemory left n = left
 
 module _ (opens : Open) (f : Sparse) (w : ℕ) (n k : Marks) (b c : Ledger) (p : Part) (es : List Instance) (h : Follows opens f b) (noted : AreNoted b.problem c.problem n.noted k.noted) where
   stopped_at : (e : Instance) (place : ℕ) → IsFresh f b.problem e → enabled_on b.problem e ≡ true → shares_reading (rule_at e) ≡ true → Allows b (proposal_of b.problem w e) (Applied place) → c ≡ left_by b (proposal_of b.problem w e) (Applied place) → ReadAlike e es
-      → Passed opens f es (left_over k e p) c (left_over k e p) c
-  stopped_at (at.Reduction r) place fresh on shares ok left alike = row_stopped opens f n (left_over k (at.Reduction r) p) b c r es h fresh on shares ok.0.room left (over_noted b.problem c.problem n.noted (reach_of (rule_at (at.Reduction r))) k p noted) alike
+      → Passed opens f w es (left_over k e p) c (left_over k e p) c
+  stopped_at (at.Reduction r) place fresh on shares ok left alike = row_stopped opens f w n (left_over k (at.Reduction r) p) b c r es h fresh on shares ok.0.room left (over_noted b.problem c.problem n.noted (reach_of (rule_at (at.Reduction r))) k p noted) alike
   stopped_at (at.Verdict v) place fresh on shares ok left alike = absurd (verdicts_share_none v shares)
 
   stopped : (e : Instance) (o : Outcome) → IsFresh f b.problem e → enabled_on b.problem e ≡ true → Allows b (proposal_of b.problem w e) o → c ≡ left_by b (proposal_of b.problem w e) o → is_applied o ≡ true → shares_reading (rule_at e) ≡ true → ReadAlike e es
-      → Passed opens f es (marked k e o p) c (marked k e o p) c
+      → Passed opens f w es (marked k e o p) c (marked k e o p) c
   stopped e (Applied place) fresh on ok left t shares alike = stopped_at e place fresh on shares ok left alike
   stopped e o fresh on ok left t shares alike = absurd (true≢false (sym t))
 
 pub met_alike : (a : Ledger) (w : ℕ) (n k : Marks) (v : Watched) (b c : Ledger) (e : Instance) (o : Outcome) (p : Part) → Follows (open_on a.tally) a.problem b → IsFresh a.problem b.problem e → enabled_on b.problem e ≡ true → Allows b (proposal_of b.problem w e) o
-    → c ≡ left_by b (proposal_of b.problem w e) o → AreNoted b.problem c.problem n.noted k.noted → v.marks ≡ marked k e o p → AreFormsOf v.forms c.problem → IsMet a e v b c (is_applied o)
-met_alike a w n k v b c e o p h fresh on ok left noted is forms = record {
+    → c ≡ left_by b (proposal_of b.problem w e) o → AreNoted b.problem c.problem n.noted k.noted → v.marks ≡ marked k e o p → AreFormsOf v.forms c.problem → w ≡ instance_count a → IsMet a e v b c (is_applied o)
+met_alike a w n k v b c e o p h fresh on ok left noted is forms began = record {
   still = not_applied b c w e o left;
   stopped = λ t es shares alike. record {
-    passed = subst (λ (m : Marks). Passed (open_on a.tally) a.problem es m c m c) (sym is) (stopped (open_on a.tally) a.problem w n k b c p es h noted e o fresh on ok left t shares alike);
+    passed = subst (λ (x : ℕ). Passed (open_on a.tally) a.problem x es v.marks c v.marks c) began
+        (subst (λ (m : Marks). Passed (open_on a.tally) a.problem w es m c m c) (sym is) (stopped (open_on a.tally) a.problem w n k b c p es h noted e o fresh on ok left t shares alike));
     forms = forms;
   };
 }

@@ -4,17 +4,30 @@ use Rattle.std.specs.List.{Contains}
 use Rattle.problem_model.specs.declared.part.Part.{Part}
 use Rattle.problem_model.specs.Parts.{changes_of}
 use Rattle.problem_model.specs.Problems.{IsSparse}
+use Rattle.line_groups.specs.Groups.{AreGroupsOf}
 use Rattle.presolve_model.specs.declared.instance.Instance.{Instance}
 use Rattle.presolve_model.specs.declared.outcome.Outcome.{Outcome}
 use Rattle.presolve_model.specs.declared.outcome.Outcome.TheVariants.{Applied}
 use Rattle.presolve_model.specs.Enabled.{enabled_on}
 use Rattle.presolve_model.specs.Instances.{rule_at, shares_reading}
-use Rattle.presolve_model.specs.Ledger.{Ledger}
+use Rattle.presolve_model.specs.Ledger.{instance_count, Ledger}
 use Rattle.presolve_model.specs.Tallies.{open_on}
 use Rattle.place_laws.specs.Standing.{IsFresh}
 use Rattle.round_laws.specs.Passing.{Follows, Passed, ReadAlike}
 use Rattle.round_marks.specs.Forming.{AreFormsOf}
 use Rattle.round_marks.specs.Marking.{Watched}
+use Rattle.round_marks.specs.Stamping.{AreStampsOf}
+use Rattle.presolve_rounds.specs.declared.pass.Walk.{Walk}
+
+-- the book with which the round began
+abbrev pub begun : Walk → Ledger
+begun w = w.frozen.now.value
+
+-- the version, the stamps and the groups of a walk are those of the book with which the round began
+pub record IsWalk (w : Walk) : Type 0 where
+  pub version : w.version ≡ instance_count (begun w)
+  pub stamps : AreStampsOf w.stamps.now (begun w).problem
+  pub groups : AreGroupsOf w.groups.now (begun w).problem
 
 -- the book is b now, the forms of its problem are told, and each part that has changed is noted
 pub record IsGoing (a : Ledger) (w : Watched) (b : Ledger) : Type 0 where
@@ -25,7 +38,7 @@ pub record IsGoing (a : Ledger) (w : Watched) (b : Ledger) : Type 0 where
 
 -- it is c after these instances
 pub record IsPassed (a : Ledger) (es : List Instance) (w : Watched) (b : Ledger) (v : Watched) (c : Ledger) : Type 0 where
-  pub passed : Passed (open_on a.tally) a.problem es w.marks b v.marks c
+  pub passed : Passed (open_on a.tally) a.problem (instance_count a) es w.marks b v.marks c
   pub forms : AreFormsOf v.forms c.problem
 
 -- something was applied

@@ -6,16 +6,18 @@ ghost use Rattle.undo_records.specs.Walk.{lives};
 ghost use Rattle.problem_model.specs.Programs.{IsProblemOf};
 ghost use Rattle.presolve_model.specs.Telling.{names_in};
 ghost use Rattle.presolve_model.specs.Telling.{are_live, IsToldOf};
+ghost use Rattle.presolve_rounds.specs.Sources.{given, IsKept};
 
-use lp_model::{ColumnDef, Program, RowDef};
-use presolve_model::Line;
+use crate::source::Source;
+use entry_lines::Lines;
+use lp_model::{ColumnDef, RowDef};
 use problem_data::in_sense;
 use std::alloc::{AllocError, Global};
 use txn_book::Book;
 use undo_records::{Label, Records};
 
 /// The names of the rows, and which are live.
-fn row_labels(alloc: Global, rows: &[RowDef], lines: &[Line]) -> Result<Vec<Label>, AllocError>
+fn row_labels(alloc: Global, rows: &[RowDef], lines: &Lines) -> Result<Vec<Label>, AllocError>
     requires { length lines.now ≡ length rows.now }
     ensures names { IfOk result (λ labels. names_in labels.items ≡ names_of_rows rows.now) }
     ensures live { IfOk result (λ labels. lives labels.items ≡ are_live lines.now) }
@@ -24,7 +26,7 @@ fn row_labels(alloc: Global, rows: &[RowDef], lines: &[Line]) -> Result<Vec<Labe
     for i in 0..rows.len() {
         labels.push(Label {
             name: rows[i].name.copy(alloc)?,
-            live: lines[i].live,
+            live: lines.at(i).live,
         })?;
     }
     Ok(labels)
@@ -34,7 +36,7 @@ fn row_labels(alloc: Global, rows: &[RowDef], lines: &[Line]) -> Result<Vec<Labe
 fn column_labels(
     alloc: Global,
     columns: &[ColumnDef],
-    lines: &[Line],
+    lines: &Lines,
 ) -> Result<Vec<Label>, AllocError>
     requires { length lines.now ≡ length columns.now }
     ensures names { IfOk result (λ labels. names_in labels.items ≡ names_of_columns columns.now) }
@@ -44,7 +46,7 @@ fn column_labels(
     for j in 0..columns.len() {
         labels.push(Label {
             name: columns[j].name.copy(alloc)?,
-            live: lines[j].live,
+            live: lines.at(j).live,
         })?;
     }
     Ok(labels)
@@ -53,17 +55,19 @@ fn column_labels(
 /// The records of a book that was opened with a program's problem, which undo duals too where that is asked for.
 pub fn records_of(
     alloc: Global,
-    program: &Program,
+    source: &Source,
     dual: bool,
     book: Book,
 ) -> Result<Records, AllocError>
-    requires { IsProblemOf program.now book.start }
-    ensures { IfOk result (IsToldOf dual program.now book) }
+    requires kept { IsKept source.now }
+    requires start { IsProblemOf (given source.now) book.start }
+    ensures { IfOk result (IsToldOf dual (given source.now) book) }
 {
     book.stands();
+    let program = &source.kept;
     let _name = program.objective();
-    let rows = row_labels(alloc, program.rows(), book.problem().rows())?;
-    let columns = column_labels(alloc, program.columns(), book.problem().columns())?;
+    let rows = row_labels(alloc, program.rows(), &book.problem().rows())?;
+    let columns = column_labels(alloc, program.columns(), &book.problem().columns())?;
     let offset = in_sense(program.sense(), &book.problem().offset());
     let ended = book.close();
     Ok(Records::new(program.sense(), dual, columns, rows, offset, ended.records))

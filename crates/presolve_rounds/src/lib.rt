@@ -7,6 +7,7 @@ mod outcome;
 mod pass;
 mod reduce;
 mod rounds;
+mod source;
 
 pub use onlooker::{NoOnlooker, Onlooker};
 pub use outcome::{DecidedProgram, Presolved, ReducedProgram};

@@ -8,7 +8,6 @@
 
 ghost use Rattle.std.specs.Prelude.{◌≡◌, true, false, ◌∷◌, [], map, IfOk, OnOk};
 ghost use Rattle.presolve_model.specs.Enabled.{enabled_on};
-ghost use Rattle.line_groups.specs.Groups.{AreGroupsOf};
 ghost use Rattle.presolve_model.specs.Instances.{beside_at, instances_from};
 ghost use Rattle.presolve_model.specs.Order.{reduction_order, verdict_order};
 ghost use Rattle.presolve_model.specs.Scans.{instances_at};
@@ -16,23 +15,32 @@ ghost use Rattle.presolve_model.specs.Tallies.{open_on};
 ghost use Rattle.place_laws.specs.Choosing.{ids_of, instances_of, visited};
 ghost use Rattle.place_laws.specs.Standing.{IsFresh};
 ghost use Rattle.round_laws.specs.Passing.{Follows};
-ghost use Rattle.round_marks.specs.Stamping.{AreStampsOf};
 ghost use Rattle.presolve_rounds.specs.Lines.{has_line};
-ghost use Rattle.presolve_rounds.specs.Walking.{AreAlike, AreFresh, is_applied as applies, IsGoing, IsMet, IsPassed};
+ghost use Rattle.presolve_rounds.specs.Walking.{AreAlike, AreFresh, begun, is_applied as applies, IsGoing, IsMet, IsPassed, IsWalk};
 
-use instances::{
-    add_enabled, goes_by_groups, head, instance_beside, is_enabled, lines_beside, parts_read,
-    reduction_rules, shares_reading, verdict_rules,
-};
+use instances::{add_enabled, instance_beside, lines_beside};
 use line_groups::Parallels;
 use presolve_model::{Instance, Outcome, Rule};
 use round_marks::around::Around;
 use round_marks::stamps::Stamps;
 use round_marks::watch::Watch;
+use rule_table::{
+    goes_by_groups, head, is_enabled, parts_read, reduction_rules, shares_reading, verdict_rules,
+};
 use sparse_problem::Problem;
 use std::alloc::{AllocError, Global};
 use std::snapshot::Snapshot;
 use txn_book::Book;
+
+/// What a pass looks at beside the book: how the round began, and so the book, how many instances had been applied to it, how often each part
+/// had changed, and the groups of lines.
+#[derive(Drop)]
+pub struct Walk<'a> {
+    pub frozen: &'a Snapshot<Book>,
+    pub version: u64,
+    pub stamps: &'a Stamps,
+    pub groups: &'a Parallels,
+}
 
 /// Whether an answer says that something was applied.
 fn is_applied(outcome: Outcome) -> bool
@@ -54,18 +62,18 @@ fn is_applied(outcome: Outcome) -> bool
 fn meet(
     alloc: Global,
     book: &mut Book,
-    frozen: &Snapshot<Book>,
+    walk: &Walk<'_>,
     instance: Instance,
     watch: &mut Watch,
 ) -> Result<bool, AllocError>
-    requires going { IsGoing frozen.now.value watch.old book.old }
+    requires going { IsGoing (begun walk.now) watch.old book.old }
+    requires walk { IsWalk walk.now }
     requires enabled { enabled_on book.old.problem instance ≡ true }
-    requires fresh { IsFresh frozen.now.value.problem book.old.problem instance }
-    ensures passed { OnOk result (IsPassed frozen.now.value (instance ∷ []) watch.old book.old watch.new book.new) }
-    ensures met { IfOk result (λ applied. IsMet frozen.now.value instance watch.new book.old book.new applied) }
+    requires fresh { IsFresh (begun walk.now).problem book.old.problem instance }
+    ensures passed { OnOk result (IsPassed (begun walk.now) (instance ∷ []) watch.old book.old watch.new book.new) }
+    ensures met { IfOk result (λ applied. IsMet (begun walk.now) instance watch.new book.old book.new applied) }
 {
-    let _ = frozen;
-    let outcome = watch.apply(alloc, book, instance)?;
+    let outcome = watch.apply(alloc, book, walk.version, instance)?;
     watch.mark(instance, outcome, head(instance))?;
     Ok(is_applied(outcome))
 }
@@ -74,41 +82,39 @@ fn meet(
 fn is_fresh(
     alloc: Global,
     book: &Book,
-    frozen: &Snapshot<Book>,
-    stamps: &Stamps,
+    walk: &Walk<'_>,
     instance: Instance,
 ) -> Result<bool, AllocError>
-    requires follows { Follows (open_on frozen.now.value.tally) frozen.now.value.problem book.now }
-    requires stamps { AreStampsOf stamps.now frozen.now.value.problem }
-    ensures fresh { IfOk result (λ fresh. fresh ≡ true → IsFresh frozen.now.value.problem book.now.problem instance) }
-    ensures stale { IfOk result (λ fresh. fresh ≡ false → IsFresh frozen.now.value.problem book.now.problem instance → ⊥) }
+    requires follows { Follows (open_on (begun walk.now).tally) (begun walk.now).problem book.now }
+    requires walk { IsWalk walk.now }
+    ensures fresh { IfOk result (λ fresh. fresh ≡ true → IsFresh (begun walk.now).problem book.now.problem instance) }
+    ensures stale { IfOk result (λ fresh. fresh ≡ false → IsFresh (begun walk.now).problem book.now.problem instance → ⊥) }
 {
-    let _ = frozen;
+    let _ = walk;
     let parts = parts_read(alloc, book.problem(), instance)?;
-    Ok(stamps.stand_for(book.problem(), parts.as_slice()))
+    Ok(walk.stamps.stand_for(book.problem(), parts.as_slice()))
 }
 
 /// An instance at its turn. Where it is stale a part of it is marked: it is left to the next round.
 fn visit(
     alloc: Global,
     book: &mut Book,
-    frozen: &Snapshot<Book>,
-    stamps: &Stamps,
+    walk: &Walk<'_>,
     instance: Instance,
     watch: &mut Watch,
 ) -> Result<(), AllocError>
-    requires going { IsGoing frozen.now.value watch.old book.old }
-    requires stamps { AreStampsOf stamps.now frozen.now.value.problem }
-    ensures { OnOk result (IsPassed frozen.now.value (instance ∷ []) watch.old book.old watch.new book.new) }
+    requires going { IsGoing (begun walk.now) watch.old book.old }
+    requires walk { IsWalk walk.now }
+    ensures { OnOk result (IsPassed (begun walk.now) (instance ∷ []) watch.old book.old watch.new book.new) }
 {
     if !is_enabled(book.problem(), instance) {
         return Ok(());
     }
-    if !is_fresh(alloc, book, frozen, stamps, instance)? {
+    if !is_fresh(alloc, book, walk, instance)? {
         watch.leave(instance, head(instance))?;
         return Ok(());
     }
-    meet(alloc, book, frozen, instance, watch)?;
+    meet(alloc, book, walk, instance, watch)?;
     Ok(())
 }
 
@@ -116,17 +122,16 @@ fn visit(
 fn visit_found(
     alloc: Global,
     book: &mut Book,
-    frozen: &Snapshot<Book>,
-    stamps: &Stamps,
+    walk: &Walk<'_>,
     found: &[Instance],
     watch: &mut Watch,
 ) -> Result<(), AllocError>
-    requires going { IsGoing frozen.now.value watch.old book.old }
-    requires stamps { AreStampsOf stamps.now frozen.now.value.problem }
-    ensures { OnOk result (IsPassed frozen.now.value found.now watch.old book.old watch.new book.new) }
+    requires going { IsGoing (begun walk.now) watch.old book.old }
+    requires walk { IsWalk walk.now }
+    ensures { OnOk result (IsPassed (begun walk.now) found.now watch.old book.old watch.new book.new) }
 {
     for instance in found {
-        visit(alloc, book, frozen, stamps, *instance, watch)?;
+        visit(alloc, book, walk, *instance, watch)?;
     }
     Ok(())
 }
@@ -136,18 +141,19 @@ fn visit_found(
 fn meet_alike(
     alloc: Global,
     book: &mut Book,
-    frozen: &Snapshot<Book>,
+    walk: &Walk<'_>,
     found: &[Instance],
     watch: &mut Watch,
 ) -> Result<(), AllocError>
-    requires going { IsGoing frozen.now.value watch.old book.old }
+    requires going { IsGoing (begun walk.now) watch.old book.old }
+    requires walk { IsWalk walk.now }
     requires alike { AreAlike book.old found.now }
-    requires fresh { AreFresh frozen.now.value book.old found.now }
-    ensures { OnOk result (IsPassed frozen.now.value found.now watch.old book.old watch.new book.new) }
+    requires fresh { AreFresh (begun walk.now) book.old found.now }
+    ensures { OnOk result (IsPassed (begun walk.now) found.now watch.old book.old watch.new book.new) }
 {
     let mut rest = found;
     while let [instance, after @ ..] = rest {
-        if meet(alloc, book, frozen, *instance, watch)? {
+        if meet(alloc, book, walk, *instance, watch)? {
             return Ok(());
         }
         rest = after;
@@ -159,24 +165,23 @@ fn meet_alike(
 fn visit_alike(
     alloc: Global,
     book: &mut Book,
-    frozen: &Snapshot<Book>,
-    stamps: &Stamps,
+    walk: &Walk<'_>,
     found: &[Instance],
     watch: &mut Watch,
 ) -> Result<(), AllocError>
-    requires going { IsGoing frozen.now.value watch.old book.old }
-    requires stamps { AreStampsOf stamps.now frozen.now.value.problem }
+    requires going { IsGoing (begun walk.now) watch.old book.old }
+    requires walk { IsWalk walk.now }
     requires alike { AreAlike book.old found.now }
-    ensures { OnOk result (IsPassed frozen.now.value found.now watch.old book.old watch.new book.new) }
+    ensures { OnOk result (IsPassed (begun walk.now) found.now watch.old book.old watch.new book.new) }
 {
     let [first, ..] = found else {
         return Ok(());
     };
-    if !is_fresh(alloc, book, frozen, stamps, *first)? {
+    if !is_fresh(alloc, book, walk, *first)? {
         watch.leave(*first, head(*first))?;
         return Ok(());
     }
-    meet_alike(alloc, book, frozen, found, watch)
+    meet_alike(alloc, book, walk, found, watch)
 }
 
 /// Whether the line is live with which the instances of a rule of lines that are multiples of one another begin.
@@ -193,16 +198,15 @@ fn is_line_live(problem: &Problem, rule: Rule, id: u32) -> bool
 fn visit_beside(
     alloc: Global,
     book: &mut Book,
-    frozen: &Snapshot<Book>,
-    stamps: &Stamps,
+    walk: &Walk<'_>,
     rule: Rule,
     id: u32,
     others: &[u32],
     watch: &mut Watch,
 ) -> Result<(), AllocError>
-    requires going { IsGoing frozen.now.value watch.old book.old }
-    requires stamps { AreStampsOf stamps.now frozen.now.value.problem }
-    ensures { OnOk result (IsPassed frozen.now.value (map (beside_at rule id) others.now) watch.old book.old watch.new book.new) }
+    requires going { IsGoing (begun walk.now) watch.old book.old }
+    requires walk { IsWalk walk.now }
+    ensures { OnOk result (IsPassed (begun walk.now) (map (beside_at rule id) others.now) watch.old book.old watch.new book.new) }
 {
     let mut rest = others;
     while let [other, after @ ..] = rest {
@@ -210,7 +214,7 @@ fn visit_beside(
             return Ok(());
         }
         let instance = instance_beside(rule, id, *other);
-        visit(alloc, book, frozen, stamps, instance, watch)?;
+        visit(alloc, book, walk, instance, watch)?;
         rest = after;
     }
     Ok(())
@@ -220,38 +224,35 @@ fn visit_beside(
 fn visit_at(
     alloc: Global,
     book: &mut Book,
-    frozen: &Snapshot<Book>,
-    stamps: &Stamps,
-    groups: &Parallels,
+    walk: &Walk<'_>,
     rule: Rule,
     id: u32,
     watch: &mut Watch,
 ) -> Result<(), AllocError>
-    requires going { IsGoing frozen.now.value watch.old book.old }
-    requires stamps { AreStampsOf stamps.now frozen.now.value.problem }
-    requires groups { AreGroupsOf groups.now frozen.now.value.problem }
-    ensures { OnOk result (IsPassed frozen.now.value (instances_from (open_on frozen.now.value.tally) frozen.now.value.problem rule id) watch.old book.old watch.new book.new) }
+    requires going { IsGoing (begun walk.now) watch.old book.old }
+    requires walk { IsWalk walk.now }
+    ensures { OnOk result (IsPassed (begun walk.now) (instances_from (open_on (begun walk.now).tally) (begun walk.now).problem rule id) watch.old book.old watch.new book.new) }
 {
     if goes_by_groups(rule) {
-        let others = lines_beside(groups, rule, id);
-        visit_beside(alloc, book, frozen, stamps, rule, id, others, watch)?;
+        let others = lines_beside(walk.groups, rule, id);
+        visit_beside(alloc, book, walk, rule, id, others, watch)?;
         return Ok(());
     }
     let mut found = Vec::new(alloc);
     add_enabled(
         alloc,
         book.problem(),
-        groups,
+        walk.groups,
         book.tally(),
         rule,
         id,
         &mut found,
     )?;
     if shares_reading(rule) {
-        visit_alike(alloc, book, frozen, stamps, found.as_slice(), watch)?;
+        visit_alike(alloc, book, walk, found.as_slice(), watch)?;
         return Ok(());
     }
-    visit_found(alloc, book, frozen, stamps, found.as_slice(), watch)?;
+    visit_found(alloc, book, walk, found.as_slice(), watch)?;
     Ok(())
 }
 
@@ -259,20 +260,17 @@ fn visit_at(
 fn visit_each(
     alloc: Global,
     book: &mut Book,
-    frozen: &Snapshot<Book>,
-    stamps: &Stamps,
-    groups: &Parallels,
+    walk: &Walk<'_>,
     rule: Rule,
     ids: &[u32],
     watch: &mut Watch,
 ) -> Result<(), AllocError>
-    requires going { IsGoing frozen.now.value watch.old book.old }
-    requires stamps { AreStampsOf stamps.now frozen.now.value.problem }
-    requires groups { AreGroupsOf groups.now frozen.now.value.problem }
-    ensures { OnOk result (IsPassed frozen.now.value (instances_at (open_on frozen.now.value.tally) frozen.now.value.problem rule ids.now) watch.old book.old watch.new book.new) }
+    requires going { IsGoing (begun walk.now) watch.old book.old }
+    requires walk { IsWalk walk.now }
+    ensures { OnOk result (IsPassed (begun walk.now) (instances_at (open_on (begun walk.now).tally) (begun walk.now).problem rule ids.now) watch.old book.old watch.new book.new) }
 {
     for id in ids {
-        visit_at(alloc, book, frozen, stamps, groups, rule, *id, watch)?;
+        visit_at(alloc, book, walk, rule, *id, watch)?;
     }
     Ok(())
 }
@@ -281,28 +279,16 @@ fn visit_each(
 fn visit_rule(
     alloc: Global,
     book: &mut Book,
-    frozen: &Snapshot<Book>,
-    stamps: &Stamps,
-    groups: &Parallels,
+    walk: &Walk<'_>,
     rule: Rule,
     ids: &Around,
     watch: &mut Watch,
 ) -> Result<(), AllocError>
-    requires going { IsGoing frozen.now.value watch.old book.old }
-    requires stamps { AreStampsOf stamps.now frozen.now.value.problem }
-    requires groups { AreGroupsOf groups.now frozen.now.value.problem }
-    ensures { OnOk result (IsPassed frozen.now.value (instances_at (open_on frozen.now.value.tally) frozen.now.value.problem rule (ids_of ids.now rule)) watch.old book.old watch.new book.new) }
+    requires going { IsGoing (begun walk.now) watch.old book.old }
+    requires walk { IsWalk walk.now }
+    ensures { OnOk result (IsPassed (begun walk.now) (instances_at (open_on (begun walk.now).tally) (begun walk.now).problem rule (ids_of ids.now rule)) watch.old book.old watch.new book.new) }
 {
-    visit_each(
-        alloc,
-        book,
-        frozen,
-        stamps,
-        groups,
-        rule,
-        ids.of(rule),
-        watch,
-    )?;
+    visit_each(alloc, book, walk, rule, ids.of(rule), watch)?;
     Ok(())
 }
 
@@ -310,20 +296,17 @@ fn visit_rule(
 fn visit_rules(
     alloc: Global,
     book: &mut Book,
-    frozen: &Snapshot<Book>,
-    stamps: &Stamps,
-    groups: &Parallels,
+    walk: &Walk<'_>,
     rules: &[Rule],
     ids: &Around,
     watch: &mut Watch,
 ) -> Result<(), AllocError>
-    requires going { IsGoing frozen.now.value watch.old book.old }
-    requires stamps { AreStampsOf stamps.now frozen.now.value.problem }
-    requires groups { AreGroupsOf groups.now frozen.now.value.problem }
-    ensures { OnOk result (IsPassed frozen.now.value (instances_of (open_on frozen.now.value.tally) frozen.now.value.problem ids.now rules.now) watch.old book.old watch.new book.new) }
+    requires going { IsGoing (begun walk.now) watch.old book.old }
+    requires walk { IsWalk walk.now }
+    ensures { OnOk result (IsPassed (begun walk.now) (instances_of (open_on (begun walk.now).tally) (begun walk.now).problem ids.now rules.now) watch.old book.old watch.new book.new) }
 {
     for rule in rules {
-        visit_rule(alloc, book, frozen, stamps, groups, *rule, ids, watch)?;
+        visit_rule(alloc, book, walk, *rule, ids, watch)?;
     }
     Ok(())
 }
@@ -332,37 +315,16 @@ fn visit_rules(
 fn visit_all(
     alloc: Global,
     book: &mut Book,
-    frozen: &Snapshot<Book>,
-    stamps: &Stamps,
-    groups: &Parallels,
+    walk: &Walk<'_>,
     ids: &Around,
     watch: &mut Watch,
 ) -> Result<(), AllocError>
-    requires going { IsGoing frozen.now.value watch.old book.old }
-    requires stamps { AreStampsOf stamps.now frozen.now.value.problem }
-    requires groups { AreGroupsOf groups.now frozen.now.value.problem }
-    ensures { OnOk result (IsPassed frozen.now.value (visited (open_on frozen.now.value.tally) frozen.now.value.problem ids.now) watch.old book.old watch.new book.new) }
+    requires going { IsGoing (begun walk.now) watch.old book.old }
+    requires walk { IsWalk walk.now }
+    ensures { OnOk result (IsPassed (begun walk.now) (visited (open_on (begun walk.now).tally) (begun walk.now).problem ids.now) watch.old book.old watch.new book.new) }
 {
-    visit_rules(
-        alloc,
-        book,
-        frozen,
-        stamps,
-        groups,
-        &verdict_rules(),
-        ids,
-        watch,
-    )?;
-    visit_rules(
-        alloc,
-        book,
-        frozen,
-        stamps,
-        groups,
-        &reduction_rules(),
-        ids,
-        watch,
-    )?;
+    visit_rules(alloc, book, walk, &verdict_rules(), ids, watch)?;
+    visit_rules(alloc, book, walk, &reduction_rules(), ids, watch)?;
     Ok(())
 }
 
@@ -371,17 +333,14 @@ fn visit_all(
 pub fn pass(
     alloc: Global,
     book: &mut Book,
-    frozen: &Snapshot<Book>,
-    stamps: &Stamps,
-    groups: &Parallels,
+    walk: &Walk<'_>,
     ids: &Around,
     watch: &mut Watch,
 ) -> Result<(), AllocError>
-    requires going { IsGoing frozen.now.value watch.old book.old }
-    requires stamps { AreStampsOf stamps.now frozen.now.value.problem }
-    requires groups { AreGroupsOf groups.now frozen.now.value.problem }
-    ensures { OnOk result (IsPassed frozen.now.value (visited (open_on frozen.now.value.tally) frozen.now.value.problem ids.now) watch.old book.old watch.new book.new) }
+    requires going { IsGoing (begun walk.now) watch.old book.old }
+    requires walk { IsWalk walk.now }
+    ensures { OnOk result (IsPassed (begun walk.now) (visited (open_on (begun walk.now).tally) (begun walk.now).problem ids.now) watch.old book.old watch.new book.new) }
 {
-    book.keep_sums(ids.of(Rule::TightenedBound));
-    visit_all(alloc, book, frozen, stamps, groups, ids, watch)
+    book.keep_sums(ids.of(Rule::BoundTightening));
+    visit_all(alloc, book, walk, ids, watch)
 }

@@ -5,16 +5,19 @@ ghost use Rattle.lp_model.specs.Writable.{EntriesAscend, Writable};
 ghost use Rattle.problem_model.specs.Programs.{IsProblemOf};
 ghost use Rattle.presolve_model.specs.Conclusions.{Concluded, Decided};
 ghost use Rattle.presolve_model.specs.Ordered.{new_book, options_of, RunsTo};
+ghost use Rattle.presolve_model.specs.Workers.{IsInOrder};
 ghost use Rattle.presolve_rounds.specs.Conclusions.{Concludes};
 ghost use Rattle.presolve_rounds.specs.Running.{EndsWith};
+ghost use Rattle.presolve_rounds.specs.Sources.{given, IsKept};
 
 use crate::labels::records_of;
 use crate::onlooker::NoOnlooker;
 use crate::outcome::{DecidedProgram, Presolved, ReducedProgram};
 use crate::rounds::run;
-use instances::says_no_point;
+use crate::source::{Source, source_of};
 use lp_model::Program;
-use presolve_model::{End, Options};
+use presolve_model::{End, Options, Workers};
+use rule_table::says_no_point;
 use sparse_problem::Problem;
 use std::alloc::{AllocError, Global};
 use txn_book::Book;
@@ -36,22 +39,25 @@ pub fn opened(alloc: Global, program: &Program, options: &Options) -> Result<Boo
 /// What a program was reduced to.
 fn reduced(
     alloc: Global,
-    program: &Program,
+    source: &Source,
     dual: bool,
+    workers: &Workers,
     book: Book,
     end: End,
 ) -> Result<ReducedProgram, AllocError>
-    requires ascends { EntriesAscend program.now }
-    requires writable { Writable book.numbers program.now }
-    requires start { IsProblemOf program.now book.start }
+    requires kept { IsKept source.now }
+    requires ascends { EntriesAscend (given source.now) }
+    requires writable { Writable book.numbers (given source.now) }
+    requires start { IsProblemOf (given source.now) book.start }
     requires end { EndsWith (Some end) book }
-    requires runs { RunsTo (options_of dual book) program.now (Some end) book }
-    ensures { IfOk result (λ made. Concluded (options_of dual book) program.now made.program made.records made.end) }
+    requires runs { IsInOrder workers.now → RunsTo (options_of dual book) (given source.now) (Some end) book }
+    ensures { IfOk result (λ made. Concluded (options_of dual book) workers.now (given source.now) made.program made.records made.end) }
 {
+    let _ = workers;
     book.stands();
-    let reduced = book.problem().to_program(alloc, program)?;
-    let records = records_of(alloc, program, dual, book)?;
-    let _name = program.objective();
+    let reduced = book.problem().to_program(alloc, &source.kept)?;
+    let records = records_of(alloc, source, dual, book)?;
+    let _name = source.kept.objective();
     let _left = reduced.objective();
     records.is_named();
     Ok(ReducedProgram {
@@ -62,14 +68,15 @@ fn reduced(
 }
 
 /// How a program was decided.
-fn decided(program: &Program, dual: bool, book: Book) -> DecidedProgram
-    requires start { IsProblemOf program.now book.start }
+fn decided(source: &Source, dual: bool, workers: &Workers, book: Book) -> DecidedProgram
+    requires start { IsProblemOf (given source.now) book.start }
     requires decided { book.verdict ≢ None }
-    requires runs { RunsTo (options_of dual book) program.now None book }
-    ensures { Decided (options_of dual book) program.now result.history.items result.verdict }
+    requires runs { IsInOrder workers.now → RunsTo (options_of dual book) (given source.now) None book }
+    ensures { Decided (options_of dual book) workers.now (given source.now) result.history.items result.verdict }
 {
-    let _ = program;
+    let _ = source;
     let _ = dual;
+    let _ = workers;
     book.stands();
     let ended = book.close();
     match ended.verdict {
@@ -82,12 +89,18 @@ fn decided(program: &Program, dual: bool, book: Book) -> DecidedProgram
 }
 
 /// What a decision says of its program.
-fn concluded(program: &Program, options: &Options, made: DecidedProgram) -> Presolved
-    requires { Decided options.now program.now made.history.items made.verdict }
-    ensures { Concludes options.now program.now result }
+fn concluded(
+    source: &Source,
+    options: &Options,
+    workers: &Workers,
+    made: DecidedProgram,
+) -> Presolved
+    requires { Decided options.now workers.now (given source.now) made.history.items made.verdict }
+    ensures { Concludes options.now workers.now (given source.now) result }
 {
-    let _ = program;
+    let _ = source;
     let _ = options;
+    let _ = workers;
     if says_no_point(made.verdict) {
         Presolved::Infeasible(made)
     } else {
@@ -96,26 +109,33 @@ fn concluded(program: &Program, options: &Options, made: DecidedProgram) -> Pres
 }
 
 /// Reduces a program by the rules that there are, until it is decided, or no rule is left that could be applied, or the limit is reached.
+/// However many workers there are, one does all of it, in order.
 ///
 /// # Errors
 /// For want of memory.
-pub fn presolve(alloc: Global, program: Program, options: &Options) -> Result<Presolved, AllocError>
+pub fn presolve(
+    alloc: Global,
+    program: Program,
+    options: &Options,
+    workers: &Workers,
+) -> Result<Presolved, AllocError>
     requires few_rows { length program.rows < 2 ^ 32 }
     requires few_columns { length program.columns < 2 ^ 32 }
     requires ascends { EntriesAscend program }
     requires writable { Writable options.now.numbers program }
-    ensures { IfOk result (λ made. Concludes options.now program made) }
+    ensures { IfOk result (λ made. Concludes options.now workers.now program made) }
 {
     let mut book = opened(alloc, &program, options)?;
+    let source = source_of(alloc, program);
     let end = run(alloc, &mut book, &mut NoOnlooker)?;
     match end {
         Some(end) => {
-            let made = reduced(alloc, &program, options.dual, book, end)?;
+            let made = reduced(alloc, &source, options.dual, workers, book, end)?;
             Ok(Presolved::Reduced(made))
         }
         None => {
-            let made = decided(&program, options.dual, book);
-            Ok(concluded(&program, options, made))
+            let made = decided(&source, options.dual, workers, book);
+            Ok(concluded(&source, options, workers, made))
         }
     }
 }

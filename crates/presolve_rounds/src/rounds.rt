@@ -18,14 +18,15 @@ ghost use Rattle.presolve_rounds.specs.Readiness.{AreMarked, IsReady};
 ghost use Rattle.presolve_rounds.specs.Running.{EndsWith, IsFirst};
 
 use crate::onlooker::Onlooker;
-use crate::pass::pass;
-use instances::{Tally, reduction_rules, verdict_rules};
+use crate::pass::{Walk, pass};
+use instances::Tally;
 use line_groups::Parallels;
 use presolve_model::{End, Instance, Outcome, Part};
 use round_marks::around::Around;
 use round_marks::found::enabled_of;
 use round_marks::stamps::Stamps;
 use round_marks::watch::Watch;
+use rule_table::{reduction_rules, verdict_rules};
 use sparse_problem::Problem;
 use std::alloc::{AllocError, Global};
 use std::snapshot::Snapshot;
@@ -49,8 +50,15 @@ fn round(
     ensures ready { OnOk result (book.new.verdict ≡ None → length book.new.history < book.new.limit → IsReady book.new stamps.new ids.new watch.new) }
 {
     let frozen = Snapshot::of(book);
+    let version = book.instance_count();
     watch.begin_round();
-    pass(alloc, book, &frozen, stamps, groups, ids, watch)?;
+    let walk = Walk {
+        frozen: &frozen,
+        version,
+        stamps,
+        groups,
+    };
+    pass(alloc, book, &walk, ids, watch)?;
     stamps.refresh(book.problem(), watch.noted());
     groups.refresh(alloc, book.problem(), watch.noted())?;
     *ids = watch.around(alloc, book.problem(), groups)?;
@@ -116,7 +124,8 @@ fn decide(alloc: Global, book: &mut Book, verdict: Instance) -> Result<(), Alloc
     ensures ordered { OnOk result (Ordered book.old None book.new) }
     ensures decided { OnOk result (book.new.verdict ≢ None) }
 {
-    match book.apply(alloc, verdict, &mut Vec::new(alloc)) {
+    let version = book.instance_count();
+    match book.apply(alloc, version, verdict, &mut Vec::new(alloc)) {
         Outcome::NoMemory => Err(AllocError),
         _ => Ok(()),
     }

@@ -4,10 +4,9 @@ ghost use Rattle.std.specs.Prelude.{◌≡◌, ◌↔◌, ℕ, IsTrue, [], ◌�
 ghost use Rattle.problem_model.specs.Matrices.{live_only};
 ghost use Rattle.problem_commits.specs.Lefts.{IsLeft};
 
-use entry_lines::is_live;
+use entry_lines::Lines;
 use fractions::ext::Ext;
 use lp_model::Term;
-use problem_model::Line;
 
 /// Whether two terms are the same.
 fn same_term(a: &Term, b: &Term) -> bool
@@ -17,10 +16,10 @@ fn same_term(a: &Term, b: &Term) -> bool
 }
 
 /// What is left of wanted terms behind an entry; an entry that names no live line is passed over. None where another term is wanted.
-fn left_behind<'a>(others: &[Line], entry: &Term, wanted: &'a [Term]) -> Option<&'a [Term]>
+fn left_behind<'a>(others: &Lines, entry: &Term, wanted: &'a [Term]) -> Option<&'a [Term]>
     ensures { IsLeft (live_only others.now (entry.now ∷ [])) wanted.entry.now (option_map (λ left. left.now) result) }
 {
-    if !is_live(others, entry.id) {
+    if !others.is_live(entry.id) {
         return Some(wanted);
     }
     match wanted {
@@ -36,7 +35,7 @@ fn left_behind<'a>(others: &[Line], entry: &Term, wanted: &'a [Term]) -> Option<
 }
 
 /// Whether the entries that name live lines are these terms.
-pub fn live_entries_are(others: &[Line], entries: &[Term], wanted: &[Term]) -> bool
+pub fn live_entries_are(others: &Lines, entries: &[Term], wanted: &[Term]) -> bool
     ensures { IsTrue result ↔ (live_only others.now entries.now ≡ wanted.now) }
 {
     let mut rest = entries;

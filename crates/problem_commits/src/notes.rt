@@ -128,10 +128,7 @@ fn note_deleted_row(notes: &mut Vec<Note>, problem: &Problem, i: u32) -> Result<
 {
     note_certain(notes, problem, Part::Row(i))?;
     note_certain(notes, problem, Part::Sides(i))?;
-    match problem.rows().get(i as usize) {
-        Some(row) => note_columns(notes, problem, row.entries.as_slice()),
-        None => Ok(()),
-    }
+    note_columns(notes, problem, problem.rows().entries(i))
 }
 
 /// Notes a column that is deleted, its bounds, and the rows that lose an entry.
@@ -140,10 +137,7 @@ fn note_deleted_column(notes: &mut Vec<Note>, problem: &Problem, j: u32) -> Resu
 {
     note_certain(notes, problem, Part::Col(j))?;
     note_certain(notes, problem, Part::Bounds(j))?;
-    match problem.columns().get(j as usize) {
-        Some(column) => note_rows(notes, problem, column.entries.as_slice()),
-        None => Ok(()),
-    }
+    note_rows(notes, problem, problem.columns().entries(j))
 }
 
 /// Whether edits begin with one that sets an entry of a column.

@@ -11,8 +11,8 @@ use crate::words::{
 };
 use std::alloc::AllocError;
 use undo_records::{
-    Doubleton, FixedColumn, ForcingRow, FreeSingleton, ParallelColumns, ParallelRows, SingletonRow,
-    SlackSingleton, TightenBound, Undo,
+    BoundTightening, DoubletonEquation, FixedColumn, ForcingRow, FreeColumnSingleton,
+    ParallelColumns, ParallelRows, SingletonRow, SlackColumnSingleton, Undo,
 };
 
 /// The rule of the reduction that a record undoes.
@@ -23,17 +23,17 @@ pub fn rule_name(undo: &Undo) -> &'static [u8]
         Undo::EmptyRow(_) => b"K1",
         Undo::SingletonRow(_) => b"K2",
         Undo::FixedColumn(_) => b"K3",
-        Undo::RoundBounds(_) => b"K4",
+        Undo::RoundedBounds(_) => b"K4",
         Undo::RedundantRow(_) => b"K5",
         Undo::RedundantSide(_) => b"K6",
         Undo::ForcingRow(_) => b"K7",
-        Undo::TightenBound(_) => b"K8",
-        Undo::TightenCoefficient(_) => b"K9",
-        Undo::DualFix(_) => b"K10",
-        Undo::Dominated(_) => b"K11",
-        Undo::Doubleton(_) => b"K12",
-        Undo::FreeSingleton(_) => b"K13",
-        Undo::SlackSingleton(_) => b"K14",
+        Undo::BoundTightening(_) => b"K8",
+        Undo::CoefficientTightening(_) => b"K9",
+        Undo::DualFixing(_) => b"K10",
+        Undo::DominatedColumn(_) => b"K11",
+        Undo::DoubletonEquation(_) => b"K12",
+        Undo::FreeColumnSingleton(_) => b"K13",
+        Undo::SlackColumnSingleton(_) => b"K14",
         Undo::ParallelRows(_) => b"K15",
         Undo::ParallelColumns(_) => b"K16",
         Undo::EmptyColumn(_) => b"K17",
@@ -48,17 +48,17 @@ pub fn push_fields(out: &mut Vec<u8>, undo: &Undo) -> Result<(), AllocError>
         Undo::EmptyRow(undo) => push_id(out, undo.row),
         Undo::SingletonRow(undo) => push_singleton_row(out, undo),
         Undo::FixedColumn(undo) => push_fixed_column(out, undo),
-        Undo::RoundBounds(undo) => push_id(out, undo.column),
+        Undo::RoundedBounds(undo) => push_id(out, undo.column),
         Undo::RedundantRow(undo) => push_id(out, undo.row),
         Undo::RedundantSide(undo) => push_id(out, undo.row),
         Undo::ForcingRow(undo) => push_forcing_row(out, undo),
-        Undo::TightenBound(undo) => push_tighten_bound(out, undo),
-        Undo::TightenCoefficient(undo) => push_ids(out, &[undo.row, undo.column]),
-        Undo::DualFix(undo) => push_id(out, undo.column),
-        Undo::Dominated(undo) => push_ids(out, &[undo.row, undo.better, undo.column]),
-        Undo::Doubleton(undo) => push_doubleton(out, undo),
-        Undo::FreeSingleton(undo) => push_free_singleton(out, undo),
-        Undo::SlackSingleton(undo) => push_slack_singleton(out, undo),
+        Undo::BoundTightening(undo) => push_bound_tightening(out, undo),
+        Undo::CoefficientTightening(undo) => push_ids(out, &[undo.row, undo.column]),
+        Undo::DualFixing(undo) => push_id(out, undo.column),
+        Undo::DominatedColumn(undo) => push_ids(out, &[undo.row, undo.better, undo.column]),
+        Undo::DoubletonEquation(undo) => push_doubleton_equation(out, undo),
+        Undo::FreeColumnSingleton(undo) => push_free_column_singleton(out, undo),
+        Undo::SlackColumnSingleton(undo) => push_slack_column_singleton(out, undo),
         Undo::ParallelRows(undo) => push_parallel_rows(out, undo),
         Undo::ParallelColumns(undo) => push_parallel_columns(out, undo),
         Undo::EmptyColumn(undo) => push_id(out, undo.column),
@@ -93,8 +93,8 @@ fn push_forcing_row(out: &mut Vec<u8>, undo: &ForcingRow) -> Result<(), AllocErr
 }
 
 /// Appends the fields of a bound that was replaced.
-fn push_tighten_bound(out: &mut Vec<u8>, undo: &TightenBound) -> Result<(), AllocError>
-    ensures { OnOk result (out.new.items ≡ words_onto out.old.items (field_words (kind.TightenBound undo.now))) }
+fn push_bound_tightening(out: &mut Vec<u8>, undo: &BoundTightening) -> Result<(), AllocError>
+    ensures { OnOk result (out.new.items ≡ words_onto out.old.items (field_words (kind.BoundTightening undo.now))) }
 {
     push_ids(out, &[undo.row, undo.column])?;
     push_bound(out, undo.side, undo.bound.get())?;
@@ -102,8 +102,8 @@ fn push_tighten_bound(out: &mut Vec<u8>, undo: &TightenBound) -> Result<(), Allo
 }
 
 /// Appends the fields of an equation of two columns.
-fn push_doubleton(out: &mut Vec<u8>, undo: &Doubleton) -> Result<(), AllocError>
-    ensures { OnOk result (out.new.items ≡ words_onto out.old.items (field_words (kind.Doubleton undo.now))) }
+fn push_doubleton_equation(out: &mut Vec<u8>, undo: &DoubletonEquation) -> Result<(), AllocError>
+    ensures { OnOk result (out.new.items ≡ words_onto out.old.items (field_words (kind.DoubletonEquation undo.now))) }
 {
     push_ids(out, &[undo.row, undo.column, undo.kept])?;
     push_ratios(
@@ -115,18 +115,24 @@ fn push_doubleton(out: &mut Vec<u8>, undo: &Doubleton) -> Result<(), AllocError>
     push_terms(out, undo.entries.as_slice())
 }
 
-/// Appends the fields of a free column with one entry.
-fn push_free_singleton(out: &mut Vec<u8>, undo: &FreeSingleton) -> Result<(), AllocError>
-    ensures { OnOk result (out.new.items ≡ words_onto out.old.items (field_words (kind.FreeSingleton undo.now))) }
+/// Appends the fields of a free column singleton.
+fn push_free_column_singleton(
+    out: &mut Vec<u8>,
+    undo: &FreeColumnSingleton,
+) -> Result<(), AllocError>
+    ensures { OnOk result (out.new.items ≡ words_onto out.old.items (field_words (kind.FreeColumnSingleton undo.now))) }
 {
     push_ids(out, &[undo.column, undo.row])?;
     push_ratios(out, &[undo.value.get(), undo.at.get(), undo.price.get()])?;
     push_terms(out, undo.entries.as_slice())
 }
 
-/// Appends the fields of a slack column with one entry.
-fn push_slack_singleton(out: &mut Vec<u8>, undo: &SlackSingleton) -> Result<(), AllocError>
-    ensures { OnOk result (out.new.items ≡ words_onto out.old.items (field_words (kind.SlackSingleton undo.now))) }
+/// Appends the fields of a slack column singleton.
+fn push_slack_column_singleton(
+    out: &mut Vec<u8>,
+    undo: &SlackColumnSingleton,
+) -> Result<(), AllocError>
+    ensures { OnOk result (out.new.items ≡ words_onto out.old.items (field_words (kind.SlackColumnSingleton undo.now))) }
 {
     push_ids(out, &[undo.column, undo.row])?;
     push_ratios(out, &[undo.value.get(), undo.price.get()])?;

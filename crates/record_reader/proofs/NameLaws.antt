@@ -7,7 +7,8 @@ use Rattle.number_texts.proofs.Cutting.{both_true}
 use Rattle.lp_model.specs.ProgramData.{ProgramData}
 use Rattle.lp_model.specs.Names.{names_of_rows, names_of_columns}
 use Rattle.undo_records.specs.Postsolve.{Postsolve}
-use Rattle.record_reader.specs.Matching.{live_names, same_names, Matches}
+use Rattle.undo_records.specs.Named.{live_names}
+use Rattle.record_reader.specs.Matching.{same_names, Matches}
 
 same_in : (vs ws : List (List ℕ)) → same_names vs ws ≡ true → vs ≡ ws
 same_in [] [] h = refl

@@ -1,15 +1,10 @@
 -- Records that are those of a reduced program.
 use Rattle.std.specs.Str.{bytes_eq}
-use Rattle.std.specs.Prelude.{Bool, true, false, ◌&&◌, ◌≡◌, ℕ, List, [], ◌∷◌, if◌then◌else◌}
+use Rattle.std.specs.Prelude.{Bool, true, false, ◌&&◌, ◌≡◌, ℕ, List, [], ◌∷◌}
 use Rattle.lp_model.specs.ProgramData.{ProgramData}
 use Rattle.lp_model.specs.Names.{names_of_rows, names_of_columns}
 use Rattle.undo_records.specs.Postsolve.{Postsolve}
-use Rattle.undo_records.specs.declared.label.Label.{Label}
-
--- the names of the live ones, in order
-abbrev pub live_names : List Label → List (List ℕ)
-live_names [] = []
-live_names (l ∷ ls) = if l.live then l.name ∷ live_names ls else live_names ls
+use Rattle.undo_records.specs.Named.{live_names}
 
 -- name by name the same
 abbrev pub same_names : List (List ℕ) → List (List ℕ) → Bool

@@ -7,6 +7,7 @@ ghost use Rattle.record_reader.specs.declared.faults.RecordError.TheVariants.{No
 
 use record_fields::faults::LineFault;
 use std::alloc::AllocError;
+use text_lines::Fault;
 use thiserror::Error;
 
 /// What is wrong with a record text, by ascending number: F1 to F4 and F6.
@@ -39,19 +40,12 @@ impl RecordFaultKind {
     }
 }
 
-/// A fault with its line, from 1 on.
-#[derive(Clone, Copy, Debug, PartialEq, Eq)]
-pub struct RecordFault {
-    pub kind: RecordFaultKind,
-    pub line: u64,
-}
-
 /// Why a text gives no records.
 #[derive(Clone, Copy, Debug, PartialEq, Eq, Error)]
 pub enum RecordError {
     /// The first fault by line, and at one line the one with the lowest number.
     #[error("line {}: F{}", .0.line, .0.kind.number())]
-    Fault(RecordFault),
+    Fault(Fault<RecordFaultKind>),
     /// Want of memory.
     #[error("out of memory")]
     NoMemory,

@@ -12,6 +12,6 @@ mod matching;
 mod reading;
 mod stages;
 
-pub use faults::{RecordError, RecordFault, RecordFaultKind};
+pub use faults::{RecordError, RecordFaultKind};
 pub use matching::matches;
 pub use reading::{read_records, read_texts_are_sound};

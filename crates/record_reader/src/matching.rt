@@ -2,7 +2,8 @@
 
 ghost use Rattle.std.specs.Prelude.{◌≡◌, ◌↔◌, ◌&&◌, IsTrue};
 ghost use Rattle.lp_model.specs.Names.{names_of_rows, names_of_columns};
-ghost use Rattle.record_reader.specs.Matching.{live_names, same_names, Matches};
+ghost use Rattle.undo_records.specs.Named.{live_names};
+ghost use Rattle.record_reader.specs.Matching.{same_names, Matches};
 
 use lp_model::{ColumnDef, Program, RowDef};
 use undo_records::{Label, Records};

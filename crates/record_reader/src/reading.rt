@@ -7,10 +7,10 @@ ghost use Rattle.record_reader.specs.Reading.{first_fault, records_of, IsRead};
 ghost use Rattle.record_reader.specs.Results.{seen, TakesAll, IsDraft};
 
 use crate::draft::Draft;
-use crate::faults::{RecordError, RecordFault, RecordFaultKind, TakeError};
+use crate::faults::{RecordError, RecordFaultKind, TakeError};
 use crate::stages::is_over;
 use std::alloc::Global;
-use text_lines::first_raw_line;
+use text_lines::{Fault, first_raw_line};
 use undo_records::Records;
 
 /// A text of records without a fault gives sound records, whose labels have names.
@@ -31,7 +31,7 @@ fn take_lines(alloc: Global, draft: &mut Draft, text: &[u8]) -> Result<(), Recor
         match draft.take_line(alloc, line, after.len()) {
             Ok(()) => {}
             Err(TakeError::Fault(kind)) => {
-                return Err(RecordError::Fault(RecordFault {
+                return Err(RecordError::Fault(Fault {
                     kind,
                     line: number + 1,
                 }));
@@ -44,7 +44,7 @@ fn take_lines(alloc: Global, draft: &mut Draft, text: &[u8]) -> Result<(), Recor
     if is_over(draft.stage) {
         return Ok(());
     }
-    Err(RecordError::Fault(RecordFault {
+    Err(RecordError::Fault(Fault {
         kind: RecordFaultKind::Cut,
         line: number + 1,
     }))

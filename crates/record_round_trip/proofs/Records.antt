@@ -15,17 +15,17 @@ use Rattle.undo_records.specs.declared.undo.Undo.TheVariants as kind
 use Rattle.undo_records.specs.declared.kinds.empty_row.EmptyRow.{EmptyRow}
 use Rattle.undo_records.specs.declared.kinds.singleton_row.SingletonRow.{SingletonRow}
 use Rattle.undo_records.specs.declared.kinds.fixed_column.FixedColumn.{FixedColumn}
-use Rattle.undo_records.specs.declared.kinds.round_bounds.RoundBounds.{RoundBounds}
+use Rattle.undo_records.specs.declared.kinds.rounded_bounds.RoundedBounds.{RoundedBounds}
 use Rattle.undo_records.specs.declared.kinds.redundant_row.RedundantRow.{RedundantRow}
 use Rattle.undo_records.specs.declared.kinds.redundant_side.RedundantSide.{RedundantSide}
 use Rattle.undo_records.specs.declared.kinds.forcing_row.ForcingRow.{ForcingRow}
-use Rattle.undo_records.specs.declared.kinds.tighten_bound.TightenBound.{TightenBound}
-use Rattle.undo_records.specs.declared.kinds.tighten_coefficient.TightenCoefficient.{TightenCoefficient}
-use Rattle.undo_records.specs.declared.kinds.dual_fix.DualFix.{DualFix}
-use Rattle.undo_records.specs.declared.kinds.dominated.Dominated.{Dominated}
-use Rattle.undo_records.specs.declared.kinds.doubleton.Doubleton.{Doubleton}
-use Rattle.undo_records.specs.declared.kinds.free_singleton.FreeSingleton.{FreeSingleton}
-use Rattle.undo_records.specs.declared.kinds.slack_singleton.SlackSingleton.{SlackSingleton}
+use Rattle.undo_records.specs.declared.kinds.bound_tightening.BoundTightening.{BoundTightening}
+use Rattle.undo_records.specs.declared.kinds.coefficient_tightening.CoefficientTightening.{CoefficientTightening}
+use Rattle.undo_records.specs.declared.kinds.dual_fixing.DualFixing.{DualFixing}
+use Rattle.undo_records.specs.declared.kinds.dominated_column.DominatedColumn.{DominatedColumn}
+use Rattle.undo_records.specs.declared.kinds.doubleton_equation.DoubletonEquation.{DoubletonEquation}
+use Rattle.undo_records.specs.declared.kinds.free_column_singleton.FreeColumnSingleton.{FreeColumnSingleton}
+use Rattle.undo_records.specs.declared.kinds.slack_column_singleton.SlackColumnSingleton.{SlackColumnSingleton}
 use Rattle.undo_records.specs.declared.kinds.parallel_rows.ParallelRows.{ParallelRows}
 use Rattle.undo_records.specs.declared.kinds.parallel_columns.ParallelColumns.{ParallelColumns}
 use Rattle.undo_records.specs.declared.kinds.empty_column.EmptyColumn.{EmptyColumn}
@@ -102,10 +102,10 @@ fixed_column m n r s f = record {
   whole = (refl, (id_whole r.column f.0, (ratio_whole r.value f.1, (ratio_whole r.cost f.2, list_whole m r.entries s.1 f.3))));
 }
 
-round_bounds : (m n : ℕ) (r : RoundBounds) → Again m n (kind.RoundBounds r)
-round_bounds m n r s f = record {
+rounded_bounds : (m n : ℕ) (r : RoundedBounds) → Again m n (kind.RoundedBounds r)
+rounded_bounds m n r s f = record {
   rule = K4;
-  read = (refl, form K4 (field_words (kind.RoundBounds r)) (both _ _ (id_passes r.column f) refl) refl, λ t. kind.RoundBounds (record { column = id_again r.column f t }));
+  read = (refl, form K4 (field_words (kind.RoundedBounds r)) (both _ _ (id_passes r.column f) refl) refl, λ t. kind.RoundedBounds (record { column = id_again r.column f t }));
   whole = (refl, (id_whole r.column f, tt));
 }
 
@@ -134,86 +134,86 @@ forcing_row m n r s f = record {
   whole = (refl, (id_whole r.row f.0, (letter_whole r.side, list_whole n r.entries s.1 f.1)));
 }
 
-tighten_bound : (m n : ℕ) (r : TightenBound) → Again m n (kind.TightenBound r)
-tighten_bound m n r s f = record {
+bound_tightening : (m n : ℕ) (r : BoundTightening) → Again m n (kind.BoundTightening r)
+bound_tightening m n r s f = record {
   rule = K8;
   read = (
     refl,
-    form K8 (field_words (kind.TightenBound r)) (both _ _ (id_passes r.row f.0) (both _ _ (id_passes r.column f.1) (both _ _ (side_passes r.side) (both _ _ (bound_passes r.side r.bound f.2) (list_passes n r.entries s.2 f.3)))))
+    form K8 (field_words (kind.BoundTightening r)) (both _ _ (id_passes r.row f.0) (both _ _ (id_passes r.column f.1) (both _ _ (side_passes r.side) (both _ _ (bound_passes r.side r.bound f.2) (list_passes n r.entries s.2 f.3)))))
         (and_from _ _ (bound_agrees r.side r.bound f.2) (listed r.column r.entries f.1 f.3 ∙ s.3)),
-    λ t. kind.TightenBound (record { row = id_again r.row f.0 t; column = id_again r.column f.1 t; side = side_again r.side t; bound = bound_again r.side r.bound f.2 t; entries = list_again r.entries f.3 t }),
+    λ t. kind.BoundTightening (record { row = id_again r.row f.0 t; column = id_again r.column f.1 t; side = side_again r.side t; bound = bound_again r.side r.bound f.2 t; entries = list_again r.entries f.3 t }),
   );
   whole = (refl, (id_whole r.row f.0, (id_whole r.column f.1, (side_whole r.side, (bound_whole r.side r.bound f.2, list_whole n r.entries s.2 f.3)))));
 }
 
-tighten_coefficient : (m n : ℕ) (r : TightenCoefficient) → Again m n (kind.TightenCoefficient r)
-tighten_coefficient m n r s f = record {
+coefficient_tightening : (m n : ℕ) (r : CoefficientTightening) → Again m n (kind.CoefficientTightening r)
+coefficient_tightening m n r s f = record {
   rule = K9;
   read = (
     refl,
-    form K9 (field_words (kind.TightenCoefficient r)) (both _ _ (id_passes r.row f.0) (both _ _ (id_passes r.column f.1) refl)) refl,
-    λ t. kind.TightenCoefficient (record { row = id_again r.row f.0 t; column = id_again r.column f.1 t }),
+    form K9 (field_words (kind.CoefficientTightening r)) (both _ _ (id_passes r.row f.0) (both _ _ (id_passes r.column f.1) refl)) refl,
+    λ t. kind.CoefficientTightening (record { row = id_again r.row f.0 t; column = id_again r.column f.1 t }),
   );
   whole = (refl, (id_whole r.row f.0, (id_whole r.column f.1, tt)));
 }
 
-dual_fix : (m n : ℕ) (r : DualFix) → Again m n (kind.DualFix r)
-dual_fix m n r s f = record {
+dual_fixing : (m n : ℕ) (r : DualFixing) → Again m n (kind.DualFixing r)
+dual_fixing m n r s f = record {
   rule = K10;
-  read = (refl, form K10 (field_words (kind.DualFix r)) (both _ _ (id_passes r.column f) refl) refl, λ t. kind.DualFix (record { column = id_again r.column f t }));
+  read = (refl, form K10 (field_words (kind.DualFixing r)) (both _ _ (id_passes r.column f) refl) refl, λ t. kind.DualFixing (record { column = id_again r.column f t }));
   whole = (refl, (id_whole r.column f, tt));
 }
 
-dominated : (m n : ℕ) (r : Dominated) → Again m n (kind.Dominated r)
-dominated m n r s f = record {
+dominated_column : (m n : ℕ) (r : DominatedColumn) → Again m n (kind.DominatedColumn r)
+dominated_column m n r s f = record {
   rule = K11;
   read = (
     refl,
-    form K11 (field_words (kind.Dominated r)) (both _ _ (id_passes r.row f.0) (both _ _ (id_passes r.better f.1) (both _ _ (id_passes r.column f.2) refl))) (apart r.better r.column f.1 f.2 s.1.2),
-    λ t. kind.Dominated (record { row = id_again r.row f.0 t; better = id_again r.better f.1 t; column = id_again r.column f.2 t }),
+    form K11 (field_words (kind.DominatedColumn r)) (both _ _ (id_passes r.row f.0) (both _ _ (id_passes r.better f.1) (both _ _ (id_passes r.column f.2) refl))) (apart r.better r.column f.1 f.2 s.1.2),
+    λ t. kind.DominatedColumn (record { row = id_again r.row f.0 t; better = id_again r.better f.1 t; column = id_again r.column f.2 t }),
   );
   whole = (refl, (id_whole r.row f.0, (id_whole r.better f.1, (id_whole r.column f.2, tt))));
 }
 
-doubleton : (m n : ℕ) (r : Doubleton) → Again m n (kind.Doubleton r)
-doubleton m n r s ((fi, fj, fk), (fa, fb, fr), (fl, fu), fc, ft) = record {
+doubleton_equation : (m n : ℕ) (r : DoubletonEquation) → Again m n (kind.DoubletonEquation r)
+doubleton_equation m n r s ((fi, fj, fk), (fa, fb, fr), (fl, fu), fc, ft) = record {
   rule = K12;
   read = (
     refl,
-    form K12 (field_words (kind.Doubleton r))
+    form K12 (field_words (kind.DoubletonEquation r))
         (both _ _ (id_passes r.row fi) (both _ _ (id_passes r.column fj) (both _ _ (id_passes r.kept fk)
         (both _ _ (entry_passes r.value fa s.0.2) (both _ _ (entry_passes r.kept_value fb s.2) (both _ _ (number_passes r.equal fr)
         (both _ _ (lower_passes r.lower fl) (both _ _ (upper_passes r.upper fu) (both _ _ (number_passes r.cost fc) (list_passes m r.entries s.3.0 ft))))))))))
         (and_from _ _ (apart r.column r.kept fj fk s.1.2) (left_out r.row r.entries fi ft s.3.1)),
-    λ t. kind.Doubleton (record { row = id_again r.row fi t; column = id_again r.column fj t; kept = id_again r.kept fk t; value = number_again r.value fa t; kept_value = number_again r.kept_value fb t; equal = number_again r.equal fr t; lower = lower_again r.lower fl t; upper = upper_again r.upper fu t; cost = number_again r.cost fc t; entries = list_again r.entries ft t }),
+    λ t. kind.DoubletonEquation (record { row = id_again r.row fi t; column = id_again r.column fj t; kept = id_again r.kept fk t; value = number_again r.value fa t; kept_value = number_again r.kept_value fb t; equal = number_again r.equal fr t; lower = lower_again r.lower fl t; upper = upper_again r.upper fu t; cost = number_again r.cost fc t; entries = list_again r.entries ft t }),
   );
   whole = (refl, (id_whole r.row fi, (id_whole r.column fj, (id_whole r.kept fk, (ratio_whole r.value fa, (ratio_whole r.kept_value fb, (ratio_whole r.equal fr, (lower_whole r.lower fl, (upper_whole r.upper fu, (ratio_whole r.cost fc, list_whole m r.entries s.3.0 ft))))))))));
 }
 
-free_singleton : (m n : ℕ) (r : FreeSingleton) → Again m n (kind.FreeSingleton r)
-free_singleton m n r s ((fj, fi), (fa, fs, fp), ft) = record {
+free_column_singleton : (m n : ℕ) (r : FreeColumnSingleton) → Again m n (kind.FreeColumnSingleton r)
+free_column_singleton m n r s ((fj, fi), (fa, fs, fp), ft) = record {
   rule = K13;
   read = (
     refl,
-    form K13 (field_words (kind.FreeSingleton r))
+    form K13 (field_words (kind.FreeColumnSingleton r))
         (both _ _ (id_passes r.column fj) (both _ _ (id_passes r.row fi) (both _ _ (entry_passes r.value fa s.0.2) (both _ _ (number_passes r.at fs) (both _ _ (number_passes r.price fp) (list_passes n r.entries s.1.0 ft))))))
         (left_out r.column r.entries fj ft s.1.1),
-    λ t. kind.FreeSingleton (record { column = id_again r.column fj t; row = id_again r.row fi t; value = number_again r.value fa t; at = number_again r.at fs t; price = number_again r.price fp t; entries = list_again r.entries ft t }),
+    λ t. kind.FreeColumnSingleton (record { column = id_again r.column fj t; row = id_again r.row fi t; value = number_again r.value fa t; at = number_again r.at fs t; price = number_again r.price fp t; entries = list_again r.entries ft t }),
   );
   whole = (refl, (id_whole r.column fj, (id_whole r.row fi, (ratio_whole r.value fa, (ratio_whole r.at fs, (ratio_whole r.price fp, list_whole n r.entries s.1.0 ft))))));
 }
 
-slack_singleton : (m n : ℕ) (r : SlackSingleton) → Again m n (kind.SlackSingleton r)
-slack_singleton m n r s ((fj, fi), (fa, fp), (fL, fU), (fl, fu), ft) = record {
+slack_column_singleton : (m n : ℕ) (r : SlackColumnSingleton) → Again m n (kind.SlackColumnSingleton r)
+slack_column_singleton m n r s ((fj, fi), (fa, fp), (fL, fU), (fl, fu), ft) = record {
   rule = K14;
   read = (
     refl,
-    form K14 (field_words (kind.SlackSingleton r))
+    form K14 (field_words (kind.SlackColumnSingleton r))
         (both _ _ (id_passes r.column fj) (both _ _ (id_passes r.row fi) (both _ _ (entry_passes r.value fa s.0.2) (both _ _ (number_passes r.price fp)
         (both _ _ (lower_passes r.lower_side fL) (both _ _ (upper_passes r.upper_side fU) (both _ _ (lower_passes r.lower fl) (both _ _ (upper_passes r.upper fu)
         (both _ _ (fate_passes r.fate) (list_passes n r.entries s.1.0 ft))))))))))
         (left_out r.column r.entries fj ft s.1.1),
-    λ t. kind.SlackSingleton (record { column = id_again r.column fj t; row = id_again r.row fi t; value = number_again r.value fa t; price = number_again r.price fp t; lower_side = lower_again r.lower_side fL t; upper_side = upper_again r.upper_side fU t; lower = lower_again r.lower fl t; upper = upper_again r.upper fu t; fate = fate_again r.fate t; entries = list_again r.entries ft t }),
+    λ t. kind.SlackColumnSingleton (record { column = id_again r.column fj t; row = id_again r.row fi t; value = number_again r.value fa t; price = number_again r.price fp t; lower_side = lower_again r.lower_side fL t; upper_side = upper_again r.upper_side fU t; lower = lower_again r.lower fl t; upper = upper_again r.upper fu t; fate = fate_again r.fate t; entries = list_again r.entries ft t }),
   );
   whole = (refl, (id_whole r.column fj, (id_whole r.row fi, (ratio_whole r.value fa, (ratio_whole r.price fp, (lower_whole r.lower_side fL, (upper_whole r.upper_side fU, (lower_whole r.lower fl, (upper_whole r.upper fu, (fate_whole r.fate, list_whole n r.entries s.1.0 ft))))))))));
 }
@@ -256,17 +256,17 @@ pub record_again : (m n : ℕ) (u : Undo) → Again m n u
 record_again m n (kind.EmptyRow r) = empty_row m n r
 record_again m n (kind.SingletonRow r) = singleton_row m n r
 record_again m n (kind.FixedColumn r) = fixed_column m n r
-record_again m n (kind.RoundBounds r) = round_bounds m n r
+record_again m n (kind.RoundedBounds r) = rounded_bounds m n r
 record_again m n (kind.RedundantRow r) = redundant_row m n r
 record_again m n (kind.RedundantSide r) = redundant_side m n r
 record_again m n (kind.ForcingRow r) = forcing_row m n r
-record_again m n (kind.TightenBound r) = tighten_bound m n r
-record_again m n (kind.TightenCoefficient r) = tighten_coefficient m n r
-record_again m n (kind.DualFix r) = dual_fix m n r
-record_again m n (kind.Dominated r) = dominated m n r
-record_again m n (kind.Doubleton r) = doubleton m n r
-record_again m n (kind.FreeSingleton r) = free_singleton m n r
-record_again m n (kind.SlackSingleton r) = slack_singleton m n r
+record_again m n (kind.BoundTightening r) = bound_tightening m n r
+record_again m n (kind.CoefficientTightening r) = coefficient_tightening m n r
+record_again m n (kind.DualFixing r) = dual_fixing m n r
+record_again m n (kind.DominatedColumn r) = dominated_column m n r
+record_again m n (kind.DoubletonEquation r) = doubleton_equation m n r
+record_again m n (kind.FreeColumnSingleton r) = free_column_singleton m n r
+record_again m n (kind.SlackColumnSingleton r) = slack_column_singleton m n r
 record_again m n (kind.ParallelRows r) = parallel_rows m n r
 record_again m n (kind.ParallelColumns r) = parallel_columns m n r
 record_again m n (kind.EmptyColumn r) = empty_column m n r

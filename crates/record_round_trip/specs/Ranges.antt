@@ -5,7 +5,7 @@ use Rattle.rational.specs.Lowest.{Fits}
 use Rattle.lp_model.specs.declared.terms.Term.{Term}
 use Rattle.undo_records.specs.Postsolve.{Postsolve}
 use Rattle.undo_records.specs.declared.undo.Undo.{Undo}
-use Rattle.undo_records.specs.declared.undo.Undo.TheVariants.{EmptyRow, SingletonRow, FixedColumn, RoundBounds, RedundantRow, RedundantSide, ForcingRow, TightenBound, TightenCoefficient, DualFix, Dominated, Doubleton, FreeSingleton, SlackSingleton, ParallelRows, ParallelColumns, EmptyColumn}
+use Rattle.undo_records.specs.declared.undo.Undo.TheVariants.{EmptyRow, SingletonRow, FixedColumn, RoundedBounds, RedundantRow, RedundantSide, ForcingRow, BoundTightening, CoefficientTightening, DualFixing, DominatedColumn, DoubletonEquation, FreeColumnSingleton, SlackColumnSingleton, ParallelRows, ParallelColumns, EmptyColumn}
 
 -- an id of 32 bits
 abbrev pub IsId : ℕ → Type 0
@@ -28,17 +28,17 @@ abbrev pub UndoFits : Undo → Type 0
 UndoFits (EmptyRow r) = IsId r.row
 UndoFits (SingletonRow r) = IsId r.row × IsId r.column × Fits r.value × EndsFit r.lower r.upper
 UndoFits (FixedColumn r) = IsId r.column × Fits r.value × Fits r.cost × ListFits r.entries
-UndoFits (RoundBounds r) = IsId r.column
+UndoFits (RoundedBounds r) = IsId r.column
 UndoFits (RedundantRow r) = IsId r.row
 UndoFits (RedundantSide r) = IsId r.row
 UndoFits (ForcingRow r) = IsId r.row × ListFits r.entries
-UndoFits (TightenBound r) = IsId r.row × IsId r.column × EndFits r.bound × ListFits r.entries
-UndoFits (TightenCoefficient r) = IsId r.row × IsId r.column
-UndoFits (DualFix r) = IsId r.column
-UndoFits (Dominated r) = IsId r.row × IsId r.better × IsId r.column
-UndoFits (Doubleton r) = (IsId r.row × IsId r.column × IsId r.kept) × (Fits r.value × Fits r.kept_value × Fits r.equal) × EndsFit r.lower r.upper × Fits r.cost × ListFits r.entries
-UndoFits (FreeSingleton r) = (IsId r.column × IsId r.row) × (Fits r.value × Fits r.at × Fits r.price) × ListFits r.entries
-UndoFits (SlackSingleton r) = (IsId r.column × IsId r.row) × (Fits r.value × Fits r.price) × EndsFit r.lower_side r.upper_side × EndsFit r.lower r.upper × ListFits r.entries
+UndoFits (BoundTightening r) = IsId r.row × IsId r.column × EndFits r.bound × ListFits r.entries
+UndoFits (CoefficientTightening r) = IsId r.row × IsId r.column
+UndoFits (DualFixing r) = IsId r.column
+UndoFits (DominatedColumn r) = IsId r.row × IsId r.better × IsId r.column
+UndoFits (DoubletonEquation r) = (IsId r.row × IsId r.column × IsId r.kept) × (Fits r.value × Fits r.kept_value × Fits r.equal) × EndsFit r.lower r.upper × Fits r.cost × ListFits r.entries
+UndoFits (FreeColumnSingleton r) = (IsId r.column × IsId r.row) × (Fits r.value × Fits r.at × Fits r.price) × ListFits r.entries
+UndoFits (SlackColumnSingleton r) = (IsId r.column × IsId r.row) × (Fits r.value × Fits r.price) × EndsFit r.lower_side r.upper_side × EndsFit r.lower r.upper × ListFits r.entries
 UndoFits (ParallelRows r) = (IsId r.row × IsId r.kept) × Fits r.factor × EndsFit r.lower r.upper × ListFits r.entries
 UndoFits (ParallelColumns r) = (IsId r.column × IsId r.kept) × Fits r.factor × EndsFit r.lower r.upper × EndsFit r.kept_lower r.kept_upper
 UndoFits (EmptyColumn r) = IsId r.column

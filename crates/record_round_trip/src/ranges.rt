@@ -11,8 +11,9 @@ use fractions::ext::Ext;
 use fractions::frac::Frac;
 use lp_model::Term;
 use undo_records::{
-    Dominated, Doubleton, FixedColumn, ForcingRow, FreeSingleton, ParallelColumns, ParallelRows,
-    Records, SingletonRow, SlackSingleton, TightenBound, TightenCoefficient, Undo,
+    BoundTightening, CoefficientTightening, DominatedColumn, DoubletonEquation, FixedColumn,
+    ForcingRow, FreeColumnSingleton, ParallelColumns, ParallelRows, Records, SingletonRow,
+    SlackColumnSingleton, Undo,
 };
 
 /// An id has 32 bits.
@@ -94,8 +95,8 @@ fn forcing_row_fits(undo: &ForcingRow)
 }
 
 /// The record of a bound that was replaced.
-fn tighten_bound_fits(undo: &TightenBound)
-    ensures { UndoFits (kind.TightenBound undo.now) }
+fn bound_tightening_fits(undo: &BoundTightening)
+    ensures { UndoFits (kind.BoundTightening undo.now) }
 {
     id_fits(undo.row);
     id_fits(undo.column);
@@ -104,16 +105,16 @@ fn tighten_bound_fits(undo: &TightenBound)
 }
 
 /// The record of an entry that was brought nearer to 0.
-fn tighten_coefficient_fits(undo: &TightenCoefficient)
-    ensures { UndoFits (kind.TightenCoefficient undo.now) }
+fn coefficient_tightening_fits(undo: &CoefficientTightening)
+    ensures { UndoFits (kind.CoefficientTightening undo.now) }
 {
     id_fits(undo.row);
     id_fits(undo.column);
 }
 
 /// The record of a column that another one does better than.
-fn dominated_fits(undo: &Dominated)
-    ensures { UndoFits (kind.Dominated undo.now) }
+fn dominated_column_fits(undo: &DominatedColumn)
+    ensures { UndoFits (kind.DominatedColumn undo.now) }
 {
     id_fits(undo.row);
     id_fits(undo.better);
@@ -121,8 +122,8 @@ fn dominated_fits(undo: &Dominated)
 }
 
 /// The record of an equation of two columns.
-fn doubleton_fits(undo: &Doubleton)
-    ensures { UndoFits (kind.Doubleton undo.now) }
+fn doubleton_equation_fits(undo: &DoubletonEquation)
+    ensures { UndoFits (kind.DoubletonEquation undo.now) }
 {
     id_fits(undo.row);
     id_fits(undo.column);
@@ -135,9 +136,9 @@ fn doubleton_fits(undo: &Doubleton)
     list_fits(undo.entries.as_slice());
 }
 
-/// The record of a free column with one entry.
-fn free_singleton_fits(undo: &FreeSingleton)
-    ensures { UndoFits (kind.FreeSingleton undo.now) }
+/// The record of a free column singleton.
+fn free_column_singleton_fits(undo: &FreeColumnSingleton)
+    ensures { UndoFits (kind.FreeColumnSingleton undo.now) }
 {
     id_fits(undo.column);
     id_fits(undo.row);
@@ -147,9 +148,9 @@ fn free_singleton_fits(undo: &FreeSingleton)
     list_fits(undo.entries.as_slice());
 }
 
-/// The record of a slack column with one entry.
-fn slack_singleton_fits(undo: &SlackSingleton)
-    ensures { UndoFits (kind.SlackSingleton undo.now) }
+/// The record of a slack column singleton.
+fn slack_column_singleton_fits(undo: &SlackColumnSingleton)
+    ensures { UndoFits (kind.SlackColumnSingleton undo.now) }
 {
     id_fits(undo.column);
     id_fits(undo.row);
@@ -190,17 +191,17 @@ fn undo_fits(undo: &Undo)
         Undo::EmptyRow(undo) => id_fits(undo.row),
         Undo::SingletonRow(undo) => singleton_row_fits(undo),
         Undo::FixedColumn(undo) => fixed_column_fits(undo),
-        Undo::RoundBounds(undo) => id_fits(undo.column),
+        Undo::RoundedBounds(undo) => id_fits(undo.column),
         Undo::RedundantRow(undo) => id_fits(undo.row),
         Undo::RedundantSide(undo) => id_fits(undo.row),
         Undo::ForcingRow(undo) => forcing_row_fits(undo),
-        Undo::TightenBound(undo) => tighten_bound_fits(undo),
-        Undo::TightenCoefficient(undo) => tighten_coefficient_fits(undo),
-        Undo::DualFix(undo) => id_fits(undo.column),
-        Undo::Dominated(undo) => dominated_fits(undo),
-        Undo::Doubleton(undo) => doubleton_fits(undo),
-        Undo::FreeSingleton(undo) => free_singleton_fits(undo),
-        Undo::SlackSingleton(undo) => slack_singleton_fits(undo),
+        Undo::BoundTightening(undo) => bound_tightening_fits(undo),
+        Undo::CoefficientTightening(undo) => coefficient_tightening_fits(undo),
+        Undo::DualFixing(undo) => id_fits(undo.column),
+        Undo::DominatedColumn(undo) => dominated_column_fits(undo),
+        Undo::DoubletonEquation(undo) => doubleton_equation_fits(undo),
+        Undo::FreeColumnSingleton(undo) => free_column_singleton_fits(undo),
+        Undo::SlackColumnSingleton(undo) => slack_column_singleton_fits(undo),
         Undo::ParallelRows(undo) => parallel_rows_fits(undo),
         Undo::ParallelColumns(undo) => parallel_columns_fits(undo),
         Undo::EmptyColumn(undo) => id_fits(undo.column),

@@ -11,7 +11,7 @@ use Rattle.undo_records.specs.declared.side.Side.TheVariants.{Lower}
 use Rattle.undo_records.specs.declared.side.RowFate.{RowFate}
 use Rattle.undo_records.specs.declared.side.RowFate.TheVariants.{Kept}
 use Rattle.undo_records.specs.declared.undo.Undo.{Undo}
-use Rattle.undo_records.specs.declared.undo.Undo.TheVariants.{EmptyRow, SingletonRow, FixedColumn, RoundBounds, RedundantRow, RedundantSide, ForcingRow, TightenBound, TightenCoefficient, DualFix, Dominated, Doubleton, FreeSingleton, SlackSingleton, ParallelRows, ParallelColumns, EmptyColumn}
+use Rattle.undo_records.specs.declared.undo.Undo.TheVariants.{EmptyRow, SingletonRow, FixedColumn, RoundedBounds, RedundantRow, RedundantSide, ForcingRow, BoundTightening, CoefficientTightening, DualFixing, DominatedColumn, DoubletonEquation, FreeColumnSingleton, SlackColumnSingleton, ParallelRows, ParallelColumns, EmptyColumn}
 use Rattle.record_fields.specs.Words.{first, others, skip, id_of, same_id}
 use Rattle.record_fields.specs.Faults.{unless, lower}
 use Rattle.record_fields.specs.Ratios.{ratio_of}
@@ -56,17 +56,17 @@ abbrev pub undo_of : Rule → List (List ℕ) → Undo
 undo_of K1 ws = EmptyRow (record { row = id 0 ws })
 undo_of K2 ws = SingletonRow (record { row = id 0 ws; column = id 1 ws; value = num 2 ws; lower = end 3 ws; upper = end 4 ws })
 undo_of K3 ws = FixedColumn (record { column = id 0 ws; value = num 1 ws; cost = num 2 ws; entries = list 3 ws })
-undo_of K4 ws = RoundBounds (record { column = id 0 ws })
+undo_of K4 ws = RoundedBounds (record { column = id 0 ws })
 undo_of K5 ws = RedundantRow (record { row = id 0 ws })
 undo_of K6 ws = RedundantSide (record { row = id 0 ws })
 undo_of K7 ws = ForcingRow (record { row = id 0 ws; side = letter 1 ws; entries = list 2 ws })
-undo_of K8 ws = TightenBound (record { row = id 0 ws; column = id 1 ws; side = bound 2 ws; bound = end 3 ws; entries = list 4 ws })
-undo_of K9 ws = TightenCoefficient (record { row = id 0 ws; column = id 1 ws })
-undo_of K10 ws = DualFix (record { column = id 0 ws })
-undo_of K11 ws = Dominated (record { row = id 0 ws; better = id 1 ws; column = id 2 ws })
-undo_of K12 ws = Doubleton (record { row = id 0 ws; column = id 1 ws; kept = id 2 ws; value = num 3 ws; kept_value = num 4 ws; equal = num 5 ws; lower = end 6 ws; upper = end 7 ws; cost = num 8 ws; entries = list 9 ws })
-undo_of K13 ws = FreeSingleton (record { column = id 0 ws; row = id 1 ws; value = num 2 ws; at = num 3 ws; price = num 4 ws; entries = list 5 ws })
-undo_of K14 ws = SlackSingleton (record { column = id 0 ws; row = id 1 ws; value = num 2 ws; price = num 3 ws; lower_side = end 4 ws; upper_side = end 5 ws; lower = end 6 ws; upper = end 7 ws; fate = fate 8 ws; entries = list 9 ws })
+undo_of K8 ws = BoundTightening (record { row = id 0 ws; column = id 1 ws; side = bound 2 ws; bound = end 3 ws; entries = list 4 ws })
+undo_of K9 ws = CoefficientTightening (record { row = id 0 ws; column = id 1 ws })
+undo_of K10 ws = DualFixing (record { column = id 0 ws })
+undo_of K11 ws = DominatedColumn (record { row = id 0 ws; better = id 1 ws; column = id 2 ws })
+undo_of K12 ws = DoubletonEquation (record { row = id 0 ws; column = id 1 ws; kept = id 2 ws; value = num 3 ws; kept_value = num 4 ws; equal = num 5 ws; lower = end 6 ws; upper = end 7 ws; cost = num 8 ws; entries = list 9 ws })
+undo_of K13 ws = FreeColumnSingleton (record { column = id 0 ws; row = id 1 ws; value = num 2 ws; at = num 3 ws; price = num 4 ws; entries = list 5 ws })
+undo_of K14 ws = SlackColumnSingleton (record { column = id 0 ws; row = id 1 ws; value = num 2 ws; price = num 3 ws; lower_side = end 4 ws; upper_side = end 5 ws; lower = end 6 ws; upper = end 7 ws; fate = fate 8 ws; entries = list 9 ws })
 undo_of K15 ws = ParallelRows (record { row = id 0 ws; kept = id 1 ws; factor = num 2 ws; lower = end 3 ws; upper = end 4 ws; entries = list 5 ws })
 undo_of K16 ws = ParallelColumns (record { column = id 0 ws; kept = id 1 ws; factor = num 2 ws; lower = end 3 ws; upper = end 4 ws; kept_lower = end 5 ws; kept_upper = end 6 ws })
 undo_of K17 ws = EmptyColumn (record { column = id 0 ws })

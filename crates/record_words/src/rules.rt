@@ -32,9 +32,9 @@ pub enum Rule {
     K11,
     /// An equation of two columns.
     K12,
-    /// A free column with one entry.
+    /// A free column singleton.
     K13,
-    /// A slack column with one entry.
+    /// A slack column singleton.
     K14,
     /// Parallel rows.
     K15,

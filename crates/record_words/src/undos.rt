@@ -17,10 +17,11 @@ use record_fields::ratios::number_in;
 use record_fields::words::{Words, next_word};
 use std::alloc::{AllocError, Global};
 use undo_records::{
-    Dominated, Doubleton, DualFix, EmptyColumn, EmptyRow, EndApart, FixedColumn, ForcingRow,
-    FreeSingleton, KeptEnd, KeptNumber, NumberApart, ParallelColumns, ParallelRows, RedundantRow,
-    RedundantSide, RoundBounds, RowFate, SharedTerms, Side, SingletonRow, SlackSingleton,
-    TermsApart, TightenBound, TightenCoefficient, Undo,
+    BoundTightening, CoefficientTightening, DominatedColumn, DoubletonEquation, DualFixing,
+    EmptyColumn, EmptyRow, EndApart, FixedColumn, ForcingRow, FreeColumnSingleton, KeptEnd,
+    KeptNumber, NumberApart, ParallelColumns, ParallelRows, RedundantRow, RedundantSide,
+    RoundedBounds, RowFate, SharedTerms, Side, SingletonRow, SlackColumnSingleton, TermsApart,
+    Undo,
 };
 
 /// The next word as an id.
@@ -119,7 +120,7 @@ fn forcing_row(alloc: Global, words: Words<'_>) -> Result<Undo, AllocError>
 }
 
 /// The record of a bound that was tightened.
-fn tighten_bound(alloc: Global, words: Words<'_>) -> Result<Undo, AllocError>
+fn bound_tightening(alloc: Global, words: Words<'_>) -> Result<Undo, AllocError>
     ensures { IfOk result (λ undo. undo ≡ undo_of K8 (words_left words.entry)) }
 {
     let mut rest = words;
@@ -128,7 +129,7 @@ fn tighten_bound(alloc: Global, words: Words<'_>) -> Result<Undo, AllocError>
     let side = bound_of(next_word(&mut rest)).unwrap_or(Side::Lower);
     let bound = next_end(alloc, &mut rest)?;
     let entries = SharedTerms::new(alloc, list_in(alloc, rest)?)?;
-    Ok(Undo::TightenBound(TightenBound {
+    Ok(Undo::BoundTightening(BoundTightening {
         row,
         column,
         side,
@@ -138,7 +139,7 @@ fn tighten_bound(alloc: Global, words: Words<'_>) -> Result<Undo, AllocError>
 }
 
 /// The record of an equation of two columns.
-fn doubleton(alloc: Global, words: Words<'_>) -> Result<Undo, AllocError>
+fn doubleton_equation(alloc: Global, words: Words<'_>) -> Result<Undo, AllocError>
     ensures { IfOk result (λ undo. undo ≡ undo_of K12 (words_left words.entry)) }
 {
     let mut rest = words;
@@ -152,7 +153,7 @@ fn doubleton(alloc: Global, words: Words<'_>) -> Result<Undo, AllocError>
     let upper = end_apart(alloc, &mut rest)?;
     let cost = number_apart(alloc, &mut rest)?;
     let entries = list_apart(alloc, rest)?;
-    Ok(Undo::Doubleton(Doubleton {
+    Ok(Undo::DoubletonEquation(DoubletonEquation {
         row,
         column,
         kept,
@@ -166,8 +167,8 @@ fn doubleton(alloc: Global, words: Words<'_>) -> Result<Undo, AllocError>
     }))
 }
 
-/// The record of a free column with one entry.
-fn free_singleton(alloc: Global, words: Words<'_>) -> Result<Undo, AllocError>
+/// The record of a free column singleton.
+fn free_column_singleton(alloc: Global, words: Words<'_>) -> Result<Undo, AllocError>
     ensures { IfOk result (λ undo. undo ≡ undo_of K13 (words_left words.entry)) }
 {
     let mut rest = words;
@@ -177,7 +178,7 @@ fn free_singleton(alloc: Global, words: Words<'_>) -> Result<Undo, AllocError>
     let at = number_apart(alloc, &mut rest)?;
     let price = number_apart(alloc, &mut rest)?;
     let entries = list_in(alloc, rest)?;
-    Ok(Undo::FreeSingleton(FreeSingleton {
+    Ok(Undo::FreeColumnSingleton(FreeColumnSingleton {
         column,
         row,
         value,
@@ -187,8 +188,8 @@ fn free_singleton(alloc: Global, words: Words<'_>) -> Result<Undo, AllocError>
     }))
 }
 
-/// The record of a slack column with one entry.
-fn slack_singleton(alloc: Global, words: Words<'_>) -> Result<Undo, AllocError>
+/// The record of a slack column singleton.
+fn slack_column_singleton(alloc: Global, words: Words<'_>) -> Result<Undo, AllocError>
     ensures { IfOk result (λ undo. undo ≡ undo_of K14 (words_left words.entry)) }
 {
     let mut rest = words;
@@ -202,7 +203,7 @@ fn slack_singleton(alloc: Global, words: Words<'_>) -> Result<Undo, AllocError>
     let upper = end_apart(alloc, &mut rest)?;
     let fate = fate_of(next_word(&mut rest)).unwrap_or(RowFate::Kept);
     let entries = list_apart(alloc, rest)?;
-    Ok(Undo::SlackSingleton(SlackSingleton {
+    Ok(Undo::SlackColumnSingleton(SlackColumnSingleton {
         column,
         row,
         value,
@@ -271,15 +272,15 @@ fn ids_alone(rule: Rule, words: Words<'_>) -> Undo
     let third = next_id(&mut rest);
     match rule {
         Rule::K1 => Undo::EmptyRow(EmptyRow { row: first }),
-        Rule::K4 => Undo::RoundBounds(RoundBounds { column: first }),
+        Rule::K4 => Undo::RoundedBounds(RoundedBounds { column: first }),
         Rule::K5 => Undo::RedundantRow(RedundantRow { row: first }),
         Rule::K6 => Undo::RedundantSide(RedundantSide { row: first }),
-        Rule::K9 => Undo::TightenCoefficient(TightenCoefficient {
+        Rule::K9 => Undo::CoefficientTightening(CoefficientTightening {
             row: first,
             column: second,
         }),
-        Rule::K10 => Undo::DualFix(DualFix { column: first }),
-        Rule::K11 => Undo::Dominated(Dominated {
+        Rule::K10 => Undo::DualFixing(DualFixing { column: first }),
+        Rule::K11 => Undo::DominatedColumn(DominatedColumn {
             row: first,
             better: second,
             column: third,
@@ -296,10 +297,10 @@ pub fn undo_in(alloc: Global, rule: Rule, words: Words<'_>) -> Result<Undo, Allo
         Rule::K2 => singleton_row(alloc, words),
         Rule::K3 => fixed_column(alloc, words),
         Rule::K7 => forcing_row(alloc, words),
-        Rule::K8 => tighten_bound(alloc, words),
-        Rule::K12 => doubleton(alloc, words),
-        Rule::K13 => free_singleton(alloc, words),
-        Rule::K14 => slack_singleton(alloc, words),
+        Rule::K8 => bound_tightening(alloc, words),
+        Rule::K12 => doubleton_equation(alloc, words),
+        Rule::K13 => free_column_singleton(alloc, words),
+        Rule::K14 => slack_column_singleton(alloc, words),
         Rule::K15 => parallel_rows(alloc, words),
         Rule::K16 => parallel_columns(alloc, words),
         other => Ok(ids_alone(other, words)),

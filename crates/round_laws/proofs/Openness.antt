@@ -8,7 +8,7 @@ use Rattle.undo_records.specs.declared.side.Side.TheVariants.{Lower, Upper}
 use Rattle.presolve_model.specs.declared.instance.Instance.{Instance}
 use Rattle.presolve_model.specs.declared.instance.Instance.TheVariants as at
 use Rattle.presolve_model.specs.declared.instance.Reduction.{Reduction}
-use Rattle.presolve_model.specs.declared.instance.Reduction.TheVariants.{TightenedBound}
+use Rattle.presolve_model.specs.declared.instance.Reduction.TheVariants.{BoundTightening}
 use Rattle.presolve_model.specs.Instances.{is_open, tallied}
 use Rattle.presolve_model.specs.Tallies.{count_on, counted, Counts, one_more, open_on}
 
@@ -38,9 +38,9 @@ fewer_open n m l h = let k = ltb-true m 10 h in lt-ltb n 10 (omega (arith, l, k)
 
 -- ---- what is open after a reduction was
 pub open_before : (r : Reduction) (c : Counts) (e : Instance) → is_open (open_on (tallied r c)) e ≡ true → is_open (open_on c) e ≡ true
-open_before (TightenedBound i j side) c (at.Reduction (TightenedBound h k s)) o = fewer_open (count_on c k s) (count_on (counted c j side) k s) (count_grows c j side k s) o
-open_before (TightenedBound i j side) c (at.Reduction r) o = refl
-open_before (TightenedBound i j side) c (at.Verdict v) o = refl
+open_before (BoundTightening i j side) c (at.Reduction (BoundTightening h k s)) o = fewer_open (count_on c k s) (count_on (counted c j side) k s) (count_grows c j side k s) o
+open_before (BoundTightening i j side) c (at.Reduction r) o = refl
+open_before (BoundTightening i j side) c (at.Verdict v) o = refl
 open_before r c e o = o
 
 -- ---- on another side of another column it stays as it is
@@ -60,12 +60,12 @@ count_other c j Upper k Upper = by (cases_eq k j)
 
 -- a reduction leaves what is open on a side of a column as it was, or tightens it
 abbrev pub Tightens : Reduction → ℕ → Side → Type 0
-Tightens r k s = (i : ℕ) × (r ≡ TightenedBound i k s)
+Tightens r k s = (i : ℕ) × (r ≡ BoundTightening i k s)
 
 pub open_cases : (r : Reduction) (c : Counts) (k : ℕ) (s : Side) → (open_on (tallied r c) k s ≡ open_on c k s) ⊎ Tightens r k s
-open_cases (TightenedBound i j side) c k s = by (count_other c j side k s)
+open_cases (BoundTightening i j side) c k s = by (count_other c j side k s)
   where
-    by : (count_on (counted c j side) k s ≡ count_on c k s) ⊎ ((j ≡ k) × (side ≡ s)) → (open_on (counted c j side) k s ≡ open_on c k s) ⊎ Tightens (TightenedBound i j side) k s
+    by : (count_on (counted c j side) k s ≡ count_on c k s) ⊎ ((j ≡ k) × (side ≡ s)) → (open_on (counted c j side) k s ≡ open_on c k s) ⊎ Tightens (BoundTightening i j side) k s
     by (inl e) = inl (ap (λ (n : ℕ). nat_lt n 10) e)
-    by (inr (e, g)) = inr (i, λ t. TightenedBound i (e t) (g t))
+    by (inr (e, g)) = inr (i, λ t. BoundTightening i (e t) (g t))
 open_cases r c k s = inl refl

@@ -67,10 +67,10 @@ visited_kept opens p n v sorted =
     ∙ ap (filter (enabled_on p)) (sym (filter-append (is_there n) (all_of opens p verdict_order) (all_of opens p reduction_order))) in
     ap (map (proposal_of p v)) both
 
-pub passed_round : (b c : Ledger) (n : Around) (k m : Marks) → AreSorted n → IsComplete b.numbers (open_on b.tally) b.problem n k.asleep → Passed (open_on b.tally) b.problem (visited (open_on b.tally) b.problem n) k b m c → Committed b (round_list b) c
+pub passed_round : (b c : Ledger) (n : Around) (k m : Marks) → AreSorted n → IsComplete b.numbers (open_on b.tally) b.problem n k.asleep → Passed (open_on b.tally) b.problem (instance_count b) (visited (open_on b.tally) b.problem n) k b m c → Committed b (round_list b) c
 passed_round b c n k m sorted complete h =
     let v : ℕ = instance_count b in
-    let kept : Committed b (proposals b.problem v (filter (is_there n) (all_instances (open_on b.tally) b.problem))) c = subst (λ (ps : List Proposed). Committed b ps c) (visited_kept (open_on b.tally) b.problem n v sorted) (h.committed v) in
+    let kept : Committed b (proposals b.problem v (filter (is_there n) (all_instances (open_on b.tally) b.problem))) c = subst (λ (ps : List Proposed). Committed b ps c) (visited_kept (open_on b.tally) b.problem n v sorted) h.committed in
     subst (λ (ps : List Proposed). Committed b ps c) (listed_all (open_on b.tally) b.problem v) (committed_more (open_on b.tally) b.problem v c (is_there n) (all_instances (open_on b.tally) b.problem) b h.before out kept)
   where
     out : (e : Instance) → Contains (all_instances (open_on b.tally) b.problem) e → enabled_on b.problem e ≡ true → is_there n e ≡ false → IsIdle b.problem b e
@@ -85,7 +85,7 @@ visited_there opens p n sorted (at.Verdict v) on free there = Contains-append_le
 visited_there opens p n sorted (at.Reduction r) on free there = Contains-append_right (instances_of opens p n verdict_order) (instances_of opens p n reduction_order) (at.Reduction r) (among_there opens p n sorted reduction_order (at.Reduction r) on free there (reductions_ordered r))
 
 -- and each enabled instance is marked after it, if the run goes on
-pub passed_marked : (b c : Ledger) (n : Around) (k m : Marks) → AreSorted n → IsComplete b.numbers (open_on b.tally) b.problem n k.asleep → Passed (open_on b.tally) b.problem (visited (open_on b.tally) b.problem n) k b m c → c.verdict ≡ None → length c.history < c.limit
+pub passed_marked : (b c : Ledger) (n : Around) (k m : Marks) → AreSorted n → IsComplete b.numbers (open_on b.tally) b.problem n k.asleep → Passed (open_on b.tally) b.problem (instance_count b) (visited (open_on b.tally) b.problem n) k b m c → c.verdict ≡ None → length c.history < c.limit
     → (e : Instance) → enabled_on c.problem e ≡ true → is_open (open_on c.tally) e ≡ true → IsMarked c.numbers c.problem m e
 passed_marked b c n k m sorted complete h none room e on free = by (h.tracks [] start none room e on free)
   where

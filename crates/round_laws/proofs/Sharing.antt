@@ -34,16 +34,16 @@ use Rattle.round_laws.proofs.Turns.{follows_applied, met_still}
 abbrev IsLeft : Sparse → Ledger → Marks → Instance → Type 0
 IsLeft f b m x = (IsFresh f b.problem x → ⊥) × IsNoted b.problem (parts_for m (reach_of (rule_at x))) x
 
-all_left : (opens : Open) (f : Sparse) (m : Marks) (b : Ledger) (es : List Instance) → Follows opens f b → ((x : Instance) → Contains es x → IsLeft f b m x) → Passed opens f es m b m b
-all_left opens f m b [] h left = passed_none opens f m b h
-all_left opens f m b (x ∷ es) h left =
+all_left : (opens : Open) (f : Sparse) (v : ℕ) (m : Marks) (b : Ledger) (es : List Instance) → Follows opens f b → ((x : Instance) → Contains es x → IsLeft f b m x) → Passed opens f v es m b m b
+all_left opens f v m b [] h left = passed_none opens f v m b h
+all_left opens f v m b (x ∷ es) h left =
     let first : IsLeft f b m x = left x (0, omega arith, refl) in
-    passed_on opens f (x ∷ []) es m m m b b b (met_still opens f m m b h (grows_none m) x (inl first.1) (λ v. passed_over f b v x h.later (λ on fresh. first.0 fresh)))
-    (all_left opens f m b es h (λ y (k, l, e). left y (suc k, omega (arith, l), e)))
+    passed_on opens f v (x ∷ []) es m m m b b b (met_still opens f v m m b h (grows_none m) x (inl first.1) (passed_over f b v x h.later (λ on fresh. first.0 fresh)))
+    (all_left opens f v m b es h (λ y (k, l, e). left y (suc k, omega (arith, l), e)))
 
 -- more is marked
-marked : (opens : Open) (f : Sparse) (n m : Marks) (b : Ledger) → Follows opens f b → Grows n m → Passed opens f [] n b m b
-marked opens f n m b h kept = record { book = record { start = refl; numbers = refl; limit = refl }; before = h; committed = λ v. refl; follows = h; tracks = λ rest t. tracks_more n m rest b kept t; moved = λ a. inl refl; grows = kept }
+marked : (opens : Open) (f : Sparse) (v : ℕ) (n m : Marks) (b : Ledger) → Follows opens f b → Grows n m → Passed opens f v [] n b m b
+marked opens f v n m b h kept = record { book = record { start = refl; numbers = refl; limit = refl }; before = h; committed = refl; follows = h; tracks = λ rest t. tracks_more n m rest b kept t; moved = λ a. inl refl; grows = kept }
 
 -- ---- what reads the same is fresh alike
 pub fresh_alike : (f p : Sparse) (e x : Instance) (es : List Instance) → ReadAlike e es → Contains es x → IsFresh f p e → IsFresh f p x
@@ -60,12 +60,12 @@ noted_alike p m e x es alike c (a, r, k) = (
   subst (λ (ps : List Part). Contains ps a) (sym (noted_count m (reach_of (rule_at x)) (alike.by_value x c))) k,
 )
 
-pub row_stale : (opens : Open) (f : Sparse) (n m : Marks) (b : Ledger) (e : Instance) (es : List Instance) (a : Part) → Follows opens f b → (IsFresh f b.problem e → ⊥) → ReadAlike e es → Grows n m → Contains (heads e) a → Contains m.noted a → Passed opens f es n b m b
-row_stale opens f n m b e es a h stale alike kept own there = passed_on opens f [] es n m m b b b (marked opens f n m b h kept)
-    (all_left opens f m b es h (λ x c. (stale_alike f b.problem e x es alike c stale, noted_alike b.problem m e x es alike c (a, Contains-append_left (heads e) (more e _) a own, there))))
+pub row_stale : (opens : Open) (f : Sparse) (v : ℕ) (n m : Marks) (b : Ledger) (e : Instance) (es : List Instance) (a : Part) → Follows opens f b → (IsFresh f b.problem e → ⊥) → ReadAlike e es → Grows n m → Contains (heads e) a → Contains m.noted a → Passed opens f v es n b m b
+row_stale opens f v n m b e es a h stale alike kept own there = passed_on opens f v [] es n m m b b b (marked opens f v n m b h kept)
+    (all_left opens f v m b es h (λ x c. (stale_alike f b.problem e x es alike c stale, noted_alike b.problem m e x es alike c (a, Contains-append_left (heads e) (more e _) a own, there))))
 
 -- ---- one of them is applied: a part that it reads has changed
-module _ (opens : Open) (f : Sparse) (n m : Marks) (b : Ledger) (r : Reduction) (es : List Instance) (h : Follows opens f b) (fresh : IsFresh f b.problem (at.Reduction r)) (on : enabled_on b.problem (at.Reduction r) ≡ true)
+module _ (opens : Open) (f : Sparse) (v : ℕ) (n m : Marks) (b : Ledger) (r : Reduction) (es : List Instance) (h : Follows opens f b) (fresh : IsFresh f b.problem (at.Reduction r)) (on : enabled_on b.problem (at.Reduction r) ≡ true)
     (shares : shares_reading (rule_of r) ≡ true) (room : length b.history < b.limit) (noted : AreNoted b.problem (changed r b.problem) n.noted m.noted) where
   rises : (a : Part) → changes_of (changed r b.problem) a ≡ risen (changes_of b.problem a) → changes_of b.problem a < changes_of (changed r b.problem) a
   rises a g = let few : changes_of b.problem a ≤ length b.history = h.counted a in let short : b.limit < 2 ^ 64 = h.short in omega (arith, g, few, room, short)
@@ -91,14 +91,14 @@ module _ (opens : Open) (f : Sparse) (n m : Marks) (b : Ledger) (r : Reduction) 
       by (inr same) = let (a, c, l) = has_changed in
           absurd (moved_differs b.problem (changed r b.problem) (reads (changed r b.problem) (at.Reduction r)) (a, subst (λ (ps : List Part). Contains ps a) (parts_same (changed r b.problem) b.problem (at.Reduction r) same) c, l) (sym same))
 
-  stopped : ReadAlike (at.Reduction r) es → Passed opens f es m (with_instance b (at.Reduction r)) m (with_instance b (at.Reduction r))
-  stopped alike = all_left opens f m (with_instance b (at.Reduction r)) es (follows_applied opens f b r h on room)
+  stopped : ReadAlike (at.Reduction r) es → Passed opens f v es m (with_instance b (at.Reduction r)) m (with_instance b (at.Reduction r))
+  stopped alike = all_left opens f v m (with_instance b (at.Reduction r)) es (follows_applied opens f b r h on room)
       (λ x c. (stale_alike f (changed r b.problem) (at.Reduction r) x es alike c stale_then, noted_alike (changed r b.problem) m (at.Reduction r) x es alike c noted_then))
 
-pub row_stopped : (opens : Open) (f : Sparse) (n m : Marks) (b c : Ledger) (r : Reduction) (es : List Instance) → Follows opens f b → IsFresh f b.problem (at.Reduction r) → enabled_on b.problem (at.Reduction r) ≡ true → shares_reading (rule_of r) ≡ true → length b.history < b.limit
-    → c ≡ with_instance b (at.Reduction r) → AreNoted b.problem c.problem n.noted m.noted → ReadAlike (at.Reduction r) es → Passed opens f es m c m c
-row_stopped opens f n m b c r es h fresh on shares room is noted alike =
-    subst (λ (x : Ledger). Passed opens f es m x m x) (sym is) (stopped opens f n m b r es h fresh on shares room (subst (λ (x : Ledger). AreNoted b.problem x.problem n.noted m.noted) is noted) alike)
+pub row_stopped : (opens : Open) (f : Sparse) (v : ℕ) (n m : Marks) (b c : Ledger) (r : Reduction) (es : List Instance) → Follows opens f b → IsFresh f b.problem (at.Reduction r) → enabled_on b.problem (at.Reduction r) ≡ true → shares_reading (rule_of r) ≡ true → length b.history < b.limit
+    → c ≡ with_instance b (at.Reduction r) → AreNoted b.problem c.problem n.noted m.noted → ReadAlike (at.Reduction r) es → Passed opens f v es m c m c
+row_stopped opens f v n m b c r es h fresh on shares room is noted alike =
+    subst (λ (x : Ledger). Passed opens f v es m x m x) (sym is) (stopped opens f v n m b r es h fresh on shares room (subst (λ (x : Ledger). AreNoted b.problem x.problem n.noted m.noted) is noted) alike)
 
 -- ---- the instances of a rule with a first id
 pub read_alike : (opens : Open) (p : Sparse) (r : Rule) (k : ℕ) (e : Instance) (es : List Instance) → shares_reading r ≡ true → Contains (instances_from opens p r k) e → ((x : Instance) → Contains es x → Contains (instances_from opens p r k) x) → ReadAlike e es

@@ -175,11 +175,11 @@ module _ (opens : Open) (f : Sparse) (v : ℕ) (c : Ledger) (keep : Instance →
       by more false x false y d = without_it y (more b h (behind_out e es b out) d)
 
 -- ---- a pass over those that are enabled is one over all
-passed_all : (opens : Open) (f : Sparse) (es : List Instance) (n m : Marks) (b c : Ledger) → Follows opens f b → Passed opens f (filter (enabled_on b.problem) es) n b m c → Passed opens f es n b m c
-passed_all opens f es n m b c h k = record {
+passed_all : (opens : Open) (f : Sparse) (v : ℕ) (es : List Instance) (n m : Marks) (b c : Ledger) → Follows opens f b → Passed opens f v (filter (enabled_on b.problem) es) n b m c → Passed opens f v es n b m c
+passed_all opens f v es n m b c h k = record {
   book = k.book;
   before = k.before;
-  committed = λ v. committed_more opens f v c (enabled_on b.problem) es b h (λ e there on off. inl (not_enabled_moved f b.problem e h.later on off)) (k.committed v);
+  committed = committed_more opens f v c (enabled_on b.problem) es b h (λ e there on off. inl (not_enabled_moved f b.problem e h.later on off)) k.committed;
   follows = k.follows;
   tracks = λ rest t. k.tracks rest (fewer rest t);
   moved = k.moved;
@@ -203,11 +203,11 @@ module _ (opens : Open) (f : Sparse) (b : Ledger) (h : Follows opens f b) (v : �
   none_left : (c : Ledger) (es : List Instance) → NoneStands f b.problem es → Committed b (proposals f v es) c → c ≡ b
   none_left c es none k = committed_same b c b (proposals f v es) k (none_commits es none)
 
-passed_either : (opens : Open) (f : Sparse) (es fs : List Instance) (n m : Marks) (b c : Ledger) → Follows opens f b → NoneStands f b.problem es → NoneStands f b.problem fs → ((x : Instance) → enabled_on b.problem x ≡ true → is_open (open_on b.tally) x ≡ true → Contains es x → Contains fs x) → Passed opens f fs n b m c → Passed opens f es n b m c
-passed_either opens f es fs n m b c h none nor still k = record {
+passed_either : (opens : Open) (f : Sparse) (v : ℕ) (es fs : List Instance) (n m : Marks) (b c : Ledger) → Follows opens f b → NoneStands f b.problem es → NoneStands f b.problem fs → ((x : Instance) → enabled_on b.problem x ≡ true → is_open (open_on b.tally) x ≡ true → Contains es x → Contains fs x) → Passed opens f v fs n b m c → Passed opens f v es n b m c
+passed_either opens f v es fs n m b c h none nor still k = record {
   book = k.book;
   before = k.before;
-  committed = λ v. subst (Committed b (proposals f v es)) (sym (none_left opens f b h v c fs nor (k.committed v))) (none_commits opens f b h v es none);
+  committed = subst (Committed b (proposals f v es)) (sym (none_left opens f b h v c fs nor k.committed)) (none_commits opens f b h v es none);
   follows = k.follows;
   tracks = λ rest t. k.tracks rest (other rest t);
   moved = k.moved;
@@ -226,8 +226,8 @@ passed_either opens f es fs n m b c h none nor still k = record {
         by (inr among) = behind (Contains-append_cases es rest x among)
 
 -- ---- the instances of a rule with a first id, those of the present problem in place of those of f
-pub passed_found : (opens : Open) (f : Sparse) (r : Rule) (k : ℕ) (n m : Marks) (b c : Ledger) → Follows opens f b → Passed opens f (filter (enabled_on b.problem) (instances_from (open_on b.tally) b.problem r k)) n b m c → Passed opens f (instances_from opens f r k) n b m c
-passed_found opens f r k n m b c h passed = by (from_stand opens (open_on b.tally) f b.problem h.moves h.size h.later r k) (passed_all opens f now n m b c h passed)
+pub passed_found : (opens : Open) (f : Sparse) (v : ℕ) (r : Rule) (k : ℕ) (n m : Marks) (b c : Ledger) → Follows opens f b → Passed opens f v (filter (enabled_on b.problem) (instances_from (open_on b.tally) b.problem r k)) n b m c → Passed opens f v (instances_from opens f r k) n b m c
+passed_found opens f v r k n m b c h passed = by (from_stand opens (open_on b.tally) f b.problem h.moves h.size h.later r k) (passed_all opens f v now n m b c h passed)
   where
     now : List Instance
     now = instances_from (open_on b.tally) b.problem r k
@@ -238,17 +238,17 @@ passed_found opens f r k n m b c h passed = by (from_stand opens (open_on b.tall
         let is = from_is opens f r k x c in
         subst (λ (i : ℕ). Contains (instances_from (open_on b.tally) b.problem r i) x) is.1 (subst (λ (s : Rule). Contains (instances_from (open_on b.tally) b.problem s (id_at x)) x) is.0 (enabled_listed (open_on b.tally) b.problem x free on).there)
 
-    by : IsAlikeFrom f b.problem (instances_from opens f r k) now → Passed opens f now n b m c → Passed opens f (instances_from opens f r k) n b m c
-    by (inl same) x = subst (λ (es : List Instance). Passed opens f es n b m c) (sym same) x
-    by (inr (none, nor)) x = passed_either opens f (instances_from opens f r k) now n m b c h none nor still x
+    by : IsAlikeFrom f b.problem (instances_from opens f r k) now → Passed opens f v now n b m c → Passed opens f v (instances_from opens f r k) n b m c
+    by (inl same) x = subst (λ (es : List Instance). Passed opens f v es n b m c) (sym same) x
+    by (inr (none, nor)) x = passed_either opens f v (instances_from opens f r k) now n m b c h none nor still x
 
 -- ---- some in place of all, where each that is enabled on f is among both, and each part that has changed since f is noted
-pub passed_beside : (opens : Open) (f : Sparse) (es fs : List Instance) (n m : Marks) (b c : Ledger) → Follows opens f b → filter (enabled_on f) fs ≡ filter (enabled_on f) es → ((x : Instance) → Contains es x → enabled_on f x ≡ true → Contains fs x)
-    → ((x : Instance) → Contains es x → goes_by_form (reach_of (rule_at x)) ≡ false) → ((a : Part) → (changes_of b.problem a ≡ changes_of f a) ⊎ Contains n.noted a) → Passed opens f fs n b m c → Passed opens f es n b m c
-passed_beside opens f es fs n m b c h same among by_value noted k = record {
+pub passed_beside : (opens : Open) (f : Sparse) (v : ℕ) (es fs : List Instance) (n m : Marks) (b c : Ledger) → Follows opens f b → filter (enabled_on f) fs ≡ filter (enabled_on f) es → ((x : Instance) → Contains es x → enabled_on f x ≡ true → Contains fs x)
+    → ((x : Instance) → Contains es x → goes_by_form (reach_of (rule_at x)) ≡ false) → ((a : Part) → (changes_of b.problem a ≡ changes_of f a) ⊎ Contains n.noted a) → Passed opens f v fs n b m c → Passed opens f v es n b m c
+passed_beside opens f v es fs n m b c h same among by_value noted k = record {
   book = k.book;
   before = k.before;
-  committed = λ v. subst (λ (ps : List Proposed). Committed b ps c) (ap (map (proposal_of f v)) same) (k.committed v);
+  committed = subst (λ (ps : List Proposed). Committed b ps c) (ap (map (proposal_of f v)) same) k.committed;
   follows = k.follows;
   tracks = λ rest t. k.tracks rest (other rest t);
   moved = k.moved;
@@ -279,6 +279,6 @@ passed_beside opens f es fs n m b c h same among by_value noted k = record {
         by (inr c) = behind (Contains-append_cases es rest x c)
 
 -- ---- of some of which none is enabled any more
-pub passed_gone : (opens : Open) (f : Sparse) (n : Marks) (b : Ledger) → Follows opens f b → (es : List Instance) → ((x : Instance) → Contains es x → enabled_on b.problem x ≡ true → ⊥) → Passed opens f es n b n b
-passed_gone opens f n b h [] off = passed_none opens f n b h
-passed_gone opens f n b h (e ∷ es) off = passed_on opens f (e ∷ []) es n n n b b b (met_over opens f e n b h (off e (0, omega arith, refl))) (passed_gone opens f n b h es (λ x (k, l, g). off x (suc k, omega (arith, l), g)))
+pub passed_gone : (opens : Open) (f : Sparse) (v : ℕ) (n : Marks) (b : Ledger) → Follows opens f b → (es : List Instance) → ((x : Instance) → Contains es x → enabled_on b.problem x ≡ true → ⊥) → Passed opens f v es n b n b
+passed_gone opens f v n b h [] off = passed_none opens f v n b h
+passed_gone opens f v n b h (e ∷ es) off = passed_on opens f v (e ∷ []) es n n n b b b (met_over opens f v e n b h (off e (0, omega arith, refl))) (passed_gone opens f v n b h es (λ x (k, l, g). off x (suc k, omega (arith, l), g)))

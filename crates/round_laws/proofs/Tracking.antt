@@ -1,5 +1,5 @@
 -- What is enabled reads a part that is noted, or comes to its turn.
-use Rattle.std.proofs.Common.{◌≡◌, ◌⊎◌, inl, inr, suc, ◌<◌, Bool, true, false, true≢false, List, [], ◌∷◌, ◌++◌, length, map, None, sym, refl, ap₂, ◌∙◌, subst, append_assoc, arith}
+use Rattle.std.proofs.Common.{ℕ, ◌≡◌, ◌⊎◌, inl, inr, suc, ◌<◌, Bool, true, false, true≢false, List, [], ◌∷◌, ◌++◌, length, map, None, sym, refl, ap₂, ◌∙◌, subst, append_assoc, arith}
 use Rattle.std.specs.List.{Contains}
 use Rattle.fractions.specs.declared.Numbers.{Numbers}
 use Rattle.problem_model.specs.declared.part.Part.{Part}
@@ -168,11 +168,11 @@ pub grows_none : (n : Marks) → Grows n n
 grows_none n = record { noted = λ a x. x; stirred = λ a x. x; roused = λ a x. x; asleep = λ a x. x }
 
 -- ---- one pass after another
-pub passed_on : (opens : Open) (f : Sparse) (es fs : List Instance) (n m k : Marks) (b c d : Ledger) → Passed opens f es n b m c → Passed opens f fs m c k d → Passed opens f (es ++ fs) n b k d
-passed_on opens f es fs n m k b c d x y = record {
+pub passed_on : (opens : Open) (f : Sparse) (v : ℕ) (es fs : List Instance) (n m k : Marks) (b c d : Ledger) → Passed opens f v es n b m c → Passed opens f v fs m c k d → Passed opens f v (es ++ fs) n b k d
+passed_on opens f v es fs n m k b c d x y = record {
   book = record { start = y.book.start ∙ x.book.start; numbers = y.book.numbers ∙ x.book.numbers; limit = y.book.limit ∙ x.book.limit };
   before = x.before;
-  committed = λ v. subst (λ ps. Committed b ps d) (sym (proposals_append f v es fs)) (committed_append b c d (proposals f v es) (proposals f v fs) (x.committed v) (y.committed v));
+  committed = subst (λ ps. Committed b ps d) (sym (proposals_append f v es fs)) (committed_append b c d (proposals f v es) (proposals f v fs) x.committed y.committed);
   follows = y.follows;
   tracks = λ rest t. y.tracks rest (x.tracks (fs ++ rest) (subst (λ (gs : List Instance). Tracks n gs b) (append_assoc es fs rest) t));
   moved = λ a. both_moved a (x.moved a) (y.moved a);
@@ -185,5 +185,5 @@ passed_on opens f es fs n m k b c d x y = record {
     both_moved a (inl e) (inr h) = inr h
     both_moved a (inr h) z = inr (y.grows.noted a h)
 
-pub passed_none : (opens : Open) (f : Sparse) (n : Marks) (b : Ledger) → Follows opens f b → Passed opens f [] n b n b
-passed_none opens f n b h = record { book = record { start = refl; numbers = refl; limit = refl }; before = h; committed = λ v. refl; follows = h; tracks = λ rest t. t; moved = λ a. inl refl; grows = grows_none n }
+pub passed_none : (opens : Open) (f : Sparse) (v : ℕ) (n : Marks) (b : Ledger) → Follows opens f b → Passed opens f v [] n b n b
+passed_none opens f v n b h = record { book = record { start = refl; numbers = refl; limit = refl }; before = h; committed = refl; follows = h; tracks = λ rest t. t; moved = λ a. inl refl; grows = grows_none n }

@@ -139,11 +139,11 @@ same_book : (b : Ledger) → IsSameBook b b
 same_book b = record { start = refl; numbers = refl; limit = refl }
 
 -- it isn't enabled
-pub met_over : (opens : Open) (f : Sparse) (e : Instance) (n : Marks) (b : Ledger) → Follows opens f b → (enabled_on b.problem e ≡ true → ⊥) → Passed opens f (e ∷ []) n b n b
-met_over opens f e n b h off = record {
+pub met_over : (opens : Open) (f : Sparse) (v : ℕ) (e : Instance) (n : Marks) (b : Ledger) → Follows opens f b → (enabled_on b.problem e ≡ true → ⊥) → Passed opens f v (e ∷ []) n b n b
+met_over opens f v e n b h off = record {
   book = same_book b;
   before = h;
-  committed = λ v. passed_over f b v e h.later (λ on fresh. off on);
+  committed = passed_over f b v e h.later (λ on fresh. off on);
   follows = h;
   tracks = λ rest t. tracks_over n e rest b t off;
   moved = λ a. inl refl;
@@ -154,9 +154,9 @@ met_over opens f e n b h off = record {
 pub noted_head : (p : Sparse) (m : List Part) (e : Instance) (a : Part) → Contains (heads e) a → Contains m a → IsNoted p m e
 noted_head p m e a h c = (a, Contains-append_left (heads e) (more e _) a h, c)
 
-module _ (opens : Open) (f : Sparse) (n m : Marks) (b : Ledger) (h : Follows opens f b) (kept : Grows n m) where
+module _ (opens : Open) (f : Sparse) (v : ℕ) (n m : Marks) (b : Ledger) (h : Follows opens f b) (kept : Grows n m) where
   -- the book stays
-  pub met_still : (e : Instance) → IsMarked b.numbers b.problem m e → ((v : ℕ) → Committed b (proposals f v (e ∷ [])) b) → Passed opens f (e ∷ []) n b m b
+  pub met_still : (e : Instance) → IsMarked b.numbers b.problem m e → Committed b (proposals f v (e ∷ [])) b → Passed opens f v (e ∷ []) n b m b
   met_still e marked k = record {
     book = same_book b;
     before = h;
@@ -170,7 +170,7 @@ module _ (opens : Open) (f : Sparse) (n m : Marks) (b : Ledger) (h : Follows ope
   -- a reduction is applied
   met_applied : (r : Reduction) → enabled_on b.problem (at.Reduction r) ≡ true → b.verdict ≡ None → length b.history < b.limit → AreNoted b.problem (changed r b.problem) n.noted m.noted → AreStirred b.problem (changed r b.problem) n m
       → IsNoted (changed r b.problem) (parts_for m (reach_of (rule_at (at.Reduction r)))) (at.Reduction r)
-      → ((v : ℕ) → Committed b (proposals f v (at.Reduction r ∷ [])) (with_instance b (at.Reduction r))) → Passed opens f (at.Reduction r ∷ []) n b m (with_instance b (at.Reduction r))
+      → Committed b (proposals f v (at.Reduction r ∷ [])) (with_instance b (at.Reduction r)) → Passed opens f v (at.Reduction r ∷ []) n b m (with_instance b (at.Reduction r))
   met_applied r on none room noted stirred own k = record {
     book = record { start = refl; numbers = refl; limit = refl };
     before = h;
@@ -186,7 +186,7 @@ module _ (opens : Open) (f : Sparse) (n m : Marks) (b : Ledger) (h : Follows ope
       by a (inr c) = inr c
 
   -- a verdict is applied
-  met_verdict : (x : Verdict) → ((v : ℕ) → Committed b (proposals f v (at.Verdict x ∷ [])) (with_instance b (at.Verdict x))) → Passed opens f (at.Verdict x ∷ []) n b m (with_instance b (at.Verdict x))
+  met_verdict : (x : Verdict) → Committed b (proposals f v (at.Verdict x ∷ [])) (with_instance b (at.Verdict x)) → Passed opens f v (at.Verdict x ∷ []) n b m (with_instance b (at.Verdict x))
   met_verdict x k = record {
     book = record { start = refl; numbers = refl; limit = refl };
     before = h;
@@ -198,52 +198,52 @@ module _ (opens : Open) (f : Sparse) (n m : Marks) (b : Ledger) (h : Follows ope
   }
 
 -- it is enabled and stale: it is marked
-pub met_stale : (opens : Open) (f : Sparse) (n m : Marks) (b : Ledger) (e : Instance) (a : Part) → Follows opens f b → (IsFresh f b.problem e → ⊥) → Grows n m → Contains (heads e) a → Contains (parts_for m (reach_of (rule_at e))) a → Passed opens f (e ∷ []) n b m b
-met_stale opens f n m b e a h stale kept own c = met_still opens f n m b h kept e (inl (noted_head b.problem (parts_for m (reach_of (rule_at e))) e a own c)) (λ v. passed_over f b v e h.later (λ on fresh. stale fresh))
+pub met_stale : (opens : Open) (f : Sparse) (v : ℕ) (n m : Marks) (b : Ledger) (e : Instance) (a : Part) → Follows opens f b → (IsFresh f b.problem e → ⊥) → Grows n m → Contains (heads e) a → Contains (parts_for m (reach_of (rule_at e))) a → Passed opens f v (e ∷ []) n b m b
+met_stale opens f v n m b e a h stale kept own c = met_still opens f v n m b h kept e (inl (noted_head b.problem (parts_for m (reach_of (rule_at e))) e a own c)) (passed_over f b v e h.later (λ on fresh. stale fresh))
 
 -- it is enabled and its parts stand: whatever the answer is
-module _ (opens : Open) (f : Sparse) (w : ℕ) (n m : Marks) (b : Ledger) (h : Follows opens f b) (e : Instance) (fresh : IsFresh f b.problem e) (on : enabled_on b.problem e ≡ true) where
+module _ (opens : Open) (f : Sparse) (v : ℕ) (n m : Marks) (b : Ledger) (h : Follows opens f b) (e : Instance) (fresh : IsFresh f b.problem e) (on : enabled_on b.problem e ≡ true) where
   abbrev count : List Part
   count = parts_for m (reach_of (rule_at e))
 
-  met_by : (o : Outcome) → o ≢ NoMemory → Allows b (proposal_of b.problem w e) o → AreNoted b.problem (left_by b (proposal_of b.problem w e) o).problem n.noted m.noted
-      → AreStirred b.problem (left_by b (proposal_of b.problem w e) o).problem n m → Grows n m → (a : Part) → Contains (heads e) a → Contains count a → Passed opens f (e ∷ []) n b m (left_by b (proposal_of b.problem w e) o)
-  met_by (Closed x) mem ok noted stirred kept a own c = met_still opens f n m b h kept e (inl (noted_head b.problem count e a own c)) (λ v. passed_at f b v w e (Closed x) fresh on mem ok)
-  met_by Full mem ok noted stirred kept a own c = met_still opens f n m b h kept e (inl (noted_head b.problem count e a own c)) (λ v. passed_at f b v w e Full fresh on mem ok)
-  met_by (Stale k) mem ok noted stirred kept a own c = met_still opens f n m b h kept e (inl (noted_head b.problem count e a own c)) (λ v. passed_at f b v w e (Stale k) fresh on mem ok)
-  met_by Past mem ok noted stirred kept a own c = met_still opens f n m b h kept e (inl (noted_head b.problem count e a own c)) (λ v. passed_at f b v w e Past fresh on mem ok)
-  met_by NotDecimal mem ok noted stirred kept a own c = met_still opens f n m b h kept e (inl (noted_head b.problem count e a own c)) (λ v. passed_at f b v w e NotDecimal fresh on mem ok)
+  met_by : (o : Outcome) → o ≢ NoMemory → Allows b (proposal_of b.problem v e) o → AreNoted b.problem (left_by b (proposal_of b.problem v e) o).problem n.noted m.noted
+      → AreStirred b.problem (left_by b (proposal_of b.problem v e) o).problem n m → Grows n m → (a : Part) → Contains (heads e) a → Contains count a → Passed opens f v (e ∷ []) n b m (left_by b (proposal_of b.problem v e) o)
+  met_by (Closed x) mem ok noted stirred kept a own c = met_still opens f v n m b h kept e (inl (noted_head b.problem count e a own c)) (passed_at f b v v e (Closed x) fresh on mem ok)
+  met_by Full mem ok noted stirred kept a own c = met_still opens f v n m b h kept e (inl (noted_head b.problem count e a own c)) (passed_at f b v v e Full fresh on mem ok)
+  met_by (Stale k) mem ok noted stirred kept a own c = met_still opens f v n m b h kept e (inl (noted_head b.problem count e a own c)) (passed_at f b v v e (Stale k) fresh on mem ok)
+  met_by Past mem ok noted stirred kept a own c = met_still opens f v n m b h kept e (inl (noted_head b.problem count e a own c)) (passed_at f b v v e Past fresh on mem ok)
+  met_by NotDecimal mem ok noted stirred kept a own c = met_still opens f v n m b h kept e (inl (noted_head b.problem count e a own c)) (passed_at f b v v e NotDecimal fresh on mem ok)
   met_by (Applied k) mem ok noted stirred kept a own c = by e fresh on ok noted stirred own c
     where
-      by : (e : Instance) → IsFresh f b.problem e → enabled_on b.problem e ≡ true → Allows b (proposal_of b.problem w e) (Applied k) → AreNoted b.problem (with_instance b e).problem n.noted m.noted
-          → AreStirred b.problem (with_instance b e).problem n m → Contains (heads e) a → Contains (parts_for m (reach_of (rule_at e))) a → Passed opens f (e ∷ []) n b m (with_instance b e)
-      by (at.Reduction r) fresh on ok noted stirred own c = met_applied opens f n m b h kept r on ok.0.undecided ok.0.room noted stirred (noted_head (changed r b.problem) (parts_for m (reach_of (rule_at (at.Reduction r)))) (at.Reduction r) a own c)
-          (λ v. passed_at f b v w (at.Reduction r) (Applied k) fresh on mem ok)
-      by (at.Verdict x) fresh on ok noted stirred own c = met_verdict opens f n m b h kept x (λ v. passed_at f b v w (at.Verdict x) (Applied k) fresh on mem ok)
+      by : (e : Instance) → IsFresh f b.problem e → enabled_on b.problem e ≡ true → Allows b (proposal_of b.problem v e) (Applied k) → AreNoted b.problem (with_instance b e).problem n.noted m.noted
+          → AreStirred b.problem (with_instance b e).problem n m → Contains (heads e) a → Contains (parts_for m (reach_of (rule_at e))) a → Passed opens f v (e ∷ []) n b m (with_instance b e)
+      by (at.Reduction r) fresh on ok noted stirred own c = met_applied opens f v n m b h kept r on ok.0.undecided ok.0.room noted stirred (noted_head (changed r b.problem) (parts_for m (reach_of (rule_at (at.Reduction r)))) (at.Reduction r) a own c)
+          (passed_at f b v v (at.Reduction r) (Applied k) fresh on mem ok)
+      by (at.Verdict x) fresh on ok noted stirred own c = met_verdict opens f v n m b h kept x (passed_at f b v v (at.Verdict x) (Applied k) fresh on mem ok)
   met_by NoMemory mem ok noted stirred kept a own c = absurd (mem refl)
 
   -- it is refused for a number, and sleeps
-  asleep_by : (o : Outcome) → is_refusal o ≡ true → rests_on_reading (rule_at e) ≡ true → Allows b (proposal_of b.problem w e) o → Grows n m → (a : Part) → Contains (heads e) a → Contains m.asleep a
-      → Passed opens f (e ∷ []) n b m (left_by b (proposal_of b.problem w e) o)
+  asleep_by : (o : Outcome) → is_refusal o ≡ true → rests_on_reading (rule_at e) ≡ true → Allows b (proposal_of b.problem v e) o → Grows n m → (a : Part) → Contains (heads e) a → Contains m.asleep a
+      → Passed opens f v (e ∷ []) n b m (left_by b (proposal_of b.problem v e) o)
   asleep_by (Closed x) refused rests ok kept a own c = absurd (true≢false (sym refused))
   asleep_by Full refused rests ok kept a own c = absurd (true≢false (sym refused))
   asleep_by (Stale k) refused rests ok kept a own c = absurd (true≢false (sym refused))
   asleep_by Past refused rests ok kept a own c =
-      met_still opens f n m b h kept e (inr (record { told = noted_head b.problem m.asleep e a own c; rests = past_rests b e w rests on ok; by_ends = sleepers_read_ends (rule_at e) rests })) (λ v. passed_at f b v w e Past fresh on (λ x. cc) ok)
+      met_still opens f v n m b h kept e (inr (record { told = noted_head b.problem m.asleep e a own c; rests = past_rests b e v rests on ok; by_ends = sleepers_read_ends (rule_at e) rests })) (passed_at f b v v e Past fresh on (λ x. cc) ok)
   asleep_by NotDecimal refused rests ok kept a own c =
-      met_still opens f n m b h kept e (inr (record { told = noted_head b.problem m.asleep e a own c; rests = not_decimal_rests b e w rests on ok; by_ends = sleepers_read_ends (rule_at e) rests })) (λ v. passed_at f b v w e NotDecimal fresh on (λ x. cc) ok)
+      met_still opens f v n m b h kept e (inr (record { told = noted_head b.problem m.asleep e a own c; rests = not_decimal_rests b e v rests on ok; by_ends = sleepers_read_ends (rule_at e) rests })) (passed_at f b v v e NotDecimal fresh on (λ x. cc) ok)
   asleep_by (Applied k) refused rests ok kept a own c = absurd (true≢false (sym refused))
   asleep_by NoMemory refused rests ok kept a own c = absurd (true≢false (sym refused))
 
-pub met : (opens : Open) (f : Sparse) (w : ℕ) (n m : Marks) (b c : Ledger) (e : Instance) (o : Outcome) (a : Part) → Follows opens f b → IsFresh f b.problem e → enabled_on b.problem e ≡ true → o ≢ NoMemory → Allows b (proposal_of b.problem w e) o
-    → c ≡ left_by b (proposal_of b.problem w e) o → AreNoted b.problem c.problem n.noted m.noted → AreStirred b.problem c.problem n m → ((x : Part) → Contains n.asleep x → Contains m.asleep x)
-    → Contains (heads e) a → Contains (parts_for m (reach_of (rule_at e))) a → Passed opens f (e ∷ []) n b m c
-met opens f w n m b c e o a h fresh on mem ok left noted stirred sleeps own there =
-    subst (λ (x : Ledger). Passed opens f (e ∷ []) n b m x) (sym left)
-    (met_by opens f w n m b h e fresh on o mem ok (subst (λ (x : Ledger). AreNoted b.problem x.problem n.noted m.noted) left noted) (subst (λ (x : Ledger). AreStirred b.problem x.problem n m) left stirred)
+pub met : (opens : Open) (f : Sparse) (v : ℕ) (n m : Marks) (b c : Ledger) (e : Instance) (o : Outcome) (a : Part) → Follows opens f b → IsFresh f b.problem e → enabled_on b.problem e ≡ true → o ≢ NoMemory → Allows b (proposal_of b.problem v e) o
+    → c ≡ left_by b (proposal_of b.problem v e) o → AreNoted b.problem c.problem n.noted m.noted → AreStirred b.problem c.problem n m → ((x : Part) → Contains n.asleep x → Contains m.asleep x)
+    → Contains (heads e) a → Contains (parts_for m (reach_of (rule_at e))) a → Passed opens f v (e ∷ []) n b m c
+met opens f v n m b c e o a h fresh on mem ok left noted stirred sleeps own there =
+    subst (λ (x : Ledger). Passed opens f v (e ∷ []) n b m x) (sym left)
+    (met_by opens f v n m b h e fresh on o mem ok (subst (λ (x : Ledger). AreNoted b.problem x.problem n.noted m.noted) left noted) (subst (λ (x : Ledger). AreStirred b.problem x.problem n m) left stirred)
     (record { noted = noted.kept; stirred = stirred.stirred.kept; roused = stirred.roused.kept; asleep = sleeps }) a own there)
 
-pub met_asleep : (opens : Open) (f : Sparse) (w : ℕ) (n m : Marks) (b c : Ledger) (e : Instance) (o : Outcome) (a : Part) → Follows opens f b → IsFresh f b.problem e → enabled_on b.problem e ≡ true → is_refusal o ≡ true → rests_on_reading (rule_at e) ≡ true
-    → Allows b (proposal_of b.problem w e) o → c ≡ left_by b (proposal_of b.problem w e) o → Grows n m → Contains (heads e) a → Contains m.asleep a → Passed opens f (e ∷ []) n b m c
-met_asleep opens f w n m b c e o a h fresh on refused rests ok left kept own there =
-    subst (λ (x : Ledger). Passed opens f (e ∷ []) n b m x) (sym left) (asleep_by opens f w n m b h e fresh on o refused rests ok kept a own there)
+pub met_asleep : (opens : Open) (f : Sparse) (v : ℕ) (n m : Marks) (b c : Ledger) (e : Instance) (o : Outcome) (a : Part) → Follows opens f b → IsFresh f b.problem e → enabled_on b.problem e ≡ true → is_refusal o ≡ true → rests_on_reading (rule_at e) ≡ true
+    → Allows b (proposal_of b.problem v e) o → c ≡ left_by b (proposal_of b.problem v e) o → Grows n m → Contains (heads e) a → Contains m.asleep a → Passed opens f v (e ∷ []) n b m c
+met_asleep opens f v n m b c e o a h fresh on refused rests ok left kept own there =
+    subst (λ (x : Ledger). Passed opens f v (e ∷ []) n b m x) (sym left) (asleep_by opens f v n m b h e fresh on o refused rests ok kept a own there)

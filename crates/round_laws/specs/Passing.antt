@@ -41,11 +41,12 @@ abbrev pub Tracks : Marks → List Instance → Ledger → Type 0
 Tracks n es b = b.verdict ≡ None → length b.history < b.limit → (e : Instance) → enabled_on b.problem e ≡ true → is_open (open_on b.tally) e ≡ true → IsTracked n es b e
 
 -- The book c after a pass, with the marks m where there were n before: b comes after f, and c does; those of the instances that are enabled
--- on f were committed; what is enabled is tracked, whatever comes after them; and each part that has changed is noted.
-pub record Passed (opens : Open) (f : Sparse) (es : List Instance) (n : Marks) (b : Ledger) (m : Marks) (c : Ledger) : Type 0 where
+-- on f, the version v, were committed as they read it; what is enabled is tracked, whatever comes after them; and each part that has changed is
+-- noted.
+pub record Passed (opens : Open) (f : Sparse) (v : ℕ) (es : List Instance) (n : Marks) (b : Ledger) (m : Marks) (c : Ledger) : Type 0 where
   pub book : IsSameBook b c
   pub before : Follows opens f b
-  pub committed : (version : ℕ) → Committed b (proposals f version es) c
+  pub committed : Committed b (proposals f v es) c
   pub follows : Follows opens f c
   pub tracks : (rest : List Instance) → Tracks n (es ++ rest) b → Tracks m rest c
   pub moved : (a : Part) → (changes_of c.problem a ≡ changes_of b.problem a) ⊎ Contains m.noted a

@@ -1,34 +1,28 @@
 //! Passes, and the rounds that they are.
 
-ghost use Rattle.std.specs.Prelude.{◌≡◌, ◌≢◌, ◌⊎◌, ℕ, ◌<◌, false, true, List, [], ◌∷◌, ◌++◌, length, None};
+ghost use Rattle.std.specs.Prelude.{◌≡◌, ℕ, ◌<◌, true, List, [], ◌∷◌, ◌++◌, length, None};
 ghost use Rattle.std.specs.List.{Contains, filter};
-ghost use Rattle.fractions.specs.declared.Numbers.{Numbers};
 ghost use Rattle.problem_model.specs.declared.part.Part.{Part};
-ghost use Rattle.problem_model.specs.Noted.{AreNoted};
-ghost use Rattle.problem_model.specs.Parts.{changes_of};
-ghost use Rattle.problem_model.specs.Problems.{IsSparse};
 ghost use Rattle.problem_model.specs.Reading.{Agrees};
 ghost use Rattle.problem_model.specs.Sparse.{Sparse};
 ghost use Rattle.presolve_model.specs.declared.instance.Instance.{Instance};
-ghost use Rattle.presolve_model.specs.declared.instance.Instance.TheVariants as at;
-ghost use Rattle.presolve_model.specs.declared.instance.Reduction.{Reduction};
 ghost use Rattle.presolve_model.specs.declared.instance.Rule.{Rule};
 ghost use Rattle.presolve_model.specs.declared.outcome.Outcome.{Outcome};
-ghost use Rattle.presolve_model.specs.declared.outcome.Outcome.TheVariants.{NoMemory};
-ghost use Rattle.presolve_model.specs.Commits.{Allows, left_by, with_instance};
+ghost use Rattle.presolve_model.specs.Commits.{Allows, left_by};
 ghost use Rattle.presolve_model.specs.Enabled.{enabled_on};
 ghost use Rattle.presolve_model.specs.Given.{Proposed};
-ghost use Rattle.presolve_model.specs.Instances.{goes_by_form, instances_from, is_open, reach_of, rests_on_reading, rule_at, rule_of, shares_reading};
-ghost use Rattle.presolve_model.specs.Ledger.{Ledger};
+ghost use Rattle.presolve_model.specs.Instances.{instances_from, reach_of, rule_at, shares_reading};
+ghost use Rattle.presolve_model.specs.Ledger.{instance_count, Ledger};
 ghost use Rattle.presolve_model.specs.Ordered.{Committed, round_list};
 ghost use Rattle.presolve_model.specs.Scans.{proposal_of};
 ghost use Rattle.presolve_model.specs.Stuck.{Stuck};
 ghost use Rattle.presolve_model.specs.Tables.{heads};
 ghost use Rattle.presolve_model.specs.Tallies.{Open, open_on};
 ghost use Rattle.place_laws.specs.Choosing.{AreSorted, Around, IsComplete, visited};
-ghost use Rattle.place_laws.specs.Marks.{AreStirred, Grows, IsMarked, is_refusal, Marks, parts_for};
+ghost use Rattle.place_laws.specs.Marks.{Grows, Marks, parts_for};
 ghost use Rattle.place_laws.specs.Standing.{IsFresh};
 ghost use Rattle.round_laws.specs.Passing.{Follows, Passed, ReadAlike};
+ghost use Rattle.round_laws.specs.Turning.{MetIsPassed, OthersArePassed, PassMarksAll, RestIsPassed, SleeperIsPassed};
 
 /// A stale proposal changes nothing. What is fresh is answered as its instance's reading of the present problem is.
 pub fn commits_are_met()
@@ -42,30 +36,30 @@ pub fn commits_are_met()
 /// met that are enabled on the present problem. Where each part that has changed since the round began is noted, those may be left out that were
 /// not enabled then. Passes follow one after another.
 pub fn turns_pass()
-    ensures over { (opens : Open) (f : Sparse) (e : Instance) (n : Marks) (b : Ledger) → Follows opens f b → (enabled_on b.problem e ≡ true → ⊥) → Passed opens f (e ∷ []) n b n b }
-    ensures stale { (opens : Open) (f : Sparse) (n m : Marks) (b : Ledger) (e : Instance) (a : Part) → Follows opens f b → (IsFresh f b.problem e → ⊥) → Grows n m → Contains (heads e) a → Contains (parts_for m (reach_of (rule_at e))) a → Passed opens f (e ∷ []) n b m b }
-    ensures met { (opens : Open) (f : Sparse) (w : ℕ) (n m : Marks) (b c : Ledger) (e : Instance) (o : Outcome) (a : Part) → Follows opens f b → IsFresh f b.problem e → enabled_on b.problem e ≡ true → o ≢ NoMemory → Allows b (proposal_of b.problem w e) o → c ≡ left_by b (proposal_of b.problem w e) o → AreNoted b.problem c.problem n.noted m.noted → AreStirred b.problem c.problem n m → ((x : Part) → Contains n.asleep x → Contains m.asleep x) → Contains (heads e) a → Contains (parts_for m (reach_of (rule_at e))) a → Passed opens f (e ∷ []) n b m c }
-    ensures asleep { (opens : Open) (f : Sparse) (w : ℕ) (n m : Marks) (b c : Ledger) (e : Instance) (o : Outcome) (a : Part) → Follows opens f b → IsFresh f b.problem e → enabled_on b.problem e ≡ true → is_refusal o ≡ true → rests_on_reading (rule_at e) ≡ true → Allows b (proposal_of b.problem w e) o → c ≡ left_by b (proposal_of b.problem w e) o → Grows n m → Contains (heads e) a → Contains m.asleep a → Passed opens f (e ∷ []) n b m c }
-    ensures found { (opens : Open) (f : Sparse) (r : Rule) (k : ℕ) (n m : Marks) (b c : Ledger) → Follows opens f b → Passed opens f (filter (enabled_on b.problem) (instances_from (open_on b.tally) b.problem r k)) n b m c → Passed opens f (instances_from opens f r k) n b m c }
-    ensures beside { (opens : Open) (f : Sparse) (es fs : List Instance) (n m : Marks) (b c : Ledger) → Follows opens f b → filter (enabled_on f) fs ≡ filter (enabled_on f) es → ((x : Instance) → Contains es x → enabled_on f x ≡ true → Contains fs x) → ((x : Instance) → Contains es x → goes_by_form (reach_of (rule_at x)) ≡ false) → ((a : Part) → (changes_of b.problem a ≡ changes_of f a) ⊎ Contains n.noted a) → Passed opens f fs n b m c → Passed opens f es n b m c }
-    ensures more { (opens : Open) (f : Sparse) (es fs : List Instance) (n m k : Marks) (b c d : Ledger) → Passed opens f es n b m c → Passed opens f fs m c k d → Passed opens f (es ++ fs) n b k d }
+    ensures over { (opens : Open) (f : Sparse) (v : ℕ) (e : Instance) (n : Marks) (b : Ledger) → Follows opens f b → (enabled_on b.problem e ≡ true → ⊥) → Passed opens f v (e ∷ []) n b n b }
+    ensures stale { (opens : Open) (f : Sparse) (v : ℕ) (n m : Marks) (b : Ledger) (e : Instance) (a : Part) → Follows opens f b → (IsFresh f b.problem e → ⊥) → Grows n m → Contains (heads e) a → Contains (parts_for m (reach_of (rule_at e))) a → Passed opens f v (e ∷ []) n b m b }
+    ensures met { MetIsPassed }
+    ensures asleep { SleeperIsPassed }
+    ensures found { (opens : Open) (f : Sparse) (v : ℕ) (r : Rule) (k : ℕ) (n m : Marks) (b c : Ledger) → Follows opens f b → Passed opens f v (filter (enabled_on b.problem) (instances_from (open_on b.tally) b.problem r k)) n b m c → Passed opens f v (instances_from opens f r k) n b m c }
+    ensures beside { RestIsPassed }
+    ensures more { (opens : Open) (f : Sparse) (v : ℕ) (es fs : List Instance) (n m k : Marks) (b c d : Ledger) → Passed opens f v es n b m c → Passed opens f v fs m c k d → Passed opens f v (es ++ fs) n b k d }
 {}
 
 /// Instances that read the same parts. Where the first of them is stale all are, and they are marked with one part that it reads. Where it
 /// is fresh each is. The first one that is applied changes a part that the others read, so that they are stale, and marked, as that is noted.
 /// The instances of a rule with a first id read the same parts, where they share their reading.
 pub fn rows_are_met()
-    ensures stale { (opens : Open) (f : Sparse) (n m : Marks) (b : Ledger) (e : Instance) (es : List Instance) (a : Part) → Follows opens f b → (IsFresh f b.problem e → ⊥) → ReadAlike e es → Grows n m → Contains (heads e) a → Contains m.noted a → Passed opens f es n b m b }
+    ensures stale { (opens : Open) (f : Sparse) (v : ℕ) (n m : Marks) (b : Ledger) (e : Instance) (es : List Instance) (a : Part) → Follows opens f b → (IsFresh f b.problem e → ⊥) → ReadAlike e es → Grows n m → Contains (heads e) a → Contains m.noted a → Passed opens f v es n b m b }
     ensures fresh { (f p : Sparse) (e x : Instance) (es : List Instance) → ReadAlike e es → Contains es x → IsFresh f p e → IsFresh f p x }
-    ensures stopped { (opens : Open) (f : Sparse) (n m : Marks) (b c : Ledger) (r : Reduction) (es : List Instance) → Follows opens f b → IsFresh f b.problem (at.Reduction r) → enabled_on b.problem (at.Reduction r) ≡ true → shares_reading (rule_of r) ≡ true → length b.history < b.limit → c ≡ with_instance b (at.Reduction r) → AreNoted b.problem c.problem n.noted m.noted → ReadAlike (at.Reduction r) es → Passed opens f es m c m c }
+    ensures stopped { OthersArePassed }
     ensures alike { (opens : Open) (p : Sparse) (r : Rule) (k : ℕ) (e : Instance) (es : List Instance) → shares_reading r ≡ true → Contains (instances_from opens p r k) e → ((x : Instance) → Contains es x → Contains (instances_from opens p r k) x) → ReadAlike e es }
 {}
 
 /// A pass over rows and columns where each enabled instance is that does not sleep commits what a round lists, with those that sleep. After
 /// it each enabled instance is marked, if the run goes on: it reads a part that is noted, or sleeps.
 pub fn passes_are_rounds()
-    ensures round { (b c : Ledger) (n : Around) (k m : Marks) → AreSorted n → IsComplete b.numbers (open_on b.tally) b.problem n k.asleep → Passed (open_on b.tally) b.problem (visited (open_on b.tally) b.problem n) k b m c → Committed b (round_list b) c }
-    ensures marked { (b c : Ledger) (n : Around) (k m : Marks) → AreSorted n → IsComplete b.numbers (open_on b.tally) b.problem n k.asleep → Passed (open_on b.tally) b.problem (visited (open_on b.tally) b.problem n) k b m c → c.verdict ≡ None → length c.history < c.limit → (e : Instance) → enabled_on c.problem e ≡ true → is_open (open_on c.tally) e ≡ true → IsMarked c.numbers c.problem m e }
+    ensures round { (b c : Ledger) (n : Around) (k m : Marks) → AreSorted n → IsComplete b.numbers (open_on b.tally) b.problem n k.asleep → Passed (open_on b.tally) b.problem (instance_count b) (visited (open_on b.tally) b.problem n) k b m c → Committed b (round_list b) c }
+    ensures marked { PassMarksAll }
 {}
 
 /// A round that applied nothing leaves the book as it was, and nothing can be applied there.

@@ -4,16 +4,16 @@ ghost use Rattle.std.specs.Prelude.{◌≡◌, ℕ, List, IfOk};
 ghost use Rattle.std.specs.List.{Contains};
 ghost use Rattle.problem_model.specs.declared.part.Part.{Part as PartValue};
 ghost use Rattle.presolve_model.specs.declared.instance.Reach.TheVariants as reach;
-ghost use Rattle.line_groups.specs.Ascending.{AscendsFrom};
+ghost use Rattle.sorted_ids.specs.Ascending.{AscendsFrom};
 ghost use Rattle.line_groups.specs.Groups.{AreGroupsOf};
 ghost use Rattle.place_laws.specs.Choosing.{all_around, all_places, columns_with, rows_with, AreSorted, HoldsAround, HoldsLed, HoldsParts, ids_of as ids_there, IsSorted};
 ghost use Rattle.place_laws.specs.Marks.{Marks};
 
 use crate::ids::{add_across, bounds_of, columns_of, ids_below, rows_of, sides_of, sort_ids};
 use crate::soles::{add_soles, add_soles_of_rows};
-use instances::reach_of;
 use line_groups::Parallels;
 use presolve_model::{Part, Reach, Rule};
+use rule_table::reach_of;
 use sparse_problem::Problem;
 use std::alloc::{AllocError, Global};
 use std::marker::Model;
@@ -79,8 +79,8 @@ fn rows_of_bounds(alloc: Global, problem: &Problem, parts: &[Part]) -> Result<Ve
     let mut columns = bounds_of(alloc, parts)?;
     sort_ids(&mut columns)?;
     add_across(
-        problem.columns(),
-        problem.rows(),
+        &problem.columns(),
+        &problem.rows(),
         columns.as_slice(),
         &mut ids,
     )?;
@@ -100,7 +100,12 @@ fn columns_of_sides(
     let mut ids = columns_of(alloc, parts)?;
     let mut rows = sides_of(alloc, parts)?;
     sort_ids(&mut rows)?;
-    add_across(problem.rows(), problem.columns(), rows.as_slice(), &mut ids)?;
+    add_across(
+        &problem.rows(),
+        &problem.columns(),
+        rows.as_slice(),
+        &mut ids,
+    )?;
     sort_ids(&mut ids)?;
     Ok(ids)
 }
@@ -117,7 +122,7 @@ fn rows_of_both(
     ensures holds { IfOk result (λ ids. HoldsLed problem.now reach.RowsOfBoth parts.now ids.items) }
 {
     let mut ids = rows_of(alloc, parts)?;
-    add_across(problem.columns(), problem.rows(), columns, &mut ids)?;
+    add_across(&problem.columns(), &problem.rows(), columns, &mut ids)?;
     sort_ids(&mut ids)?;
     Ok(ids)
 }

@@ -59,10 +59,7 @@ fn add_live(problem: &Problem, terms: &[Term], ids: &mut Vec<u32>) -> Result<(),
 fn add_of_row(problem: &Problem, row: u32, ids: &mut Vec<u32>) -> Result<(), AllocError>
     ensures { OnOk result (ids.new.items ≡ ids.old.items ++ soles problem.now (ids_of (row_entries problem.now row))) }
 {
-    match problem.rows().get(row as usize) {
-        Some(line) => add_live(problem, line.entries.as_slice(), ids),
-        None => Ok(()),
-    }
+    add_live(problem, problem.rows().entries(row), ids)
 }
 
 /// Adds the columns with one entry that stand in rows with these ids.

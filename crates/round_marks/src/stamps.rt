@@ -1,11 +1,11 @@
 //! How often the parts of a problem had changed when a round began.
 
-ghost use Rattle.std.specs.Prelude.{◌≡◌, nat_eq, length, map, slice_index_or, slice_set, IfOk};
+ghost use Rattle.std.specs.Prelude.{◌≡◌, nat_eq, length, slice_index_or, slice_set, IfOk};
 ghost use Rattle.problem_model.specs.Parts.{changes_of};
 ghost use Rattle.round_laws.specs.Passing.{are_unchanged};
 ghost use Rattle.round_marks.specs.Stamping.{restamped, stamp_at, stamp_put, stamps_of};
 
-use presolve_model::{Bounds, Line, Part, Sides};
+use presolve_model::Part;
 use sparse_problem::Problem;
 use std::alloc::{AllocError, Global};
 use std::marker::Model;
@@ -25,36 +25,6 @@ impl Model for Stamps {
     ghost Value = { Stamped };
 
     ghost view = { λ s. record { rows = s.rows.items; sides = s.sides.items; columns = s.columns.items; bounds = s.bounds.items } };
-}
-
-fn of_lines(alloc: Global, lines: &[Line]) -> Result<Vec<u64>, AllocError>
-    ensures { IfOk result (λ stamps. stamps.items ≡ map (λ line. line.changes) lines.now) }
-{
-    let mut stamps = Vec::with_capacity(alloc, lines.len())?;
-    for line in lines {
-        stamps.push(line.changes)?;
-    }
-    Ok(stamps)
-}
-
-fn of_sides(alloc: Global, all: &[Sides]) -> Result<Vec<u64>, AllocError>
-    ensures { IfOk result (λ stamps. stamps.items ≡ map (λ sides. sides.changes) all.now) }
-{
-    let mut stamps = Vec::with_capacity(alloc, all.len())?;
-    for sides in all {
-        stamps.push(sides.changes)?;
-    }
-    Ok(stamps)
-}
-
-fn of_bounds(alloc: Global, all: &[Bounds]) -> Result<Vec<u64>, AllocError>
-    ensures { IfOk result (λ stamps. stamps.items ≡ map (λ bounds. bounds.changes) all.now) }
-{
-    let mut stamps = Vec::with_capacity(alloc, all.len())?;
-    for bounds in all {
-        stamps.push(bounds.changes)?;
-    }
-    Ok(stamps)
 }
 
 fn number_at(stamps: &[u64], id: u32) -> u64
@@ -79,10 +49,10 @@ impl Stamps {
     pub fn of(alloc: Global, problem: &Problem) -> Result<Stamps, AllocError>
         ensures { IfOk result (λ stamps. stamps ≡ stamps_of problem.now) }
     {
-        let rows = of_lines(alloc, problem.rows())?;
-        let sides = of_sides(alloc, problem.all_sides())?;
-        let columns = of_lines(alloc, problem.columns())?;
-        let bounds = of_bounds(alloc, problem.all_bounds())?;
+        let rows = problem.row_changes(alloc)?;
+        let sides = problem.side_changes(alloc)?;
+        let columns = problem.column_changes(alloc)?;
+        let bounds = problem.bound_changes(alloc)?;
         Ok(Stamps {
             rows,
             sides,

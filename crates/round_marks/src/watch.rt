@@ -1,6 +1,6 @@
 //! What rounds watch.
 
-ghost use Rattle.std.specs.Prelude.{◌≡◌, ◌≢◌, ◌∷◌, ℕ, true, [], IfOk, OnOk};
+ghost use Rattle.std.specs.Prelude.{◌≡◌, ◌≢◌, ◌∷◌, true, [], IfOk, OnOk};
 ghost use Rattle.line_groups.specs.Groups.{AreGroupsOf};
 ghost use Rattle.problem_model.specs.Noted.{AreNoted};
 ghost use Rattle.presolve_model.specs.declared.outcome.Outcome.TheVariants.{NoMemory};
@@ -14,9 +14,9 @@ ghost use Rattle.round_marks.specs.Marking.{all_marked, left_over, marked, Notes
 
 use crate::around::Around;
 use crate::forms::Forms;
-use instances::{reach_of, rests_on_reading, rule_of};
 use line_groups::Parallels;
 use presolve_model::{Instance, Outcome, Part, Reach};
+use rule_table::{reach_of, rests_on_reading, rule_of};
 use sparse_problem::Problem;
 use std::alloc::{AllocError, Global};
 use std::marker::Model;
@@ -147,7 +147,7 @@ impl Watch {
         Ok(())
     }
 
-    /// Applies an enabled instance, and notes what changes.
+    /// Applies an enabled instance, as one that was found on this version, and notes what changes.
     ///
     /// # Errors
     /// Memory ran out.
@@ -155,20 +155,21 @@ impl Watch {
         &mut self,
         alloc: Global,
         book: &mut Book,
+        version: u64,
         instance: Instance,
     ) -> Result<Outcome, AllocError>
         requires enabled { enabled_on book.old.problem instance ≡ true }
         requires forms { AreFormsOf self.old.forms book.old.problem }
         ensures answered { IfOk result (λ outcome. outcome ≢ NoMemory) }
-        ensures outcome { IfOk result (λ outcome. (version : ℕ) → Allows book.old (proposal_of book.old.problem version instance) outcome) }
-        ensures left { IfOk result (λ outcome. (version : ℕ) → book.new ≡ left_by book.old (proposal_of book.old.problem version instance) outcome) }
+        ensures outcome { IfOk result (λ outcome. Allows book.old (proposal_of book.old.problem version instance) outcome) }
+        ensures left { IfOk result (λ outcome. book.new ≡ left_by book.old (proposal_of book.old.problem version instance) outcome) }
         ensures noted { OnOk result (AreNoted book.old.problem book.new.problem self.old.marks.noted self.new.marks.noted) }
         ensures stirred { OnOk result (AreStirred book.old.problem book.new.problem self.old.marks self.new.marks) }
         ensures asleep { OnOk result (self.new.marks.asleep ≡ self.old.marks.asleep) }
         ensures forms { OnOk result (AreFormsOf self.new.forms book.new.problem) }
     {
         let mut changed = Vec::new(alloc);
-        let outcome = book.apply(alloc, instance, &mut changed);
+        let outcome = book.apply(alloc, version, instance, &mut changed);
         match outcome {
             Outcome::NoMemory => return Err(AllocError),
             _ => {}

@@ -1,3 +1,5 @@
 pub mod Coefficients
 pub mod EndTestsSay
 pub mod Named
+pub mod Multiples
+pub mod TermsInTurn

@@ -2,3 +2,5 @@ pub mod Entries
 pub mod Reading
 pub mod Owed
 pub mod Answers
+pub mod Multiples
+pub mod MovedSides

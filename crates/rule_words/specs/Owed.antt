@@ -9,7 +9,7 @@ use Rattle.undo_records.specs.declared.undo.Undo.{Undo}
 use Rattle.undo_records.specs.Lift.{undone}
 use Rattle.undo_records.specs.Sound.{IsSound}
 use Rattle.undo_records.specs.Walk.{NamesLive, after}
-use Rattle.postsolve_dual.specs.LiftPair.{undone_pair}
+use Rattle.undo_pairs.specs.LiftPair.{undone_pair}
 use Rattle.problem_model.specs.Flags.{flags_of}
 use Rattle.problem_model.specs.Problems.{IsSparse}
 use Rattle.problem_model.specs.Showing.{shown}

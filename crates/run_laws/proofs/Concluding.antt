@@ -10,10 +10,11 @@ use Rattle.presolve_model.specs.declared.conclusion.End.{End}
 use Rattle.presolve_model.specs.declared.conclusion.Options.{Options}
 use Rattle.presolve_model.specs.declared.instance.Reduction.{Reduction}
 use Rattle.presolve_model.specs.declared.instance.Verdict.{Verdict}
-use Rattle.presolve_model.specs.Conclusions.{Concluded, Decided}
+use Rattle.presolve_model.specs.Conclusions.{Concluded, Decided, IsDecidedInOrder}
 use Rattle.presolve_model.specs.Ledger.{Ledger}
-use Rattle.presolve_model.specs.Ordered.{new_book, Ordered, RunsTo}
+use Rattle.presolve_model.specs.Ordered.{IsMadeInOrder, new_book, Ordered, RunsTo}
 use Rattle.presolve_model.specs.Telling.{IsToldOf, names_in}
+use Rattle.presolve_model.specs.Workers.{IsInOrder, Workers}
 use Rattle.run_laws.proofs.OneProblem.{one_problem}
 use Rattle.run_laws.proofs.Runs.{ordered_same}
 
@@ -55,21 +56,31 @@ some_same : (e f : End) → Some e ≡ Some f → e ≡ f
 some_same e f h = cc
 
 -- ---- one conclusion
-pub concluded_same : (options : Options) (program r s : ProgramData) (t u : Postsolve) (e f : End) → Concluded options program r t e → Concluded options program s u f → (r ≡ s) × (t ≡ u) × (e ≡ f)
-concluded_same options program r s t u e f x y =
-    let k = runs_same options program (Some e) (Some f) x.ordered.book y.ordered.book x.ordered.runs y.ordered.runs in (
-      x.ordered.written ∙ ap (λ (b : Ledger). written_program program b.problem) k.1 ∙ sym y.ordered.written,
-      told_same options.dual program x.ordered.book t u x.ordered.tells (subst (λ (b : Ledger). IsToldOf options.dual program b u) (sym k.1) y.ordered.tells),
+pub concluded_same : (options : Options) (v w : Workers) (program r s : ProgramData) (t u : Postsolve) (e f : End) → IsInOrder v → IsInOrder w
+    → Concluded options v program r t e → Concluded options w program s u f → (r ≡ s) × (t ≡ u) × (e ≡ f)
+concluded_same options v w program r s t u e f first second x y =
+    let a : IsMadeInOrder options program r t e = x.ordered first in
+    let b : IsMadeInOrder options program s u f = y.ordered second in
+    let k = runs_same options program (Some e) (Some f) a.book b.book a.runs b.runs in (
+      a.written ∙ ap (λ (c : Ledger). written_program program c.problem) k.1 ∙ sym b.written,
+      told_same options.dual program a.book t u a.tells (subst (λ (c : Ledger). IsToldOf options.dual program c u) (sym k.1) b.tells),
       some_same e f k.0,
     )
 
-pub decided_same : (options : Options) (program : ProgramData) (h k : List Reduction) (v w : Verdict) → Decided options program h v → Decided options program k w → (h ≡ k) × (v ≡ w)
-decided_same options program h k v w x y =
-    let same = (runs_same options program None None x.ordered.book y.ordered.book x.ordered.runs y.ordered.runs).1 in (
-      sym x.ordered.applied ∙ ap (λ (b : Ledger). b.history) same ∙ y.ordered.applied,
-      let some : Some v ≡ Some w = sym x.ordered.closed ∙ ap (λ (b : Ledger). b.verdict) same ∙ y.ordered.closed in cc,
+pub decided_same : (options : Options) (v w : Workers) (program : ProgramData) (h k : List Reduction) (d e : Verdict) → IsInOrder v → IsInOrder w
+    → Decided options v program h d → Decided options w program k e → (h ≡ k) × (d ≡ e)
+decided_same options v w program h k d e first second x y =
+    let a : IsDecidedInOrder options program h d = x.ordered first in
+    let b : IsDecidedInOrder options program k e = y.ordered second in
+    let same = (runs_same options program None None a.book b.book a.runs b.runs).1 in (
+      sym a.applied ∙ ap (λ (c : Ledger). c.history) same ∙ b.applied,
+      let some : Some d ≡ Some e = sym a.closed ∙ ap (λ (c : Ledger). c.verdict) same ∙ b.closed in cc,
     )
 
 -- a program is reduced or decided, and not both
-pub not_both : (options : Options) (program r : ProgramData) (t : Postsolve) (e : End) (h : List Reduction) (v : Verdict) → Concluded options program r t e → Decided options program h v → ⊥
-not_both options program r t e h v x y = let k = (runs_same options program (Some e) None x.ordered.book y.ordered.book x.ordered.runs y.ordered.runs).0 in cc
+pub not_both : (options : Options) (v w : Workers) (program r : ProgramData) (t : Postsolve) (e : End) (h : List Reduction) (d : Verdict) → IsInOrder v → IsInOrder w
+    → Concluded options v program r t e → Decided options w program h d → ⊥
+not_both options v w program r t e h d first second x y =
+    let a : IsMadeInOrder options program r t e = x.ordered first in
+    let b : IsDecidedInOrder options program h d = y.ordered second in
+    let k = (runs_same options program (Some e) None a.book b.book a.runs b.runs).0 in cc

@@ -37,6 +37,7 @@ use Rattle.history_laws.proofs.Keeping.{sparse_replay, verdict_means, writable_r
 use Rattle.history_laws.proofs.Sizes.{replay_size}
 use Rattle.history_laws.proofs.Walks.{is_of, walked_sound}
 use Rattle.presolve_model.specs.Telling.{IsToldOf, are_live}
+use Rattle.presolve_model.specs.Workers.{IsInOrder, Workers}
 
 -- ---- the walk
 abbrev pub walked : (dual : Bool) (program : ProgramData) (b : Ledger) (told : Postsolve) → IsProblemOf program b.start → Stands b → IsToldOf dual program b told → Walked b.numbers program (written_program program b.problem) told
@@ -92,9 +93,9 @@ verdict_says program b v o s e =
     meant_in v program.sense (meaning program) (subst (Meant v Min) (problem_shows_program program b.start o)
     (verdict_means b.numbers b.start b.history v s.sound s.replays (subst (λ (q : Sparse). enabled_on q (at.Verdict v) ≡ true) s.problem e)))
 
-pub decided : (dual : Bool) (program : ProgramData) (b : Ledger) (v : Verdict) → IsProblemOf program b.start → Stands b → b.verdict ≡ Some v → RunsTo (options_of dual b) program None b
-    → Decided (options_of dual b) program b.history v
-decided dual program b v o s h runs =
+pub decided : (dual : Bool) (workers : Workers) (program : ProgramData) (b : Ledger) (v : Verdict) → IsProblemOf program b.start → Stands b → b.verdict ≡ Some v → (IsInOrder workers → RunsTo (options_of dual b) program None b)
+    → Decided (options_of dual b) workers program b.history v
+decided dual workers program b v o s h runs =
     let e : enabled_on b.problem (at.Verdict v) ≡ true = subst (λ (x : Option Verdict). IfSome x (λ w. enabled_on b.problem (at.Verdict w) ≡ true)) h s.verdict in
     record {
       start = b.start;
@@ -103,5 +104,5 @@ decided dual program b v o s h runs =
       within = s.within;
       enabled = subst (λ (q : Sparse). enabled_on q (at.Verdict v) ≡ true) s.problem e;
       means = verdict_says program b v o s e;
-      ordered = record { book = b; runs = runs; applied = refl; closed = h };
+      ordered = λ on. record { book = b; runs = runs on; applied = refl; closed = h };
     }

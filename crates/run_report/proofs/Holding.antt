@@ -1,5 +1,5 @@
 -- What a run leaves enabled can't be applied.
-use Rattle.std.proofs.Common.{◌≡◌, ◌≢◌, true, false, List, [], ◌∷◌, ◌++◌, map, Option, Some, None, sym, refl, ap, ◌∙◌, subst, arith, append_assoc}
+use Rattle.std.proofs.Common.{◌≡◌, ◌≢◌, ℕ, ◌≤◌, true, false, List, [], ◌∷◌, ◌++◌, map, length, Option, Some, None, sym, refl, ap, ◌∙◌, subst, arith, append_assoc}
 use Rattle.std.specs.List.{All, Contains, filter}
 use Rattle.std.proofs.lemmas.List.{map-append}
 use Rattle.std.proofs.lemmas.List.Elements.{All-push, All-tail, Contains-get_or}
@@ -14,7 +14,7 @@ use Rattle.presolve_model.specs.declared.outcome.Outcome.TheVariants.{Closed, Fu
 use Rattle.presolve_model.specs.Commits.{Allows, left_by}
 use Rattle.presolve_model.specs.Enabled.{enabled_on, reading_of}
 use Rattle.presolve_model.specs.Instances.{instances_from, is_open}
-use Rattle.presolve_model.specs.Ledger.{Ledger}
+use Rattle.presolve_model.specs.Ledger.{Ledger, Stands}
 use Rattle.presolve_model.specs.Order.{reduction_order}
 use Rattle.presolve_model.specs.Scans.{all_ids, all_of, instances_at, proposal_of}
 use Rattle.presolve_model.specs.Stuck.{enabled_reductions}
@@ -26,10 +26,13 @@ use Rattle.round_laws.proofs.Committing.{differs}
 use Rattle.lp_model.specs.ProgramData.{ProgramData}
 use Rattle.problem_model.specs.Programs.{IsProblemOf}
 use Rattle.presolve_model.specs.declared.conclusion.Options.{Options}
+use Rattle.fractions.specs.declared.Numbers.{Numbers}
 use Rattle.presolve_model.specs.Ordered.{new_book, Ordered, RunsTo}
+use Rattle.presolve_model.specs.Replay.{Replays}
 use Rattle.round_laws.specs.Passing.{IsSameBook}
 use Rattle.run_report.specs.declared.look.Held.{Held}
 use Rattle.run_report.specs.Holding.{HoldsBack, IsHeld}
+use Rattle.run_report.specs.Story.{IsReplayed}
 use Rattle.presolve_rounds.proofs.Concluding.{runs_to, same_options}
 use Rattle.presolve_rounds.specs.Running.{EndsWith}
 
@@ -58,23 +61,23 @@ each_held o b found h is = subst (λ (es : List Instance). All (HoldsBack b) es)
     over es within k d lt = let l = listed_open (open_on b.tally) b.problem reduction_order _ (within _ (Contains-get_or es k d lt)) in ended_holds o b h _ l.0 l.1
 
 -- ---- the answer to one that is held back
-pub stays : (b c : Ledger) (e : Instance) (o : Outcome) → HoldsBack b e → Allows b (proposal_of b.problem 0 e) o → c ≡ left_by b (proposal_of b.problem 0 e) o → c ≡ b
-stays b c e (Closed v) h a l = l
-stays b c e Full h a l = l
-stays b c e (Stale k) h a l = l
-stays b c e Past h a l = l
-stays b c e NotDecimal h a l = l
-stays b c e (Applied k) h a l = absurd (h.never a.0.undecided a.0.room a.1 a.2)
-stays b c e NoMemory h a l = l
+pub stays : (b c : Ledger) (w : ℕ) (e : Instance) (o : Outcome) → HoldsBack b e → Allows b (proposal_of b.problem w e) o → c ≡ left_by b (proposal_of b.problem w e) o → c ≡ b
+stays b c w e (Closed v) h a l = l
+stays b c w e Full h a l = l
+stays b c w e (Stale k) h a l = l
+stays b c w e Past h a l = l
+stays b c w e NotDecimal h a l = l
+stays b c w e (Applied k) h a l = absurd (h.never a.0.undecided a.0.room a.1 a.2)
+stays b c w e NoMemory h a l = l
 
-pub why_held : (b : Ledger) (e : Instance) (o : Outcome) → HoldsBack b e → o ≢ NoMemory → Allows b (proposal_of b.problem 0 e) o → IsHeld b e o
-why_held b e (Closed v) h n a = a
-why_held b e Full h n a = a
-why_held b e (Stale k) h n a = absurd (differs b.problem (reading_of b.problem e) k a.2 (reading_agrees b.problem e))
-why_held b e Past h n a = (a.0.undecided, a.0.room, a.1)
-why_held b e NotDecimal h n a = (a.0.undecided, a.0.room, a.1, a.2)
-why_held b e (Applied k) h n a = absurd (h.never a.0.undecided a.0.room a.1 a.2)
-why_held b e NoMemory h n a = absurd (n refl)
+pub why_held : (b : Ledger) (w : ℕ) (e : Instance) (o : Outcome) → HoldsBack b e → o ≢ NoMemory → Allows b (proposal_of b.problem w e) o → IsHeld b e o
+why_held b w e (Closed v) h n a = a
+why_held b w e Full h n a = a
+why_held b w e (Stale k) h n a = absurd (differs b.problem (reading_of b.problem e) k a.2 (reading_agrees b.problem e))
+why_held b w e Past h n a = (a.0.undecided, a.0.room, a.1)
+why_held b w e NotDecimal h n a = (a.0.undecided, a.0.room, a.1, a.2)
+why_held b w e (Applied k) h n a = absurd (h.never a.0.undecided a.0.room a.1 a.2)
+why_held b w e NoMemory h n a = absurd (n refl)
 
 -- with one answer more
 pub next_held : (b d : Ledger) (found : List Instance) (hs ks : List Held) (h : Held) (rest after : List Instance) → rest ≡ h.instance ∷ after → d ≡ b → ks ≡ hs ++ h ∷ [] → IsHeld d h.instance h.answer
@@ -94,3 +97,15 @@ run_looked program options b c d o h e same k is = subst (λ (x : Ledger). IsPro
   subst (IsProblemOf program) (sym same.start) h,
   subst (λ (x : Options). RunsTo x program o c) (same_options options b c e same) (runs_to program options b c o o h e same refl k),
 )
+
+-- the history with which it ends replays on that problem
+pub run_replayed : (program : ProgramData) (options : Options) (b c d : Ledger) → IsProblemOf program b.start → b ≡ new_book options b.start → IsSameBook b c → d ≡ c → Stands d → IsReplayed options program d.history d.start
+run_replayed program options b c d h e same is stands =
+    let start : d.start ≡ b.start = ap (λ (x : Ledger). x.start) is ∙ same.start in
+    let numbers : d.numbers ≡ options.numbers = ap (λ (x : Ledger). x.numbers) is ∙ same.numbers ∙ ap (λ (x : Ledger). x.numbers) e in
+    let limit : d.limit ≡ options.limit = ap (λ (x : Ledger). x.limit) is ∙ same.limit ∙ ap (λ (x : Ledger). x.limit) e in
+    record {
+      opened = subst (IsProblemOf program) (sym start) h;
+      replays = subst (λ (n : Numbers). Replays n d.start d.history) numbers stands.replays;
+      within = subst (λ (n : ℕ). length d.history ≤ n) limit stands.within;
+    }

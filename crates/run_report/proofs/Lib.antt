@@ -1,2 +1,4 @@
 pub mod Holding
 pub mod Counting
+pub mod Stepping
+pub mod Retold

@@ -3,3 +3,7 @@ pub mod Rules
 pub mod Counts
 pub mod Lines
 pub mod Naming
+pub mod Views
+pub mod Story
+pub mod Reasons
+pub mod Sizes

@@ -7,9 +7,9 @@ use Rattle.undo_records.specs.declared.side.Side.TheVariants.{Lower, Upper}
 use Rattle.presolve_model.specs.declared.instance.Instance.{Instance}
 use Rattle.presolve_model.specs.declared.instance.Instance.TheVariants as at
 use Rattle.presolve_model.specs.declared.instance.Reduction.{Reduction}
-use Rattle.presolve_model.specs.declared.instance.Reduction.TheVariants.{EmptyRow, SingletonRow, FixedColumn, RoundBounds, RedundantRow, RedundantSide, ForcingRow, TightenedBound, TightenedCoefficient, FixedByCost, DominatedColumn, DoubletonEquation, FreeColumn, SlackColumn, ParallelRows, ParallelColumns, EmptyColumn}
+use Rattle.presolve_model.specs.declared.instance.Reduction.TheVariants.{EmptyRow, SingletonRow, FixedColumn, RoundedBounds, RedundantRow, RedundantSide, ForcingRow, BoundTightening, CoefficientTightening, DualFixing, DominatedColumn, DoubletonEquation, FreeColumnSingleton, SlackColumnSingleton, ParallelRows, ParallelColumns, EmptyColumn}
 use Rattle.presolve_model.specs.declared.instance.Verdict.{Verdict}
-use Rattle.presolve_model.specs.declared.instance.Verdict.TheVariants.{CrossedBounds, CrossedSides, OutOfReach, Ray}
+use Rattle.presolve_model.specs.declared.instance.Verdict.TheVariants.{CrossedBounds, CrossedSides, InfeasibleRow, UnboundedColumn}
 use Rattle.presolve_model.specs.Instances.{rule_at}
 use Rattle.run_report.specs.declared.named.Subject.{Subject}
 use Rattle.run_report.specs.declared.named.Subject.TheVariants.{Row, Column}
@@ -30,17 +30,17 @@ abbrev pub named_by_reduction : Reduction → List (Option Subject)
 named_by_reduction (EmptyRow i) = one (Row i)
 named_by_reduction (SingletonRow i) = one (Row i)
 named_by_reduction (FixedColumn j) = one (Column j)
-named_by_reduction (RoundBounds j) = one (Column j)
+named_by_reduction (RoundedBounds j) = one (Column j)
 named_by_reduction (RedundantRow i) = one (Row i)
 named_by_reduction (RedundantSide i) = one (Row i)
 named_by_reduction (ForcingRow i) = one (Row i)
-named_by_reduction (TightenedBound i j side) = two (Row i) (Column j)
-named_by_reduction (TightenedCoefficient i j) = two (Row i) (Column j)
-named_by_reduction (FixedByCost j) = one (Column j)
+named_by_reduction (BoundTightening i j side) = two (Row i) (Column j)
+named_by_reduction (CoefficientTightening i j) = two (Row i) (Column j)
+named_by_reduction (DualFixing j) = one (Column j)
 named_by_reduction (DominatedColumn i j k) = three (Row i) (Column j) (Column k)
 named_by_reduction (DoubletonEquation i j k) = three (Row i) (Column j) (Column k)
-named_by_reduction (FreeColumn j i) = two (Column j) (Row i)
-named_by_reduction (SlackColumn j i) = two (Column j) (Row i)
+named_by_reduction (FreeColumnSingleton j i) = two (Column j) (Row i)
+named_by_reduction (SlackColumnSingleton j i) = two (Column j) (Row i)
 named_by_reduction (ParallelRows i k) = two (Row i) (Row k)
 named_by_reduction (ParallelColumns j k) = two (Column j) (Column k)
 named_by_reduction (EmptyColumn j) = one (Column j)
@@ -48,8 +48,8 @@ named_by_reduction (EmptyColumn j) = one (Column j)
 abbrev pub named_by_verdict : Verdict → List (Option Subject)
 named_by_verdict (CrossedBounds j) = one (Column j)
 named_by_verdict (CrossedSides i) = one (Row i)
-named_by_verdict (OutOfReach i) = one (Row i)
-named_by_verdict (Ray j) = one (Column j)
+named_by_verdict (InfeasibleRow i) = one (Row i)
+named_by_verdict (UnboundedColumn j) = one (Column j)
 
 abbrev pub named_by : Instance → List (Option Subject)
 named_by (at.Reduction r) = named_by_reduction r
@@ -77,8 +77,8 @@ names_text program (Some subject ∷ subjects) = 32 ∷ (name_at program subject
 
 -- the side of the bound that an instance tightens
 abbrev pub side_text : Instance → List ℕ
-side_text (at.Reduction (TightenedBound i j Lower)) = codes " lower"
-side_text (at.Reduction (TightenedBound i j Upper)) = codes " upper"
+side_text (at.Reduction (BoundTightening i j Lower)) = codes " lower"
+side_text (at.Reduction (BoundTightening i j Upper)) = codes " upper"
 side_text other = []
 
 -- the code of the rule, the names, and the side

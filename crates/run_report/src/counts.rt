@@ -13,8 +13,8 @@ ghost use Rattle.run_report.specs.Rules.{all_rules, is_same};
 
 use crate::look::{Held, Run};
 use crate::rules::{all_rules, place_of};
-use instances::rule_of;
 use presolve_model::{End, Instance, Outcome, Reduction, Rule, Verdict};
+use rule_table::rule_of;
 use std::alloc::{AllocError, Global};
 use txn_book::Ended;
 
@@ -163,12 +163,13 @@ pub fn count_up(alloc: Global, run: Run) -> Result<Account, AllocError>
     let applied = applied_in(alloc, ended.history.as_slice(), ended.verdict)?;
     let refused = refused_in(alloc, run.held.as_slice())?;
     let left = left_in(alloc, run.held.as_slice())?;
+    let rules = all_rules(alloc)?;
     let counts = each_count(
         alloc,
         applied.as_slice(),
         refused.as_slice(),
         left.as_slice(),
-        &all_rules(),
+        rules.as_slice(),
     )?;
     Ok(Account {
         ended,

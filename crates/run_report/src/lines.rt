@@ -1,8 +1,10 @@
 //! Lines of text.
 
-ghost use Rattle.std.specs.Prelude.{◌≡◌, ◌++◌, OnOk};
+ghost use Rattle.std.specs.Prelude.{◌≡◌, ◌++◌, IfOk, OnOk};
 ghost use Rattle.run_report.specs.Naming.{instance_text};
 ghost use Rattle.run_report.specs.Lines.{rule_line, size_line};
+ghost use Rattle.run_report.specs.Reasons.{Adds, IsHeldLine, IsOddOf, IsReason, odd_text};
+ghost use Rattle.run_report.specs.Views.{end_text, range_text};
 
 use crate::counts::RuleCount;
 use crate::look::Held;
@@ -10,9 +12,10 @@ use crate::named::{named_by, odd_number, push_names, side_text};
 use crate::rules::{code_of, name_of};
 use crate::sizes::Size;
 use fractions::ext::Ext;
-use instances::rule_of;
+use fractions::frac::Frac;
 use lp_model::Program;
 use presolve_model::{Instance, Outcome};
+use rule_table::rule_of;
 use sparse_problem::Problem;
 use std::alloc::{AllocError, Global};
 
@@ -62,22 +65,47 @@ pub fn push_instance(
     text.extend_from_slice(side_text(instance).as_bytes())
 }
 
-/// Adds the number for which an instance is refused, where there is one that is no decimal number.
-fn push_odd(
+/// The number for which an instance is refused, where there is one that is no decimal number.
+fn odd_of(alloc: Global, problem: &Problem, instance: Instance) -> Result<Option<Frac>, AllocError>
+    ensures { IfOk result (IsOddOf instance problem.now) }
+{
+    match instance {
+        Instance::Reduction(reduction) => odd_number(alloc, problem, reduction),
+        Instance::Verdict(_) => Ok(None),
+    }
+}
+
+/// Adds a number in parentheses, where there is one.
+fn push_odd(text: &mut Vec<u8>, found: Option<Frac>) -> Result<(), AllocError>
+    ensures { OnOk result (text.new.items ≡ text.old.items ++ odd_text found) }
+{
+    let Some(number) = found else {
+        return Ok(());
+    };
+    text.extend_from_slice(" (".as_bytes())?;
+    number_texts::push(text, &number)?;
+    text.extend_from_slice(")".as_bytes())
+}
+
+/// Adds why an instance was not applied.
+fn push_reason(
     alloc: Global,
     text: &mut Vec<u8>,
     problem: &Problem,
     instance: Instance,
-) -> Result<(), AllocError> {
-    let Instance::Reduction(reduction) = instance else {
-        return Ok(());
-    };
-    if let Some(number) = odd_number(alloc, problem, reduction)? {
-        text.extend_from_slice(b" (")?;
-        number_texts::push(text, &number)?;
-        text.push(b')')?;
+    answer: Outcome,
+) -> Result<(), AllocError>
+    ensures { OnOk result (Adds (IsReason problem.now instance answer) text.old.items text.new.items) }
+{
+    match answer {
+        Outcome::Past => text.extend_from_slice(": past".as_bytes()),
+        Outcome::NotDecimal => {
+            let found = odd_of(alloc, problem, instance)?;
+            text.extend_from_slice(": not decimal".as_bytes())?;
+            push_odd(text, found)
+        }
+        _ => text.extend_from_slice(": left".as_bytes()),
     }
-    Ok(())
 }
 
 /// Adds the line of an instance that is enabled at the end of a run.
@@ -87,32 +115,32 @@ pub fn push_held(
     program: &Program,
     problem: &Problem,
     held: Held,
-) -> Result<(), AllocError> {
+) -> Result<(), AllocError>
+    ensures { OnOk result (Adds (IsHeldLine program.now problem.now held) text.old.items text.new.items) }
+{
     push_instance(text, program, held.instance)?;
-    match held.answer {
-        Outcome::Past => text.extend_from_slice(b": past")?,
-        Outcome::NotDecimal => {
-            text.extend_from_slice(b": not decimal")?;
-            push_odd(alloc, text, problem, held.instance)?;
-        }
-        _ => text.extend_from_slice(b": left")?,
-    }
+    push_reason(alloc, text, problem, held.instance, held.answer)?;
     text.push(b'\n')?;
     Ok(())
 }
 
+/// Adds an end, or what stands for an infinite one.
+fn push_end(text: &mut Vec<u8>, infinite: &str, end: &Ext) -> Result<(), AllocError>
+    ensures { OnOk result (text.new.items ≡ text.old.items ++ end_text infinite.now end.now) }
+{
+    match end.number() {
+        Some(number) => number_texts::push(text, &number),
+        None => text.extend_from_slice(infinite.as_bytes()),
+    }
+}
+
 /// Adds a lower and an upper end.
-pub fn push_range(text: &mut Vec<u8>, lower: &Ext, upper: &Ext) -> Result<(), AllocError> {
-    text.push(b'[')?;
-    match lower.number() {
-        Some(number) => number_texts::push(text, &number)?,
-        None => text.extend_from_slice(b"-inf")?,
-    }
-    text.extend_from_slice(b", ")?;
-    match upper.number() {
-        Some(number) => number_texts::push(text, &number)?,
-        None => text.extend_from_slice(b"inf")?,
-    }
-    text.push(b']')?;
-    Ok(())
+pub fn push_range(text: &mut Vec<u8>, lower: &Ext, upper: &Ext) -> Result<(), AllocError>
+    ensures { OnOk result (text.new.items ≡ text.old.items ++ range_text lower.now upper.now) }
+{
+    text.extend_from_slice("[".as_bytes())?;
+    push_end(text, "-inf", lower)?;
+    text.extend_from_slice(", ".as_bytes())?;
+    push_end(text, "inf", upper)?;
+    text.extend_from_slice("]".as_bytes())
 }

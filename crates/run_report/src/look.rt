@@ -8,15 +8,17 @@ ghost use Rattle.presolve_model.specs.Ordered.{RunsTo};
 ghost use Rattle.presolve_model.specs.Stuck.{enabled_reductions};
 ghost use Rattle.presolve_model.specs.Tallies.{open_on};
 ghost use Rattle.run_report.specs.Holding.{AreHeld, HoldsBack, IsHeld};
+ghost use Rattle.run_report.specs.Story.{IsReplayed};
 ghost use Rattle.presolve_rounds.specs.Running.{EndsWith};
 
-use instances::{Tally, reduction_rules};
+use instances::Tally;
 use line_groups::Parallels;
 use lp_model::Program;
 use presolve_model::{End, Instance, Options, Outcome};
 use presolve_rounds::{Onlooker, opened, run};
 use round_marks::around::Around;
 use round_marks::found::enabled_of;
+use rule_table::reduction_rules;
 use sparse_problem::Problem;
 use std::alloc::{AllocError, Global};
 use txn_book::Book;
@@ -56,7 +58,8 @@ fn answer(alloc: Global, book: &mut Book, instance: Instance) -> Result<Outcome,
     ensures book { book.new ≡ book.old }
     ensures why { IfOk result (λ answer. IsHeld book.old instance answer) }
 {
-    match book.apply(alloc, instance, &mut Vec::new(alloc)) {
+    let version = book.instance_count();
+    match book.apply(alloc, version, instance, &mut Vec::new(alloc)) {
         Outcome::NoMemory => Err(AllocError),
         answer => Ok(answer),
     }
@@ -111,11 +114,13 @@ pub fn look_into<O: Onlooker>(
     requires writable { Writable options.now.numbers program.now }
     ensures start { IfOk result (λ run. IsProblemOf program.now run.book.start) }
     ensures runs { IfOk result (λ run. RunsTo options.now program.now run.end run.book) }
+    ensures replayed { IfOk result (λ run. IsReplayed options.now program.now run.book.history run.book.start) }
     ensures end { IfOk result (λ run. EndsWith run.end run.book) }
     ensures held { IfOk result (λ run. AreHeld run.book run.held.items) }
 {
     let mut book = opened(alloc, program, options)?;
     let end = run(alloc, &mut book, onlooker)?;
     let held = held_in(alloc, &mut book, end)?;
+    book.stands();
     Ok(Run { book, end, held })
 }

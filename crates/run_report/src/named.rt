@@ -1,16 +1,19 @@
 //! The rows and columns that instances name.
 
-ghost use Rattle.std.specs.Prelude.{◌≡◌, ◌++◌, false, IfOk, IfSome, OnOk};
+ghost use Rattle.std.specs.Prelude.{◌≡◌, ◌++◌, false, Some, IfOk, IfSome, OnOk};
 ghost use Rattle.fractions.specs.Places.{is_decimal};
+ghost use Rattle.presolve_model.specs.Tables.{edits};
+ghost use Rattle.run_report.specs.Reasons.{IsOdd, IsOfEdit, IsOfRange};
+ghost use Rattle.run_report.specs.Story.{is_same_subject};
 ghost use Rattle.run_report.specs.Naming.{name_at, named_by, named_by_reduction, named_by_verdict, names_text, one, side_text, three, two};
 
 use fractions::ext::Ext;
 use fractions::frac::Frac;
 use fractions::places::is_decimal;
-use instances::{change, is_enabled};
 use lp_model::Program;
 use presolve_model::{Instance, Reduction, Verdict};
 use problem_model::{Edit, Refusal};
+use rule_table::{change, is_enabled};
 use sparse_problem::Problem;
 use std::alloc::{AllocError, Global};
 use undo_records::Side;
@@ -24,7 +27,9 @@ pub enum Subject {
 
 impl Subject {
     /// Whether this is the same row or column.
-    pub fn is_same(self, other: Subject) -> bool {
+    pub fn is_same(self, other: Subject) -> bool
+        ensures { result ≡ is_same_subject self other }
+    {
         match (self, other) {
             (Subject::Row(i), Subject::Row(k)) => i == k,
             (Subject::Column(j), Subject::Column(k)) => j == k,
@@ -68,11 +73,11 @@ pub fn named_by_reduction(reduction: Reduction) -> Subjects
         | Reduction::RedundantSide { row }
         | Reduction::ForcingRow { row } => one(Subject::Row(row)),
         Reduction::FixedColumn { column }
-        | Reduction::RoundBounds { column }
-        | Reduction::FixedByCost { column }
+        | Reduction::RoundedBounds { column }
+        | Reduction::DualFixing { column }
         | Reduction::EmptyColumn { column } => one(Subject::Column(column)),
-        Reduction::TightenedBound { row, column, .. }
-        | Reduction::TightenedCoefficient { row, column } => {
+        Reduction::BoundTightening { row, column, .. }
+        | Reduction::CoefficientTightening { row, column } => {
             two(Subject::Row(row), Subject::Column(column))
         }
         Reduction::DominatedColumn {
@@ -89,7 +94,8 @@ pub fn named_by_reduction(reduction: Reduction) -> Subjects
             Subject::Column(column),
             Subject::Column(other),
         ),
-        Reduction::FreeColumn { column, row } | Reduction::SlackColumn { column, row } => {
+        Reduction::FreeColumnSingleton { column, row }
+        | Reduction::SlackColumnSingleton { column, row } => {
             two(Subject::Column(column), Subject::Row(row))
         }
         Reduction::ParallelRows { row, other } => two(Subject::Row(row), Subject::Row(other)),
@@ -104,8 +110,10 @@ fn named_by_verdict(verdict: Verdict) -> Subjects
     ensures { result ≡ named_by_verdict verdict }
 {
     match verdict {
-        Verdict::CrossedBounds { column } | Verdict::Ray { column } => one(Subject::Column(column)),
-        Verdict::CrossedSides { row } | Verdict::OutOfReach { row } => one(Subject::Row(row)),
+        Verdict::CrossedBounds { column } | Verdict::UnboundedColumn { column } => one(
+            Subject::Column(column),
+        ),
+        Verdict::CrossedSides { row } | Verdict::InfeasibleRow { row } => one(Subject::Row(row)),
     }
 }
 
@@ -124,7 +132,7 @@ pub fn side_text(instance: Instance) -> &'static str
     ensures { result.now ≡ side_text instance }
 {
     match instance {
-        Instance::Reduction(Reduction::TightenedBound { side, .. }) => match side {
+        Instance::Reduction(Reduction::BoundTightening { side, .. }) => match side {
             Side::Lower => " lower",
             Side::Upper => " upper",
         },
@@ -180,7 +188,7 @@ fn odd(number: Frac) -> Option<Frac>
 
 /// The number of an end that is no decimal number.
 fn odd_end(end: &Ext) -> Option<Frac>
-    ensures { IfSome result (λ q. is_decimal q ≡ false) }
+    ensures { IfSome result (λ q. (end.now ≡ Some q) × (is_decimal q ≡ false)) }
 {
     match end.number() {
         Some(number) => odd(number),
@@ -190,7 +198,7 @@ fn odd_end(end: &Ext) -> Option<Frac>
 
 /// The first end, or the width, that is no decimal number.
 fn odd_range(lower: &Ext, upper: &Ext) -> Option<Frac>
-    ensures { IfSome result (λ q. is_decimal q ≡ false) }
+    ensures { IfSome result (λ q. IsOfRange lower.now upper.now q × (is_decimal q ≡ false)) }
 {
     if let Some(number) = odd_end(lower) {
         return Some(number);
@@ -209,7 +217,7 @@ fn odd_range(lower: &Ext, upper: &Ext) -> Option<Frac>
 
 /// The first number of an edit that is no decimal number.
 fn odd_in(edit: &Edit) -> Option<Frac>
-    ensures { IfSome result (λ q. is_decimal q ≡ false) }
+    ensures { IfSome result (λ q. IsOfEdit edit.now q × (is_decimal q ≡ false)) }
 {
     match edit {
         Edit::SetSides { lower, upper, .. } | Edit::SetBounds { lower, upper, .. } => {
@@ -223,7 +231,7 @@ fn odd_in(edit: &Edit) -> Option<Frac>
 
 /// The first number of edits that is no decimal number.
 fn odd_among(edits: &[Edit]) -> Option<Frac>
-    ensures { IfSome result (λ q. is_decimal q ≡ false) }
+    ensures { IfSome result (IsOdd edits.now) }
 {
     let mut rest = edits;
     while let [edit, after @ ..] = rest {
@@ -244,7 +252,7 @@ pub fn odd_number(
     problem: &Problem,
     reduction: Reduction,
 ) -> Result<Option<Frac>, AllocError>
-    ensures { IfOk result (λ found. IfSome found (λ q. is_decimal q ≡ false)) }
+    ensures { IfOk result (λ found. IfSome found (IsOdd (edits reduction problem.now))) }
 {
     if !is_enabled(problem, Instance::Reduction(reduction)) {
         return Ok(None);

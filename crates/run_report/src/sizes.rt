@@ -1,11 +1,11 @@
 //! Sizes of a problem, round by round.
 
-ghost use Rattle.std.specs.Prelude.{◌≡◌, ◌-◌, ◌^◌, length, min};
-ghost use Rattle.std.specs.List.{count_by, sum_by};
+ghost use Rattle.std.specs.Prelude.{◌≡◌, ◌+◌, ◌-◌, ◌^◌, [], length, min, OnOk};
+ghost use Rattle.std.specs.List.{sum_by};
+ghost use Rattle.run_report.specs.Sizes.{size_at_start, size_in, with_round};
 
 use lp_model::{ColumnDef, Program};
 use presolve_rounds::Onlooker;
-use problem_model::Line;
 use sparse_problem::Problem;
 use std::alloc::{AllocError, Global};
 use txn_book::Book;
@@ -25,36 +25,14 @@ pub struct RoundSize {
     pub size: Size,
 }
 
-/// How many of these are there.
-fn count_live(lines: &[Line]) -> u64
-    ensures { result ≡ count_by (λ line. line.live) lines.now }
-{
-    lines.iter().filter(|line| line.live).count() as u64
-}
-
-/// How many entries these have that name what is there.
-fn count_entries(lines: &[Line]) -> u64
-    ensures { result ≡ min (sum_by (λ line. line.live_entries) lines.now) (2 ^ 64 - 1) }
-{
-    let mut count: u64 = 0;
-    let mut rest = lines;
-    while let [line, after @ ..] = rest {
-        count = count.saturating_add(line.live_entries as u64);
-        rest = after;
-    }
-    count
-}
-
 /// The size of a problem. The count of entries stands still at its type's end.
 pub fn size_of(problem: &Problem) -> Size
-    ensures rows { result.rows ≡ count_by (λ line. line.live) problem.now.matrix.rows }
-    ensures columns { result.columns ≡ count_by (λ line. line.live) problem.now.matrix.columns }
-    ensures entries { result.entries ≡ min (sum_by (λ line. line.live_entries) problem.now.matrix.rows) (2 ^ 64 - 1) }
+    ensures { result ≡ size_in problem.now }
 {
     Size {
-        rows: count_live(problem.rows()),
-        columns: count_live(problem.columns()),
-        entries: count_entries(problem.rows()),
+        rows: problem.rows().count_live(),
+        columns: problem.columns().count_live(),
+        entries: problem.rows().count_entries(),
     }
 }
 
@@ -73,9 +51,7 @@ fn count_all_entries(columns: &[ColumnDef]) -> u64
 
 /// The size of a program. The count of entries stands still at its type's end.
 pub fn size_at_start(program: &Program) -> Size
-    ensures rows { result.rows ≡ length program.now.rows }
-    ensures columns { result.columns ≡ length program.now.columns }
-    ensures entries { result.entries ≡ min (sum_by (λ column. length column.entries) program.now.columns) (2 ^ 64 - 1) }
+    ensures { result ≡ size_at_start program.now }
 {
     Size {
         rows: program.rows().len() as u64,
@@ -93,7 +69,10 @@ pub struct SizeLog {
 
 impl SizeLog {
     /// Before the first round.
-    pub fn new(alloc: Global) -> SizeLog {
+    pub fn new(alloc: Global) -> SizeLog
+        ensures rounds { result.rounds ≡ 0 }
+        ensures sizes { result.sizes.items ≡ [] }
+    {
         SizeLog {
             rounds: 0,
             sizes: Vec::new(alloc),
@@ -101,24 +80,32 @@ impl SizeLog {
     }
 
     /// How many rounds there were.
-    pub fn rounds(&self) -> u64 {
+    pub fn rounds(&self) -> u64
+        ensures { result ≡ self.now.rounds }
+    {
         self.rounds
     }
 
     /// The sizes that were kept.
-    pub fn sizes(&self) -> &[RoundSize] {
+    pub fn sizes(&self) -> &[RoundSize]
+        ensures { result.now ≡ self.now.sizes.items }
+    {
         self.sizes.as_slice()
     }
 }
 
 impl Onlooker for SizeLog {
-    fn after_round(&mut self, _alloc: Global, book: &Book) -> Result<(), AllocError> {
+    fn after_round(&mut self, _alloc: Global, book: &Book) -> Result<(), AllocError>
+        ensures rounds { self.new.rounds ≡ min (self.old.rounds + 1) (2 ^ 64 - 1) }
+        ensures sizes { OnOk result (self.new.sizes.items ≡ with_round self.old.sizes.items self.new.rounds book.now.problem) }
+    {
         self.rounds = self.rounds.saturating_add(1);
         let round = self.rounds;
-        if round <= 10 || round % 10 == 0 {
-            let size = size_of(book.problem());
-            self.sizes.push(RoundSize { round, size })?;
+        if round > 10 && round % 10 != 0 {
+            return Ok(());
         }
+        let size = size_of(book.problem());
+        self.sizes.push(RoundSize { round, size })?;
         Ok(())
     }
 }

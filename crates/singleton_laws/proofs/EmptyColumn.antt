@@ -8,7 +8,7 @@ use Rattle.lp_model.specs.Sparse.{dense}
 use Rattle.lp_model.specs.Edits.{with_bounds}
 use Rattle.lp_columns.specs.EmptyColumn.{IsEmptyColumn, resting_place}
 use Rattle.lp_columns.proofs.EmptyColumn.{empty_column}
-use Rattle.postsolve_dual.specs.LiftPair.{undone_pair}
+use Rattle.undo_pairs.specs.LiftPair.{undone_pair}
 use Rattle.pair_laws.proofs.ColumnPairs.{empty_column_pair}
 use Rattle.problem_model.specs.declared.edit.Edit.TheVariants.{SetBounds}
 use Rattle.problem_model.specs.declared.part.Contents.TheVariants as holding

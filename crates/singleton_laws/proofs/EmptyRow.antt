@@ -9,7 +9,7 @@ use Rattle.lp_model.specs.Sparse.{dense}
 use Rattle.lp_model.specs.Edits.{without_row}
 use Rattle.lp_rows.specs.EmptyRow.{IsEmptyRow}
 use Rattle.lp_rows.proofs.EmptyRow.{empty_row}
-use Rattle.postsolve_dual.specs.LiftPair.{undone_pair}
+use Rattle.undo_pairs.specs.LiftPair.{undone_pair}
 use Rattle.pair_laws.proofs.RowPairs.{empty_row_pair}
 use Rattle.problem_model.specs.declared.edit.Edit.TheVariants.{DeleteRow}
 use Rattle.problem_model.specs.declared.part.Contents.TheVariants as holding

@@ -19,7 +19,7 @@ use Rattle.lp_columns.specs.FixedColumn.{IsFixedColumn, undo_fixed_column}
 use Rattle.lp_columns.proofs.FixedColumn.{fixed_column}
 use Rattle.undo_records.specs.declared.undo.Undo.{Undo}
 use Rattle.undo_records.specs.declared.undo.Undo.TheVariants as undo
-use Rattle.postsolve_dual.specs.LiftPair.{undone_pair}
+use Rattle.undo_pairs.specs.LiftPair.{undone_pair}
 use Rattle.pair_laws.proofs.ColumnPairs.{fixed_column_pair}
 use Rattle.problem_model.specs.declared.part.Contents.TheVariants as holding
 use Rattle.problem_model.specs.Flags.{flags_of}

@@ -18,7 +18,7 @@ use Rattle.lp_rows.specs.SingletonRow as rule
 use Rattle.lp_rows.proofs.SingletonRow.{singleton_row}
 use Rattle.undo_records.specs.declared.undo.Undo.{Undo}
 use Rattle.undo_records.specs.declared.undo.Undo.TheVariants as undo
-use Rattle.postsolve_dual.specs.LiftPair.{undone_pair}
+use Rattle.undo_pairs.specs.LiftPair.{undone_pair}
 use Rattle.pair_laws.specs.Records as kept
 use Rattle.pair_laws.proofs.RowPairs.{singleton_row_pair}
 use Rattle.problem_model.specs.declared.edit.Edit.TheVariants.{SetBounds, DeleteRow}

@@ -2,21 +2,20 @@
 use Rattle.std.specs.Prelude.{ℕ, Bool, false, List, [], ◌∷◌, ◌++◌, map, All, unwrap_or}
 use Rattle.rational.specs.Number.{Number, zero_ℚ, ◌*ℚ◌}
 use Rattle.rational.specs.Lowest.{Fits}
-use Rattle.rational.specs.Ends.{less}
-use Rattle.fractions.specs.EndWords.{LessFits}
 use Rattle.lp_model.specs.declared.terms.Term.{Term}
 use Rattle.undo_records.specs.declared.undo.Undo.{Undo}
 use Rattle.undo_records.specs.declared.undo.Undo.TheVariants as undo
 use Rattle.problem_model.specs.declared.edit.Edit.{Edit}
-use Rattle.problem_model.specs.declared.edit.Edit.TheVariants.{SetSides, AddOffset, DeleteColumn}
+use Rattle.problem_model.specs.declared.edit.Edit.TheVariants.{AddOffset, DeleteColumn}
 use Rattle.problem_model.specs.declared.part.Contents.{Contents}
 use Rattle.problem_model.specs.declared.part.Contents.TheVariants.{Gone, Entries, Sides, Column, Bounds}
 use Rattle.problem_model.specs.declared.part.Part.{Part}
 use Rattle.problem_model.specs.declared.part.Part.TheVariants as part
 use Rattle.lp_model.specs.EndTests.{is_fixed}
-use Rattle.problem_model.specs.Problems.{sides_at, bounds_at, cost_at, column_entries}
+use Rattle.problem_model.specs.Problems.{bounds_at, cost_at, column_entries}
 use Rattle.problem_model.specs.Sparse.{Sparse}
 use Rattle.rule_words.specs.Reading.{found_on, no_more}
+use Rattle.rule_words.specs.MovedSides.{sides_less, SidesFit}
 
 -- it reads the column and its bounds
 abbrev pub heads : ℕ → List Part
@@ -38,10 +37,6 @@ enabled p j = holds (found_on (heads j) no_more p)
 abbrev pub value_of : Sparse → ℕ → Number
 value_of p j = unwrap_or (bounds_at p j).lower zero_ℚ
 
--- the sides of a term's row less the term at v
-abbrev pub sides_less : Sparse → Number → Term → Edit
-sides_less p v t = SetSides t.id (less (sides_at p t.id).lower (t.value *ℚ v)) (less (sides_at p t.id).upper (t.value *ℚ v))
-
 -- what is left of the column: its cost goes to the offset
 abbrev pub column_out : ℕ → Number → List Edit
 column_out j k = AddOffset k ∷ DeleteColumn j ∷ []
@@ -54,10 +49,5 @@ abbrev pub record_of : Sparse → ℕ → Undo
 record_of p j = undo.FixedColumn (record { column = j; value = value_of p j; cost = cost_at p j; entries = column_entries p j })
 
 -- the products and differences are computed
-pub record TermComputes (p : Sparse) (v : Number) (t : Term) : Type 0 where
-  pub product : Fits (t.value *ℚ v)
-  pub lower : LessFits (sides_at p t.id).lower (t.value *ℚ v)
-  pub upper : LessFits (sides_at p t.id).upper (t.value *ℚ v)
-
 abbrev pub Computes : Sparse → ℕ → Type 0
-Computes p j = All (TermComputes p (value_of p j)) (column_entries p j) × Fits (cost_at p j *ℚ value_of p j)
+Computes p j = All (SidesFit p (value_of p j)) (column_entries p j) × Fits (cost_at p j *ℚ value_of p j)

@@ -1,7 +1,7 @@
 pub mod EmptyRow
 pub mod SingletonRow
 pub mod FixedColumn
-pub mod RoundBounds
+pub mod RoundedBounds
 pub mod EmptyColumn
 pub mod CrossedBounds
 pub mod CrossedSides

@@ -7,7 +7,7 @@ ghost use Rattle.rule_words.specs.Owed.{RuleDecides, RuleOwes};
 ghost use Rattle.singleton_laws.specs.EmptyRow as empty_row;
 ghost use Rattle.singleton_laws.specs.SingletonRow as singleton_row;
 ghost use Rattle.singleton_laws.specs.FixedColumn as fixed_column;
-ghost use Rattle.singleton_laws.specs.RoundBounds as round_bounds;
+ghost use Rattle.singleton_laws.specs.RoundedBounds as rounded_bounds;
 ghost use Rattle.singleton_laws.specs.EmptyColumn as empty_column;
 ghost use Rattle.singleton_laws.specs.CrossedBounds as crossed_bounds;
 ghost use Rattle.singleton_laws.specs.CrossedSides as crossed_sides;
@@ -29,7 +29,7 @@ pub fn fixed_columns_can_be_put_into_sides()
 
 /// The bounds of each whole column can be rounded inwards.
 pub fn bounds_can_be_rounded()
-    ensures { RuleOwes round_bounds.enabled round_bounds.edits round_bounds.record_of }
+    ensures { RuleOwes rounded_bounds.enabled rounded_bounds.edits rounded_bounds.record_of }
 {}
 
 /// Each column without entries can be fixed where it costs least.

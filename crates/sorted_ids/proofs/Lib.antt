@@ -1,2 +1,3 @@
 mod Flagging
 mod Ordering
+pub mod Passing

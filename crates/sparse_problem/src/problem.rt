@@ -1,6 +1,6 @@
 //! Problems.
 
-ghost use Rattle.std.specs.Prelude.{◌≡◌, ◌<◌, ◌^◌, length, IfNone, IfOk, IfSome, OnErr, OnOk, true, [], ◌∷◌};
+ghost use Rattle.std.specs.Prelude.{◌≡◌, ◌<◌, ◌^◌, length, map, IfNone, IfOk, IfSome, OnErr, OnOk, true, [], ◌∷◌};
 ghost use Rattle.std.specs.List.{All};
 ghost use Rattle.lp_model.specs.Writable.{EntriesAscend};
 ghost use Rattle.problem_model.specs.Edits.{bounds_set, column_deleted, cost_set, offset_set, row_deleted, sides_set};
@@ -17,7 +17,7 @@ use crate::kept_rows::{
     forget_all, forget_rows, kept_of, lose_in_rows, move_in_rows, nothing_kept, put, sums_of_row,
 };
 use crate::row_totals::totals_of_row;
-use entry_lines::Replaced;
+use entry_lines::{Lines, Replaced};
 use fractions::ext::Ext;
 use fractions::frac::Frac;
 use kept_sums::{KeptSums, RowTotals};
@@ -134,42 +134,62 @@ impl Problem {
         self.parts.is_sparse()
     }
 
-    /// The rows, by id, deleted ones among them.
-    pub fn rows(&self) -> &[Line]
-        ensures { result.now ≡ self.now.matrix.rows }
+    /// The rows, to be read by their ids, deleted ones among them.
+    pub fn rows(&self) -> Lines<'_>
+        ensures { result ≡ self.now.matrix.rows }
     {
-        self.parts.rows()
+        Lines::new(self.parts.rows())
     }
 
-    /// The columns, by id, deleted ones among them.
-    pub fn columns(&self) -> &[Line]
-        ensures { result.now ≡ self.now.matrix.columns }
+    /// The columns, to be read by their ids, deleted ones among them.
+    pub fn columns(&self) -> Lines<'_>
+        ensures { result ≡ self.now.matrix.columns }
     {
-        self.parts.columns()
+        Lines::new(self.parts.columns())
     }
 
-    /// The sides of each row.
-    pub fn all_sides(&self) -> &[Sides]
-        ensures value { result.now ≡ self.now.sides }
-        ensures long { length result.now ≡ length self.now.matrix.rows }
+    /// A row, with its entries, those in deleted columns among them.
+    pub fn row_line(&self, i: u32) -> &Line
+        requires { (row_at self.now i).live ≡ true }
+        ensures { result.now ≡ row_at self.now i }
     {
-        self.parts.all_sides()
+        self.rows().live_line(i)
     }
 
-    /// The bounds of each column.
-    pub fn all_bounds(&self) -> &[Bounds]
-        ensures value { result.now ≡ self.now.bounds }
-        ensures long { length result.now ≡ length self.now.matrix.columns }
+    /// A column, with its entries, those in deleted rows among them.
+    pub fn column_line(&self, j: u32) -> &Line
+        requires { (column_at self.now j).live ≡ true }
+        ensures { result.now ≡ column_at self.now j }
     {
-        self.parts.all_bounds()
+        self.columns().live_line(j)
     }
 
-    /// The cost of each column, in the minimizing sense.
-    pub fn costs(&self) -> &[Frac]
-        ensures value { result.now ≡ self.now.costs }
-        ensures long { length result.now ≡ length self.now.matrix.columns }
+    /// How often each row has changed.
+    pub fn row_changes(&self, alloc: Global) -> Result<Vec<u64>, AllocError>
+        ensures { IfOk result (λ numbers. numbers.items ≡ map (λ line. line.changes) self.now.matrix.rows) }
     {
-        self.parts.costs()
+        self.parts.row_changes(alloc)
+    }
+
+    /// How often the sides of each row have changed.
+    pub fn side_changes(&self, alloc: Global) -> Result<Vec<u64>, AllocError>
+        ensures { IfOk result (λ numbers. numbers.items ≡ map (λ sides. sides.changes) self.now.sides) }
+    {
+        self.parts.side_changes(alloc)
+    }
+
+    /// How often each column has changed.
+    pub fn column_changes(&self, alloc: Global) -> Result<Vec<u64>, AllocError>
+        ensures { IfOk result (λ numbers. numbers.items ≡ map (λ line. line.changes) self.now.matrix.columns) }
+    {
+        self.parts.column_changes(alloc)
+    }
+
+    /// How often the bounds of each column have changed.
+    pub fn bound_changes(&self, alloc: Global) -> Result<Vec<u64>, AllocError>
+        ensures { IfOk result (λ numbers. numbers.items ≡ map (λ bounds. bounds.changes) self.now.bounds) }
+    {
+        self.parts.bound_changes(alloc)
     }
 
     /// What was added to the cost, in the minimizing sense.

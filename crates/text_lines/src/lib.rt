@@ -4,6 +4,10 @@
 ghost use Rattle.std.specs.Prelude.{◌≡◌, ◌==◌, ◌<◌, ◌∷◌, ◌++◌, length, position, IfSome, IfNone};
 ghost use Rattle.text_lines.specs.Lines.{IsUnfed, without_return, lines_of, raw_lines_of};
 
+mod fault;
+
+pub use fault::Fault;
+
 /// Where the first line feed stands.
 fn line_feed(text: &[u8]) -> Option<usize>
     ensures { result ≡ position (λ b. b == 10) text.now }

@@ -1,6 +1,6 @@
 //! Books.
 
-ghost use Rattle.std.specs.Prelude.{◌≡◌, ◌≢◌, ℕ, ◌<◌, [], length, true, None, IfOk, IfSome};
+ghost use Rattle.std.specs.Prelude.{◌≡◌, ◌≢◌, ◌<◌, [], length, true, None, IfOk, IfSome};
 ghost use Rattle.std.specs.Bool.{MatchBool};
 ghost use Rattle.rational.specs.Number.{◌-ℚ◌};
 ghost use Rattle.lp_model.specs.declared.program.Sense.TheVariants.{Min};
@@ -23,9 +23,10 @@ ghost use Rattle.problem_model.specs.Writing.{IsWritable};
 ghost use Rattle.txn_book.specs.Applying.{Applies, outcome_of};
 
 use crate::row_lists::RowLists;
-use crate::version::Version;
+use applying::after;
 use fractions::Numbers;
-use instances::{Proposal, Tally, after};
+use instances::{Proposal, Tally, Version};
+use line_groups::Parallels;
 use presolve_model::{Instance, Outcome, Part, Reduction, Refusal, Verdict};
 use sparse_problem::Problem;
 use std::alloc::{AllocError, Global};
@@ -181,13 +182,17 @@ impl Book {
         }
     }
 
-    /// A copy of the present problem, with how often each bound was tightened, and how many instances were applied.
+    /// A copy of the present problem, with the groups of its lines, how often each bound was tightened, and how many instances were applied.
+    ///
+    /// # Errors
+    /// Memory ran out.
     pub fn freeze(&self, alloc: Global) -> Result<Version, AllocError>
         ensures { IfOk result (λ v. v ≡ version_of self.now) }
     {
         let problem = self.problem.copy(alloc)?;
+        let groups = Parallels::of(alloc, &problem)?;
         let tally = self.tally.copy(alloc)?;
-        Ok(Version::new(problem, tally, self.instance_count()))
+        Ok(Version::new(problem, groups, tally, self.instance_count()))
     }
 
     /// Whether so many reductions were applied as are allowed. A verdict always has room.
@@ -255,14 +260,21 @@ impl Book {
         }
     }
 
-    /// Applies an enabled instance to the present problem, as a commit of its reading of that problem would, and notes the parts that
-    /// change. Anything but `Applied` leaves the book as it is.
-    pub fn apply(&mut self, alloc: Global, instance: Instance, changed: &mut Vec<Part>) -> Outcome
+    /// Applies an enabled instance to the present problem, as a commit of its reading of that problem would that was found on this version,
+    /// and notes the parts that change. Anything but `Applied` leaves the book as it is.
+    pub fn apply(
+        &mut self,
+        alloc: Global,
+        version: u64,
+        instance: Instance,
+        changed: &mut Vec<Part>,
+    ) -> Outcome
         requires enabled { enabled_on self.old.problem instance ≡ true }
-        ensures outcome { (version : ℕ) → Allows self.old (proposal_of self.old.problem version instance) result }
-        ensures left { (version : ℕ) → self.new ≡ left_by self.old (proposal_of self.old.problem version instance) result }
+        ensures outcome { Allows self.old (proposal_of self.old.problem version instance) result }
+        ensures left { self.new ≡ left_by self.old (proposal_of self.old.problem version instance) result }
         ensures noted { result ≢ NoMemory → AreNoted self.old.problem self.new.problem changed.old.items changed.new.items }
     {
+        let _ = version;
         if let Some(verdict) = self.verdict {
             return Outcome::Closed { verdict };
         }

@@ -4,7 +4,5 @@
 
 mod book;
 mod row_lists;
-mod version;
 
 pub use book::{Book, Ended};
-pub use version::Version;

@@ -4,7 +4,7 @@ ghost use Rattle.std.specs.Prelude.{◌≡◌, IfSome, IsTrue};
 
 use lp_model::Term;
 use std::alloc::{AllocError, Global};
-use undo_records::{ParallelRows, SharedTerms, TightenBound, Undo};
+use undo_records::{BoundTightening, ParallelRows, SharedTerms, Undo};
 
 /// The list that a record of each row held last. A record of the same row with the same entries gets that list for its own, so that no
 /// record has a list to itself while its row stays as it is.
@@ -95,17 +95,17 @@ impl RowLists {
     }
 
     /// The same record of a tightened bound, with the list of its row.
-    fn with_bound_list(&mut self, tightened: TightenBound) -> TightenBound
+    fn with_bound_list(&mut self, tightened: BoundTightening) -> BoundTightening
         ensures { result ≡ tightened }
     {
-        let TightenBound {
+        let BoundTightening {
             row,
             column,
             side,
             bound,
             entries,
         } = tightened;
-        TightenBound {
+        BoundTightening {
             row,
             column,
             side,
@@ -142,7 +142,9 @@ impl RowLists {
         ensures { result ≡ undo }
     {
         match undo {
-            Undo::TightenBound(tightened) => Undo::TightenBound(self.with_bound_list(tightened)),
+            Undo::BoundTightening(tightened) => Undo::BoundTightening(self.with_bound_list(
+                tightened,
+            )),
             Undo::ParallelRows(parallel) => Undo::ParallelRows(self.with_kept_list(parallel)),
             other => other,
         }

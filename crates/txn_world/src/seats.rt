@@ -4,9 +4,8 @@ ghost use Rattle.std.specs.Prelude.{◌≡◌, [], ◌∷◌, ◌++◌, drop, le
 ghost use Rattle.txn_world.specs.Workers.{IsAbsent, IsAt, Replaces, SameWorkers, worker_in};
 
 use crate::worker::Worker;
-use instances::Proposal;
+use instances::{Proposal, Version};
 use std::alloc::{AllocError, Global};
-use txn_book::Version;
 
 /// The place of the first worker with a number.
 pub fn place_of(workers: &[Worker], number: u32) -> Option<usize>

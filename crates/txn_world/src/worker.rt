@@ -3,11 +3,10 @@
 ghost use Rattle.std.specs.Prelude.{◌≡◌, [], ◌∷◌, ◌++◌, drop, slice_get, Some, None, OnOk, OnErr};
 ghost use Rattle.std.specs.Option.{option_copied};
 
-use instances::Proposal;
+use instances::{Proposal, Version};
 use std::alloc::{AllocError, Global};
 use std::collections::VecDeque;
 use std::marker::Model;
-use txn_book::Version;
 
 /// A worker: the version that it froze last, and the proposals that it has not committed yet, the first one first.
 #[derive(Drop)]

@@ -13,11 +13,11 @@ ghost use Rattle.txn_world.specs.Events.{CommitsFirst, happening_of};
 use crate::event::Event;
 use crate::seats::{add_proposal, drop_first, keep_version, place_of};
 use crate::worker::Worker;
-use instances::Proposal;
+use instances::{Proposal, Version};
 use presolve_model::Outcome;
 use std::alloc::{AllocError, Global};
 use std::marker::Model;
-use txn_book::{Book, Version};
+use txn_book::Book;
 
 /// A book and its workers: what each froze last, and what it proposed and has not committed yet.
 #[derive(Drop)]

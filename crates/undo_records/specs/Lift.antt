@@ -4,19 +4,19 @@ use Rattle.rational.specs.Number.{Number, zero_ℚ}
 use Rattle.lp_model.specs.Vectors.{Vector, vector_of}
 use Rattle.undo_records.specs.declared.label.Label.{Label}
 use Rattle.undo_records.specs.declared.undo.Undo.{Undo}
-use Rattle.undo_records.specs.declared.undo.Undo.TheVariants.{FixedColumn, Doubleton, FreeSingleton, SlackSingleton, ParallelColumns}
+use Rattle.undo_records.specs.declared.undo.Undo.TheVariants.{FixedColumn, DoubletonEquation, FreeColumnSingleton, SlackColumnSingleton, ParallelColumns}
 use Rattle.undo_records.specs.FixedColumn as fixed_column
-use Rattle.undo_records.specs.Doubleton as doubleton
-use Rattle.undo_records.specs.FreeSingleton as free_singleton
-use Rattle.undo_records.specs.SlackSingleton as slack_singleton
+use Rattle.undo_records.specs.DoubletonEquation as doubleton_equation
+use Rattle.undo_records.specs.FreeColumnSingleton as free_column_singleton
+use Rattle.undo_records.specs.SlackColumnSingleton as slack_column_singleton
 use Rattle.undo_records.specs.ParallelColumns as parallel_columns
 
 -- what one undone record makes of the point x
 abbrev pub undone : Undo → Vector → Vector
 undone (FixedColumn r) x = fixed_column.undone r x
-undone (Doubleton r) x = doubleton.undone r x
-undone (FreeSingleton r) x = free_singleton.undone r x
-undone (SlackSingleton r) x = slack_singleton.undone r x
+undone (DoubletonEquation r) x = doubleton_equation.undone r x
+undone (FreeColumnSingleton r) x = free_column_singleton.undone r x
+undone (SlackColumnSingleton r) x = slack_column_singleton.undone r x
 undone (ParallelColumns r) x = parallel_columns.undone r x
 undone other x = x
 

@@ -2,18 +2,18 @@
 use Rattle.std.specs.Prelude.{ℕ, pred, ◌≤◌, List, [], ◌∷◌, length, drop, ⊤}
 use Rattle.lp_model.specs.Vectors.{Vector}
 use Rattle.undo_records.specs.declared.undo.Undo.{Undo}
-use Rattle.undo_records.specs.declared.undo.Undo.TheVariants.{Doubleton, FreeSingleton, SlackSingleton, ParallelColumns}
-use Rattle.undo_records.specs.Doubleton as doubleton
-use Rattle.undo_records.specs.FreeSingleton as free_singleton
-use Rattle.undo_records.specs.SlackSingleton as slack_singleton
+use Rattle.undo_records.specs.declared.undo.Undo.TheVariants.{DoubletonEquation, FreeColumnSingleton, SlackColumnSingleton, ParallelColumns}
+use Rattle.undo_records.specs.DoubletonEquation as doubleton_equation
+use Rattle.undo_records.specs.FreeColumnSingleton as free_column_singleton
+use Rattle.undo_records.specs.SlackColumnSingleton as slack_column_singleton
 use Rattle.undo_records.specs.ParallelColumns as parallel_columns
 use Rattle.undo_records.specs.Lift.{lift}
 
 -- what one undone record computes
 abbrev pub UndoFits : Undo → Vector → Type 0
-UndoFits (Doubleton r) x = doubleton.UndoFits r x
-UndoFits (FreeSingleton r) x = free_singleton.UndoFits r x
-UndoFits (SlackSingleton r) x = slack_singleton.UndoFits r x
+UndoFits (DoubletonEquation r) x = doubleton_equation.UndoFits r x
+UndoFits (FreeColumnSingleton r) x = free_column_singleton.UndoFits r x
+UndoFits (SlackColumnSingleton r) x = slack_column_singleton.UndoFits r x
 UndoFits (ParallelColumns r) x = parallel_columns.UndoFits r x
 UndoFits other x = ⊤
 

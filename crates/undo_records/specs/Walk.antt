@@ -3,22 +3,22 @@ use Rattle.std.specs.Prelude.{◌≡◌, ℕ, Bool, true, false, List, [], ◌�
 use Rattle.lp_model.specs.Flags.{Flags}
 use Rattle.undo_records.specs.declared.label.Label.{Label}
 use Rattle.undo_records.specs.declared.undo.Undo.{Undo}
-use Rattle.undo_records.specs.declared.undo.Undo.TheVariants.{EmptyRow, SingletonRow, FixedColumn, RoundBounds, RedundantRow, RedundantSide, ForcingRow, TightenBound, TightenCoefficient, DualFix, Dominated, Doubleton, FreeSingleton, SlackSingleton, ParallelRows, ParallelColumns, EmptyColumn}
+use Rattle.undo_records.specs.declared.undo.Undo.TheVariants.{EmptyRow, SingletonRow, FixedColumn, RoundedBounds, RedundantRow, RedundantSide, ForcingRow, BoundTightening, CoefficientTightening, DualFixing, DominatedColumn, DoubletonEquation, FreeColumnSingleton, SlackColumnSingleton, ParallelRows, ParallelColumns, EmptyColumn}
 use Rattle.undo_records.specs.Ids.{is_on}
 use Rattle.undo_records.specs.EmptyRow as empty_row
 use Rattle.undo_records.specs.SingletonRow as singleton_row
 use Rattle.undo_records.specs.FixedColumn as fixed_column
-use Rattle.undo_records.specs.RoundBounds as round_bounds
+use Rattle.undo_records.specs.RoundedBounds as rounded_bounds
 use Rattle.undo_records.specs.RedundantRow as redundant_row
 use Rattle.undo_records.specs.RedundantSide as redundant_side
 use Rattle.undo_records.specs.ForcingRow as forcing_row
-use Rattle.undo_records.specs.TightenBound as tighten_bound
-use Rattle.undo_records.specs.TightenCoefficient as tighten_coefficient
-use Rattle.undo_records.specs.DualFix as dual_fix
-use Rattle.undo_records.specs.Dominated as dominated
-use Rattle.undo_records.specs.Doubleton as doubleton
-use Rattle.undo_records.specs.FreeSingleton as free_singleton
-use Rattle.undo_records.specs.SlackSingleton as slack_singleton
+use Rattle.undo_records.specs.BoundTightening as bound_tightening
+use Rattle.undo_records.specs.CoefficientTightening as coefficient_tightening
+use Rattle.undo_records.specs.DualFixing as dual_fixing
+use Rattle.undo_records.specs.DominatedColumn as dominated_column
+use Rattle.undo_records.specs.DoubletonEquation as doubleton_equation
+use Rattle.undo_records.specs.FreeColumnSingleton as free_column_singleton
+use Rattle.undo_records.specs.SlackColumnSingleton as slack_column_singleton
 use Rattle.undo_records.specs.ParallelRows as parallel_rows
 use Rattle.undo_records.specs.ParallelColumns as parallel_columns
 use Rattle.undo_records.specs.EmptyColumn as empty_column
@@ -33,12 +33,12 @@ rows_named (FixedColumn r) = fixed_column.rows_named r
 rows_named (RedundantRow r) = redundant_row.rows_named r
 rows_named (RedundantSide r) = redundant_side.rows_named r
 rows_named (ForcingRow r) = forcing_row.rows_named r
-rows_named (TightenBound r) = tighten_bound.rows_named r
-rows_named (TightenCoefficient r) = tighten_coefficient.rows_named r
-rows_named (Dominated r) = dominated.rows_named r
-rows_named (Doubleton r) = doubleton.rows_named r
-rows_named (FreeSingleton r) = free_singleton.rows_named r
-rows_named (SlackSingleton r) = slack_singleton.rows_named r
+rows_named (BoundTightening r) = bound_tightening.rows_named r
+rows_named (CoefficientTightening r) = coefficient_tightening.rows_named r
+rows_named (DominatedColumn r) = dominated_column.rows_named r
+rows_named (DoubletonEquation r) = doubleton_equation.rows_named r
+rows_named (FreeColumnSingleton r) = free_column_singleton.rows_named r
+rows_named (SlackColumnSingleton r) = slack_column_singleton.rows_named r
 rows_named (ParallelRows r) = parallel_rows.rows_named r
 rows_named other = []
 
@@ -46,15 +46,15 @@ rows_named other = []
 abbrev pub columns_named : Undo → List ℕ
 columns_named (SingletonRow r) = singleton_row.columns_named r
 columns_named (FixedColumn r) = fixed_column.columns_named r
-columns_named (RoundBounds r) = round_bounds.columns_named r
+columns_named (RoundedBounds r) = rounded_bounds.columns_named r
 columns_named (ForcingRow r) = forcing_row.columns_named r
-columns_named (TightenBound r) = tighten_bound.columns_named r
-columns_named (TightenCoefficient r) = tighten_coefficient.columns_named r
-columns_named (DualFix r) = dual_fix.columns_named r
-columns_named (Dominated r) = dominated.columns_named r
-columns_named (Doubleton r) = doubleton.columns_named r
-columns_named (FreeSingleton r) = free_singleton.columns_named r
-columns_named (SlackSingleton r) = slack_singleton.columns_named r
+columns_named (BoundTightening r) = bound_tightening.columns_named r
+columns_named (CoefficientTightening r) = coefficient_tightening.columns_named r
+columns_named (DualFixing r) = dual_fixing.columns_named r
+columns_named (DominatedColumn r) = dominated_column.columns_named r
+columns_named (DoubletonEquation r) = doubleton_equation.columns_named r
+columns_named (FreeColumnSingleton r) = free_column_singleton.columns_named r
+columns_named (SlackColumnSingleton r) = slack_column_singleton.columns_named r
 columns_named (ParallelRows r) = parallel_rows.columns_named r
 columns_named (ParallelColumns r) = parallel_columns.columns_named r
 columns_named (EmptyColumn r) = empty_column.columns_named r
@@ -66,18 +66,18 @@ rows_deleted (EmptyRow r) = empty_row.rows_deleted r
 rows_deleted (SingletonRow r) = singleton_row.rows_deleted r
 rows_deleted (RedundantRow r) = redundant_row.rows_deleted r
 rows_deleted (ForcingRow r) = forcing_row.rows_deleted r
-rows_deleted (Doubleton r) = doubleton.rows_deleted r
-rows_deleted (FreeSingleton r) = free_singleton.rows_deleted r
-rows_deleted (SlackSingleton r) = slack_singleton.rows_deleted r
+rows_deleted (DoubletonEquation r) = doubleton_equation.rows_deleted r
+rows_deleted (FreeColumnSingleton r) = free_column_singleton.rows_deleted r
+rows_deleted (SlackColumnSingleton r) = slack_column_singleton.rows_deleted r
 rows_deleted (ParallelRows r) = parallel_rows.rows_deleted r
 rows_deleted other = []
 
 -- the columns that a reduction deletes
 abbrev pub columns_deleted : Undo → List ℕ
 columns_deleted (FixedColumn r) = fixed_column.columns_deleted r
-columns_deleted (Doubleton r) = doubleton.columns_deleted r
-columns_deleted (FreeSingleton r) = free_singleton.columns_deleted r
-columns_deleted (SlackSingleton r) = slack_singleton.columns_deleted r
+columns_deleted (DoubletonEquation r) = doubleton_equation.columns_deleted r
+columns_deleted (FreeColumnSingleton r) = free_column_singleton.columns_deleted r
+columns_deleted (SlackColumnSingleton r) = slack_column_singleton.columns_deleted r
 columns_deleted (ParallelColumns r) = parallel_columns.columns_deleted r
 columns_deleted other = []
 

@@ -15,8 +15,8 @@ ghost use Rattle.lp_model.specs.Flags.{Flags};
 ghost use Rattle.undo_records.specs.Walk.{NamesLive, Walks, after};
 ghost use Rattle.undo_records.specs.declared.undo.Undo.{Undo};
 ghost use Rattle.undo_records.specs.declared.undo.Undo.TheVariants as kind;
-ghost use Rattle.undo_records.specs.declared.kinds.doubleton.Doubleton.{Doubleton};
-ghost use Rattle.undo_records.specs.declared.kinds.free_singleton.FreeSingleton.{FreeSingleton};
+ghost use Rattle.undo_records.specs.declared.kinds.doubleton_equation.DoubletonEquation.{DoubletonEquation};
+ghost use Rattle.undo_records.specs.declared.kinds.free_column_singleton.FreeColumnSingleton.{FreeColumnSingleton};
 ghost use Rattle.undo_records.specs.declared.kinds.parallel_columns.ParallelColumns.{ParallelColumns};
 
 /// A sound record can be undone.
@@ -33,8 +33,8 @@ pub fn walks_go_on()
 /// What undoing brings back: the equation of two columns holds again, the row of a free column stands at its side, and the merged
 /// number is the kept column's plus the factor times the other one's.
 pub fn undoing_brings_rows_back()
-    ensures doubleton { (r : Doubleton) (x : Vector) → r.value ≢ zero_ℚ → r.kept ≢ r.column → r.value *ℚ undone (kind.Doubleton r) x r.column +ℚ r.kept_value *ℚ undone (kind.Doubleton r) x r.kept ≡ r.equal }
-    ensures free { (r : FreeSingleton) (x : Vector) → r.value ≢ zero_ℚ → r.value *ℚ undone (kind.FreeSingleton r) x r.column +ℚ sparse_total r.entries x ≡ r.at }
+    ensures doubleton { (r : DoubletonEquation) (x : Vector) → r.value ≢ zero_ℚ → r.kept ≢ r.column → r.value *ℚ undone (kind.DoubletonEquation r) x r.column +ℚ r.kept_value *ℚ undone (kind.DoubletonEquation r) x r.kept ≡ r.equal }
+    ensures free { (r : FreeColumnSingleton) (x : Vector) → r.value ≢ zero_ℚ → r.value *ℚ undone (kind.FreeColumnSingleton r) x r.column +ℚ sparse_total r.entries x ≡ r.at }
     ensures merged { (r : ParallelColumns) (x : Vector) → r.column ≢ r.kept → undone (kind.ParallelColumns r) x r.kept +ℚ r.factor *ℚ undone (kind.ParallelColumns r) x r.column ≡ x r.kept }
 {}
 

@@ -17,9 +17,9 @@ mod whole_run;
 
 pub use kept_numbers::{EndApart, KeptEnd, KeptNumber, NumberApart, SharedTerms, TermsApart};
 pub use kinds::{
-    Dominated, Doubleton, DualFix, EmptyColumn, EmptyRow, FixedColumn, ForcingRow, FreeSingleton,
-    ParallelColumns, ParallelRows, RedundantRow, RedundantSide, RoundBounds, SingletonRow,
-    SlackSingleton, TightenBound, TightenCoefficient,
+    BoundTightening, CoefficientTightening, DominatedColumn, DoubletonEquation, DualFixing,
+    EmptyColumn, EmptyRow, FixedColumn, ForcingRow, FreeColumnSingleton, ParallelColumns,
+    ParallelRows, RedundantRow, RedundantSide, RoundedBounds, SingletonRow, SlackColumnSingleton,
 };
 pub use label::{Label, labels_are_named};
 pub use records::Records;

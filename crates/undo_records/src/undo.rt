@@ -7,9 +7,9 @@ ghost use Rattle.undo_records.specs.Sound.{IsSound};
 ghost use Rattle.undo_records.specs.Walk.{columns_named, rows_named};
 
 use crate::kinds::{
-    Dominated, Doubleton, DualFix, EmptyColumn, EmptyRow, FixedColumn, ForcingRow, FreeSingleton,
-    ParallelColumns, ParallelRows, RedundantRow, RedundantSide, RoundBounds, SingletonRow,
-    SlackSingleton, TightenBound, TightenCoefficient,
+    BoundTightening, CoefficientTightening, DominatedColumn, DoubletonEquation, DualFixing,
+    EmptyColumn, EmptyRow, FixedColumn, ForcingRow, FreeColumnSingleton, ParallelColumns,
+    ParallelRows, RedundantRow, RedundantSide, RoundedBounds, SingletonRow, SlackColumnSingleton,
 };
 
 /// What is kept of one reduction, with the values as they were when it was made. Ids are those of the original program, from 0 on;
@@ -23,7 +23,7 @@ pub enum Undo {
     /// K3.
     FixedColumn(FixedColumn),
     /// K4.
-    RoundBounds(RoundBounds),
+    RoundedBounds(RoundedBounds),
     /// K5.
     RedundantRow(RedundantRow),
     /// K6.
@@ -31,19 +31,19 @@ pub enum Undo {
     /// K7.
     ForcingRow(ForcingRow),
     /// K8.
-    TightenBound(TightenBound),
+    BoundTightening(BoundTightening),
     /// K9.
-    TightenCoefficient(TightenCoefficient),
+    CoefficientTightening(CoefficientTightening),
     /// K10.
-    DualFix(DualFix),
+    DualFixing(DualFixing),
     /// K11.
-    Dominated(Dominated),
+    DominatedColumn(DominatedColumn),
     /// K12.
-    Doubleton(Doubleton),
+    DoubletonEquation(DoubletonEquation),
     /// K13.
-    FreeSingleton(FreeSingleton),
+    FreeColumnSingleton(FreeColumnSingleton),
     /// K14.
-    SlackSingleton(SlackSingleton),
+    SlackColumnSingleton(SlackColumnSingleton),
     /// K15.
     ParallelRows(ParallelRows),
     /// K16.
@@ -62,17 +62,17 @@ impl Undo {
             Undo::EmptyRow(record) => record.is_sound(rows),
             Undo::SingletonRow(record) => record.is_sound(rows, columns),
             Undo::FixedColumn(record) => record.is_sound(rows, columns),
-            Undo::RoundBounds(record) => record.is_sound(columns),
+            Undo::RoundedBounds(record) => record.is_sound(columns),
             Undo::RedundantRow(record) => record.is_sound(rows),
             Undo::RedundantSide(record) => record.is_sound(rows),
             Undo::ForcingRow(record) => record.is_sound(rows, columns),
-            Undo::TightenBound(record) => record.is_sound(rows, columns),
-            Undo::TightenCoefficient(record) => record.is_sound(rows, columns),
-            Undo::DualFix(record) => record.is_sound(columns),
-            Undo::Dominated(record) => record.is_sound(rows, columns),
-            Undo::Doubleton(record) => record.is_sound(rows, columns),
-            Undo::FreeSingleton(record) => record.is_sound(rows, columns),
-            Undo::SlackSingleton(record) => record.is_sound(rows, columns),
+            Undo::BoundTightening(record) => record.is_sound(rows, columns),
+            Undo::CoefficientTightening(record) => record.is_sound(rows, columns),
+            Undo::DualFixing(record) => record.is_sound(columns),
+            Undo::DominatedColumn(record) => record.is_sound(rows, columns),
+            Undo::DoubletonEquation(record) => record.is_sound(rows, columns),
+            Undo::FreeColumnSingleton(record) => record.is_sound(rows, columns),
+            Undo::SlackColumnSingleton(record) => record.is_sound(rows, columns),
             Undo::ParallelRows(record) => record.is_sound(rows, columns),
             Undo::ParallelColumns(record) => record.is_sound(columns),
             Undo::EmptyColumn(record) => record.is_sound(columns),
@@ -88,17 +88,17 @@ impl Undo {
             Undo::EmptyRow(record) => record.names_live(rows),
             Undo::SingletonRow(record) => record.names_live(rows, columns),
             Undo::FixedColumn(record) => record.names_live(rows, columns),
-            Undo::RoundBounds(record) => record.names_live(columns),
+            Undo::RoundedBounds(record) => record.names_live(columns),
             Undo::RedundantRow(record) => record.names_live(rows),
             Undo::RedundantSide(record) => record.names_live(rows),
             Undo::ForcingRow(record) => record.names_live(rows, columns),
-            Undo::TightenBound(record) => record.names_live(rows, columns),
-            Undo::TightenCoefficient(record) => record.names_live(rows, columns),
-            Undo::DualFix(record) => record.names_live(columns),
-            Undo::Dominated(record) => record.names_live(rows, columns),
-            Undo::Doubleton(record) => record.names_live(rows, columns),
-            Undo::FreeSingleton(record) => record.names_live(rows, columns),
-            Undo::SlackSingleton(record) => record.names_live(rows, columns),
+            Undo::BoundTightening(record) => record.names_live(rows, columns),
+            Undo::CoefficientTightening(record) => record.names_live(rows, columns),
+            Undo::DualFixing(record) => record.names_live(columns),
+            Undo::DominatedColumn(record) => record.names_live(rows, columns),
+            Undo::DoubletonEquation(record) => record.names_live(rows, columns),
+            Undo::FreeColumnSingleton(record) => record.names_live(rows, columns),
+            Undo::SlackColumnSingleton(record) => record.names_live(rows, columns),
             Undo::ParallelRows(record) => record.names_live(rows, columns),
             Undo::ParallelColumns(record) => record.names_live(columns),
             Undo::EmptyColumn(record) => record.names_live(columns),

@@ -1,7 +1,7 @@
 //! Which rows and columns are live as reductions are applied.
 
 ghost use Rattle.std.specs.Prelude.{◌≡◌, ◌↔◌, false, IfOk, IsTrue, slice_set};
-ghost use Rattle.undo_records.specs.SlackSingleton.{dropped};
+ghost use Rattle.undo_records.specs.SlackColumnSingleton.{dropped};
 ghost use Rattle.undo_records.specs.Walk.{NamesLive, after, all_live, cleared, columns_deleted, lives, rows_deleted};
 
 use crate::label::Label;
@@ -88,9 +88,9 @@ fn delete_rows(undo: &Undo, rows: &mut [bool])
         Undo::SingletonRow(record) => clear(rows, record.row),
         Undo::RedundantRow(record) => clear(rows, record.row),
         Undo::ForcingRow(record) => clear(rows, record.row),
-        Undo::Doubleton(record) => clear(rows, record.row),
-        Undo::FreeSingleton(record) => clear(rows, record.row),
-        Undo::SlackSingleton(record) => delete_dropped(record.fate, record.row, rows),
+        Undo::DoubletonEquation(record) => clear(rows, record.row),
+        Undo::FreeColumnSingleton(record) => clear(rows, record.row),
+        Undo::SlackColumnSingleton(record) => delete_dropped(record.fate, record.row, rows),
         Undo::ParallelRows(record) => clear(rows, record.row),
         _ => {}
     }
@@ -102,9 +102,9 @@ fn delete_columns(undo: &Undo, columns: &mut [bool])
 {
     match undo {
         Undo::FixedColumn(record) => clear(columns, record.column),
-        Undo::Doubleton(record) => clear(columns, record.column),
-        Undo::FreeSingleton(record) => clear(columns, record.column),
-        Undo::SlackSingleton(record) => clear(columns, record.column),
+        Undo::DoubletonEquation(record) => clear(columns, record.column),
+        Undo::FreeColumnSingleton(record) => clear(columns, record.column),
+        Undo::SlackColumnSingleton(record) => clear(columns, record.column),
         Undo::ParallelColumns(record) => clear(columns, record.column),
         _ => {}
     }

@@ -1,5 +1,6 @@
 //! The plain program on a small model, with values worked by hand.
 
+use fractions::Numbers;
 use fractions::ext::Ext;
 use fractions::frac::Frac;
 use fractions::whole::Whole;
@@ -152,6 +153,35 @@ fn compares_costs(rt: HostRuntime) {
     ] {
         assert!(rt; no_worse(sense, &number(a), &number(b)) == no_worse_than);
     }
+}
+
+/// The upper side of the row C1 from 3 up, the rows in which the one column stands, and whether the program can be written and its entries
+/// ascend.
+const ENTRIES: [(i32, &[u32], bool, bool); 6] = [
+    (3, &[0, 1], true, true),
+    (2, &[], false, true),
+    (4, &[1, 0], true, false),
+    (4, &[1, 1], true, false),
+    (4, &[2], true, false),
+    (2, &[2], false, false),
+];
+
+#[test]
+fn tells_whether_programs_can_be_written(rt: HostRuntime) -> Result<(), Fail> {
+    let alloc = rt.alloc();
+    for (upper, entries, writable, ascends) in ENTRIES {
+        let mut rows = Vec::new(alloc);
+        rows.push(row(&rt, alloc, b"C1", 3, at(upper))?)?;
+        rows.push(row(&rt, alloc, b"C2", 5, Ext::none())?)?;
+        let mut columns = Vec::new(alloc);
+        columns.push(column(&rt, alloc, b"x", 1, 0, entries)?)?;
+        let cost = name(&rt, alloc, b"COST")?;
+        assert!(rt; names_differ(&cost, rows.as_slice(), columns.as_slice()));
+        let program = Program::new(Sense::Min, cost, number(0), rows, columns);
+        assert!(rt; program.is_writable(Numbers::Decimal) == writable);
+        assert!(rt; program.has_ascending_entries() == ascends);
+    }
+    Ok(())
 }
 
 /// Names of the rows and of the columns of a program with the objective COST, and whether they differ.

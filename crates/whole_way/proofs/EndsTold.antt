@@ -36,7 +36,7 @@ open_alike numbers program reduced told w j side on =
     ap (λ (k : ℕ). open_by told.undos k side) (ap (λ (ids : List ℕ). slice_index ids (rank lines j)) (same_ids 0 told.columns lines w.columns) ∙ rank-id lines j on)
 
 pub ends_told : EndsAreToldOfTexts
-ends_told options program read told ended q x is =
+ends_told options workers program read told ended q x is =
     let w = x.walked in
     let p : Sparse = replay w.start w.history in
     let old : Open = open_by told.undos in

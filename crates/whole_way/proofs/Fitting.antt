@@ -11,7 +11,7 @@ use Rattle.whole_way.proofs.Numbers.{with_fractions}
 use Rattle.whole_way.proofs.Naming.{names_match, plain_kept}
 
 pub texts_fit : TextsComeBack
-texts_fit options program reduced told ended c h r =
+texts_fit options workers program reduced told ended c h r =
     let plain : Plain reduced = plain_kept program reduced told c.names h in
     let writable : Writable Fractions reduced = with_fractions options.numbers reduced c.writable in
     let sound : AreSound told = walked_sound options.numbers program reduced told c.walked in

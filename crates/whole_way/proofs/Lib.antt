@@ -1,3 +1,7 @@
+pub mod Placing
+pub mod Listing
+pub mod Back
+pub mod PairsBack
 pub mod Numbers
 pub mod Naming
 pub mod Words

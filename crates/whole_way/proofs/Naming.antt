@@ -1,17 +1,15 @@
 -- The names of what is left are among those of the whole program.
-use Rattle.std.proofs.Common.{◌≡◌, ℕ, Bool, true, false, cond, List, [], ◌∷◌, sym, refl, ap, ◌∙◌, subst}
+use Rattle.std.proofs.Common.{◌≡◌, ℕ, Bool, true, false, cond, List, [], ◌∷◌, sym, subst}
 use Rattle.std.specs.List.{All}
 use Rattle.std.proofs.lemmas.List.Elements.{All-nil, All-cons, All-head, All-tail}
 use Rattle.lp_model.specs.ProgramData.{ProgramData}
 use Rattle.undo_records.specs.declared.label.Label.{Label}
+use Rattle.undo_records.specs.Named.{live_names}
 use Rattle.undo_records.specs.Postsolve.{Postsolve}
 use Rattle.mps_round_trip.specs.Plain.{CanNameRow, HasNoReturn, Plain}
 use Rattle.record_reader.specs.Matching as matching
 use Rattle.presolve_model.specs.Telling.{names_in}
-use Rattle.presolve_model.specs.Conclusions.{CarriesNames, live_names}
-
-abbrev Names : Type 0
-Names = List (List ℕ)
+use Rattle.presolve_model.specs.Conclusions.{CarriesNames}
 
 -- what holds of all names holds of those that are live
 live_all : (P : List ℕ → Type 0) (labels : List Label) → All P (names_in labels) → All P (live_names labels)
@@ -29,17 +27,8 @@ plain_kept program reduced told carried h = record {
   columns = subst (All HasNoReturn) (sym carried.live_columns) (live_all HasNoReturn told.columns (subst (All HasNoReturn) (sym carried.columns) h.columns));
 }
 
--- the reader's word for the live names says the same
-same_live : (labels : List Label) → matching.live_names labels ≡ live_names labels
-same_live [] = refl
-same_live (l ∷ ls) = by l.live (same_live ls)
-  where
-    by : (b : Bool) → matching.live_names ls ≡ live_names ls → cond b (l.name ∷ matching.live_names ls) (matching.live_names ls) ≡ cond b (l.name ∷ live_names ls) (live_names ls)
-    by true e = ap (λ (ns : Names). l.name ∷ ns) e
-    by false e = e
-
 pub names_match : (program reduced : ProgramData) (told : Postsolve) → CarriesNames program reduced told → matching.Matches told reduced
 names_match program reduced told carried = record {
-  columns = same_live told.columns ∙ sym carried.live_columns;
-  rows = same_live told.rows ∙ sym carried.live_rows;
+  columns = sym carried.live_columns;
+  rows = sym carried.live_rows;
 }

@@ -1,5 +1,5 @@
 -- The whole way.
-use Rattle.std.proofs.Common.{◌≡◌, ℕ, true, List, [], ◌∷◌, ◌++◌, length, append-nil, Option, Some, None, IfSome, sym, refl, ap, ap₂, ◌∙◌, subst}
+use Rattle.std.proofs.Common.{◌≡◌, ℕ, List, [], length, append-nil, Option, Some, None, IfSome, sym, ap, ap₂, ◌∙◌, subst}
 use Rattle.std.specs.List.{All}
 use Rattle.std.proofs.lemmas.List.{length-map}
 use Rattle.std.proofs.lemmas.List.Elements.{All-tail}
@@ -10,8 +10,8 @@ use Rattle.lp_model.specs.declared.program.ColumnDef.{ColumnDef}
 use Rattle.lp_model.specs.declared.program.RowDef.{RowDef}
 use Rattle.lp_model.specs.Meaning.{meaning}
 use Rattle.lp_model.specs.Name.{IsName}
-use Rattle.lp_model.specs.Names.{Differ, names_of_columns, names_of_rows, WellNamed}
-use Rattle.lp_model.specs.Optimality.{Continuous, Meets}
+use Rattle.lp_model.specs.Names.{names_of_columns, names_of_rows, WellNamed}
+use Rattle.lp_model.specs.Optimality.{Meets}
 use Rattle.lp_model.proofs.Differing.{differ_tail}
 use Rattle.lp_model.specs.ProgramData.{ProgramData}
 use Rattle.lp_model.specs.Vectors.{vector_of}
@@ -27,9 +27,10 @@ use Rattle.presolve_model.specs.Telling.{names_in}
 use Rattle.presolve_model.specs.Conclusions.{Concluded}
 use Rattle.presolve_model.specs.declared.conclusion.End.{End}
 use Rattle.presolve_model.specs.declared.conclusion.Options.{Options}
-use Rattle.way_back.specs.ComingBack.{IsBest}
-use Rattle.way_back.proofs.Back.{best_back, point_back}
-use Rattle.way_back.proofs.PairsBack.{pairs_back}
+use Rattle.presolve_model.specs.Workers.{Workers}
+use Rattle.whole_way.specs.ComingBack.{IsBest}
+use Rattle.whole_way.proofs.Back.{best_back, point_back}
+use Rattle.whole_way.proofs.PairsBack.{pairs_back}
 use Rattle.whole_way.specs.Texts.{IsProgramText, IsRecordText, IsSolutionText, IsUnmarked, PostsolveWrites, PostsolveWritesPair, PresolveWrites, TextsFit}
 use Rattle.whole_way.specs.Laws.{BestComesBackWhole, ComesBackWhole, PairsComeBackWhole}
 use Rattle.whole_way.proofs.Words.{plain_names}
@@ -44,17 +45,17 @@ pub record PairsAgain : Type 0 where
       → pair_duals rows (pair_text columns rows point duals) ≡ duals
 
 -- presolve concluded with what its texts are read as
-concluded_with : (options : Options) (program read : ProgramData) (told : Postsolve) (out undoing : List ℕ)
-    → (w : PresolveWrites options program out undoing) → IsProgramText out read → IsRecordText undoing told → Concluded options program read told w.ended
-concluded_with options program read told out undoing w p r =
+concluded_with : (options : Options) (workers : Workers) (program read : ProgramData) (told : Postsolve) (out undoing : List ℕ)
+    → (w : PresolveWrites options workers program out undoing) → IsProgramText out read → IsRecordText undoing told → Concluded options workers program read told w.ended
+concluded_with options workers program read told out undoing w p r =
     let fit : TextsFit w.reduced w.told out undoing =
     subst (λ (text : List ℕ). TextsFit w.reduced w.told text undoing) (sym w.program_text)
-    (subst (λ (text : List ℕ). TextsFit w.reduced w.told (mps_text w.reduced) text) (sym w.records_text) (texts_fit options program w.reduced w.told w.ended w.concluded w.plain w.range)) in
-    subst (λ (q : ProgramData). Concluded options program q told w.ended) (sym fit.program_text.same ∙ p.same)
-    (subst (λ (t : Postsolve). Concluded options program w.reduced t w.ended) (sym fit.records_text.same ∙ r.same) w.concluded)
+    (subst (λ (text : List ℕ). TextsFit w.reduced w.told (mps_text w.reduced) text) (sym w.records_text) (texts_fit options workers program w.reduced w.told w.ended w.concluded w.plain w.range)) in
+    subst (λ (q : ProgramData). Concluded options workers program q told w.ended) (sym fit.program_text.same ∙ p.same)
+    (subst (λ (t : Postsolve). Concluded options workers program w.reduced t w.ended) (sym fit.records_text.same ∙ r.same) w.concluded)
 
 -- a number for each of a program's columns, and for each of its rows
-columns_numbered : (program : ProgramData) (lifted : List Number) → WellNamed program.objective program.rows program.columns → Plain program → All IsUnmarked (names_of_columns program.columns)
+pub columns_numbered : (program : ProgramData) (lifted : List Number) → WellNamed program.objective program.rows program.columns → Plain program → All IsUnmarked (names_of_columns program.columns)
     → length lifted ≡ length program.columns → All Fits lifted → AreNumbered (names_of_columns program.columns) lifted
 columns_numbered program lifted named plain unmarked size fits =
     let own : List (List ℕ) = names_of_columns program.columns in
@@ -65,7 +66,7 @@ columns_numbered program lifted named plain unmarked size fits =
       fits = fits;
     }
 
-rows_numbered : (program : ProgramData) (prices : List Number) → WellNamed program.objective program.rows program.columns → Plain program → All IsUnmarked (names_of_rows program.rows)
+pub rows_numbered : (program : ProgramData) (prices : List Number) → WellNamed program.objective program.rows program.columns → Plain program → All IsUnmarked (names_of_rows program.rows)
     → length prices ≡ length program.rows → All Fits prices → AreNumbered (names_of_rows program.rows) prices
 rows_numbered program prices named plain unmarked size fits =
     let own : List (List ℕ) = names_of_rows program.rows in
@@ -79,7 +80,7 @@ rows_numbered program prices named plain unmarked size fits =
     }
 
 -- what is written by the names of a program's columns and rows is read again
-read_again : PairsAgain → (program : ProgramData) (columns rows : List (List ℕ)) (lifted : List Number) (prices : Option (List Number)) (result : List ℕ)
+pub read_again : PairsAgain → (program : ProgramData) (columns rows : List (List ℕ)) (lifted : List Number) (prices : Option (List Number)) (result : List ℕ)
     → AreNumbered (names_of_columns program.columns) lifted → IfSome prices (λ d. AreNumbered (names_of_rows program.rows) d)
     → columns ≡ names_of_columns program.columns → rows ≡ names_of_rows program.rows
     → result ≡ pair_text columns rows lifted prices → IsSolutionText program result lifted prices
@@ -93,13 +94,13 @@ read_again again program columns rows lifted prices result numbered priced same 
       same_duals = ap (pair_duals own_rows) written ∙ again.duals own own_rows lifted prices numbered priced;
     }
 
-same_sense : (options : Options) (program read : ProgramData) (told : Postsolve) (ended : End) → Concluded options program read told ended → read.sense ≡ program.sense
-same_sense options program read told ended c = ap (λ (p : ProgramData). p.sense) c.walked.written
+pub same_sense : (options : Options) (workers : Workers) (program read : ProgramData) (told : Postsolve) (ended : End) → Concluded options workers program read told ended → read.sense ≡ program.sense
+same_sense options workers program read told ended c = ap (λ (p : ProgramData). p.sense) c.walked.written
 
-module _ (again : PairsAgain) (options : Options) (program read : ProgramData) (told : Postsolve) (point : List Number) (out undoing result : List ℕ)
-    (w : PresolveWrites options program out undoing) (p : IsProgramText out read) (r : IsRecordText undoing told) (u : PostsolveWrites told point result) where
-  c : Concluded options program read told w.ended
-  c = concluded_with options program read told out undoing w p r
+module _ (again : PairsAgain) (options : Options) (workers : Workers) (program read : ProgramData) (told : Postsolve) (point : List Number) (out undoing result : List ℕ)
+    (w : PresolveWrites options workers program out undoing) (p : IsProgramText out read) (r : IsRecordText undoing told) (u : PostsolveWrites told point result) where
+  c : Concluded options workers program read told w.ended
+  c = concluded_with options workers program read told out undoing w p r
 
   result_read : length u.lifted ≡ length program.columns → IsSolutionText program result u.lifted None
   result_read size = read_again again program (names_in told.columns) (names_in told.rows) u.lifted None result
@@ -107,23 +108,23 @@ module _ (again : PairsAgain) (options : Options) (program read : ProgramData) (
       (u.text ∙ sym (append-nil (solution_text (names_in told.columns) u.lifted)))
 
 pub whole : PairsAgain → ComesBackWhole
-whole again options program read told point out undoing solution result w p r s f u =
-    let back = point_back options program read told w.ended point u.lifted (c again options program read told point out undoing result w p r u) f u.undone in
-    (u.lifted, result_read again options program read told point out undoing result w p r u back.size, back)
+whole again options workers program read told point out undoing solution result w p r s f u =
+    let back = point_back options workers program read told w.ended point u.lifted (c again options workers program read told point out undoing result w p r u) f u.undone in
+    (u.lifted, result_read again options workers program read told point out undoing result w p r u back.size, back)
 
 pub best_whole : PairsAgain → BestComesBackWhole
-best_whole again options program read told point out undoing solution result w p r s b u =
-    let held = c again options program read told point out undoing result w p r u in
-    let back = point_back options program read told w.ended point u.lifted held b.feasible u.undone in
-    let best = subst (λ (sense : Sense). IsBest sense (meaning read) (vector_of point)) (same_sense options program read told w.ended held) b in
-    (u.lifted, result_read again options program read told point out undoing result w p r u back.size, best_back options program read told w.ended point u.lifted held best u.undone)
+best_whole again options workers program read told point out undoing solution result w p r s b u =
+    let held = c again options workers program read told point out undoing result w p r u in
+    let back = point_back options workers program read told w.ended point u.lifted held b.feasible u.undone in
+    let best = subst (λ (sense : Sense). IsBest sense (meaning read) (vector_of point)) (same_sense options workers program read told w.ended held) b in
+    (u.lifted, result_read again options workers program read told point out undoing result w p r u back.size, best_back options workers program read told w.ended point u.lifted held best u.undone)
 
 pub pairs_whole : PairsAgain → PairsComeBackWhole
-pairs_whole again options program read told point duals out undoing solution result w taken unmarked p r s m u =
-    let held : Concluded options program read told w.ended = concluded_with options program read told out undoing w p r in
+pairs_whole again options workers program read told point duals out undoing solution result w taken unmarked p r s m u =
+    let held : Concluded options workers program read told w.ended = concluded_with options workers program read told out undoing w p r in
     let met : Meets program.sense (meaning read) (vector_of point) (vector_of duals) =
-    subst (λ (sense : Sense). Meets sense (meaning read) (vector_of point) (vector_of duals)) (same_sense options program read told w.ended held) m in
-    let back = pairs_back options program read told w.ended point duals u.lifted u.prices held (taken (sym held.dual ∙ u.asked)) met u.undone in (
+    subst (λ (sense : Sense). Meets sense (meaning read) (vector_of point) (vector_of duals)) (same_sense options workers program read told w.ended held) m in
+    let back = pairs_back options workers program read told w.ended point duals u.lifted u.prices held (taken (sym held.dual ∙ u.asked)) met u.undone in (
       u.lifted,
       u.prices,
       read_again again program (names_in told.columns) (names_in told.rows) u.lifted (Some u.prices) result

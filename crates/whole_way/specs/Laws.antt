@@ -21,13 +21,14 @@ use Rattle.presolve_model.specs.Conclusions.{Concluded, TellsEndBy}
 use Rattle.presolve_model.specs.declared.conclusion.End.{End}
 use Rattle.presolve_model.specs.declared.conclusion.Options.{Options}
 use Rattle.presolve_model.specs.Tallies.{Open, open_by}
-use Rattle.way_back.specs.ComingBack.{ComesBack, IsBest, PairComesBack}
+use Rattle.presolve_model.specs.Workers.{Workers}
+use Rattle.whole_way.specs.ComingBack.{ComesBack, IsBest, PairComesBack}
 use Rattle.whole_way.specs.Texts.{IsProgramText, IsRecordText, IsSolutionText, IsUnmarked, PostsolveWrites, PostsolveWritesPair, PresolveWrites, TextsFit}
 
 -- what presolve writes of its reduced program and its records is read as these
 abbrev pub TextsComeBack : Type 0
-TextsComeBack = (options : Options) (program reduced : ProgramData) (told : Postsolve) (ended : End)
-    → Concluded options program reduced told ended
+TextsComeBack = (options : Options) (workers : Workers) (program reduced : ProgramData) (told : Postsolve) (ended : End)
+    → Concluded options workers program reduced told ended
     → Plain program
     → HasRange told
     → TextsFit reduced told (mps_text reduced) (record_text told)
@@ -44,8 +45,8 @@ open_after told j side = open_by told.undos (original_column told j) side
 -- added to the cost there, and the records count for its columns: at a fixpoint no open reduction can be applied there either, and as many are
 -- enabled.
 abbrev pub EndsAreToldOfTexts : Type 0
-EndsAreToldOfTexts = (options : Options) (program read : ProgramData) (told : Postsolve) (ended : End) (p : Sparse)
-    → Concluded options program read told ended
+EndsAreToldOfTexts = (options : Options) (workers : Workers) (program read : ProgramData) (told : Postsolve) (ended : End) (p : Sparse)
+    → Concluded options workers program read told ended
     → IsProblemOf read p
     → TellsEndBy ended options (length told.undos) (open_after told) (offset_set p (signed told.sense told.offset))
 
@@ -54,8 +55,8 @@ EndsAreToldOfTexts = (options : Options) (program read : ProgramData) (told : Po
 -- the records make of that point. Then `result` is read as a point that is feasible for the program that presolve began with, and costs
 -- the offset more.
 abbrev pub ComesBackWhole : Type 0
-ComesBackWhole = (options : Options) (program read : ProgramData) (told : Postsolve) (point : List Number) (out undoing solution result : List ℕ)
-    → PresolveWrites options program out undoing
+ComesBackWhole = (options : Options) (workers : Workers) (program read : ProgramData) (told : Postsolve) (point : List Number) (out undoing solution result : List ℕ)
+    → PresolveWrites options workers program out undoing
     → IsProgramText out read
     → IsRecordText undoing told
     → IsSolutionText read solution point None
@@ -65,8 +66,8 @@ ComesBackWhole = (options : Options) (program read : ProgramData) (told : Postso
 
 -- the same of a best point: if the solution is a best point of the reduced program, the result is one of the program
 abbrev pub BestComesBackWhole : Type 0
-BestComesBackWhole = (options : Options) (program read : ProgramData) (told : Postsolve) (point : List Number) (out undoing solution result : List ℕ)
-    → PresolveWrites options program out undoing
+BestComesBackWhole = (options : Options) (workers : Workers) (program read : ProgramData) (told : Postsolve) (point : List Number) (out undoing solution result : List ℕ)
+    → PresolveWrites options workers program out undoing
     → IsProgramText out read
     → IsRecordText undoing told
     → IsSolutionText read solution point None
@@ -78,8 +79,8 @@ BestComesBackWhole = (options : Options) (program read : ProgramData) (told : Po
 -- can be written in a solution's text too. If what `solution` gives meets the optimality conditions of the program that was read, then what
 -- `result` gives meets those of the program that presolve began with; and so it proves that no feasible point costs better.
 abbrev pub PairsComeBackWhole : Type 0
-PairsComeBackWhole = (options : Options) (program read : ProgramData) (told : Postsolve) (point duals : List Number) (out undoing solution result : List ℕ)
-    → PresolveWrites options program out undoing
+PairsComeBackWhole = (options : Options) (workers : Workers) (program read : ProgramData) (told : Postsolve) (point duals : List Number) (out undoing solution result : List ℕ)
+    → PresolveWrites options workers program out undoing
     → (options.dual ≡ true → Continuous (meaning program))
     → All IsUnmarked (names_of_rows program.rows)
     → IsProgramText out read

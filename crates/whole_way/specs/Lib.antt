@@ -1,2 +1,4 @@
+pub mod ComingBack
+pub mod WayBack
 pub mod Texts
 pub mod Laws

@@ -21,7 +21,8 @@ use Rattle.presolve_model.specs.Telling.{names_in}
 use Rattle.presolve_model.specs.Conclusions.{Concluded}
 use Rattle.presolve_model.specs.declared.conclusion.End.{End}
 use Rattle.presolve_model.specs.declared.conclusion.Options.{Options}
-use Rattle.way_back.specs.ComingBack.{IsPairUndone, IsUndone}
+use Rattle.presolve_model.specs.Workers.{Workers}
+use Rattle.whole_way.specs.ComingBack.{IsPairUndone, IsUndone}
 
 -- ---- what texts give
 -- a text in free format, read with fractions, has no fault, and is that of this program
@@ -48,11 +49,11 @@ IsUnmarked name = (name ≢ codes "=obj=") × (name ≢ codes "=duals=")
 
 -- Presolve concluded with a reduced program and records, and wrote their texts, `out` and `undoing`. The program's names can be written,
 -- and its columns' names also in a solution's text; the records' ids and numbers have room, as all values of their type do.
-pub record PresolveWrites (options : Options) (program : ProgramData) (out undoing : List ℕ) : Type 0 where
+pub record PresolveWrites (options : Options) (workers : Workers) (program : ProgramData) (out undoing : List ℕ) : Type 0 where
   pub reduced : ProgramData
   pub told : Postsolve
   pub ended : End
-  pub concluded : Concluded options program reduced told ended
+  pub concluded : Concluded options workers program reduced told ended
   pub plain : Plain program
   pub unmarked : All IsUnmarked (names_of_columns program.columns)
   pub range : HasRange told

@@ -8,7 +8,7 @@ use Rattle.undo_records.specs.declared.side.Side.TheVariants.{Lower, Upper}
 use Rattle.problem_model.specs.Problems.{column_at, row_entries}
 use Rattle.problem_model.specs.Sparse.{Sparse}
 use Rattle.problem_laws.proofs.Entries.{row_entries-live}
-use Rattle.activity_laws.specs.TightenedBound.{bounds_of}
+use Rattle.activity_laws.specs.BoundTightening.{bounds_of}
 use Rattle.written_ids.specs.NewIds.{term_at, terms_at}
 use Rattle.written_ids.proofs.Lists.{all_flat, all_two, flat_across, map_across}
 

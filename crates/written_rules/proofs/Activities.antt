@@ -31,10 +31,10 @@ use Rattle.activity_laws.specs.Rows.{RowTest, all_in_order, has_some, heads, kee
 use Rattle.activity_laws.specs.RedundantRow as redundant_row
 use Rattle.activity_laws.specs.RedundantSide as redundant_side
 use Rattle.activity_laws.specs.ForcingRow as forcing_row
-use Rattle.activity_laws.specs.OutOfReach as out_of_reach
-use Rattle.activity_laws.specs.TightenedBound as tightened
+use Rattle.activity_laws.specs.InfeasibleRow as infeasible_row
+use Rattle.activity_laws.specs.BoundTightening as tightened
 use Rattle.activity_laws.proofs.Rows.{said, tested}
-use Rattle.activity_laws.proofs.TightenedBound.{said_at}
+use Rattle.activity_laws.proofs.BoundTightening.{said_at}
 use Rattle.written_ids.specs.NewIds.{Ids, term_at, terms_at}
 use Rattle.written_ids.specs.Standing.{AreOneToOne, LinesStand}
 use Rattle.written_ids.proofs.Lists.{all_one, all_two, map_across}
@@ -88,8 +88,8 @@ module _ (n : Ids) where
   pub forcing_row_alike : (cs : List Contents) → forcing_row.holds (map (contents_at n) cs) ≡ forcing_row.holds cs
   forcing_row_alike cs = on_row_alike n forcing_row.is_forcing_row (λ l u ss. some_and (λ least greatest. forcing_row.is_reached l greatest || forcing_row.is_reached u least) ss) cs
 
-  pub out_of_reach_alike : (cs : List Contents) → out_of_reach.holds (map (contents_at n) cs) ≡ out_of_reach.holds cs
-  out_of_reach_alike cs = on_row_alike n out_of_reach.is_out_of_reach (λ l u ss. on_activities_by n.column (λ least greatest. is_crossed least u || is_crossed l greatest) ss) cs
+  pub infeasible_row_alike : (cs : List Contents) → infeasible_row.holds (map (contents_at n) cs) ≡ infeasible_row.holds cs
+  infeasible_row_alike cs = on_row_alike n infeasible_row.is_infeasible_row (λ l u ss. on_activities_by n.column (λ least greatest. is_crossed least u || is_crossed l greatest) ss) cs
 
 -- ---- the condition of K8 looks at one id: that of its column
 module _ (f : ℕ → ℕ) (j : ℕ) (ss : List Span) (h : All (NamesAlike f j) ss) where
@@ -119,7 +119,7 @@ module _ (f : ℕ → ℕ) (j : ℕ) (ss : List Span) (h : All (NamesAlike f j) 
   tightened_at_by side l u None = refl
   tightened_at_by side l u (Some s) = ap (tightened.is_better side (tightened.old_bound side s.lower s.upper)) (implied_by side s.value l u)
 
-  tightened_by : (side : Side) (l u : Option Number) → tightened.is_tightened_bound (f j) side l u (spans_by f ss) ≡ tightened.is_tightened_bound j side l u ss
+  tightened_by : (side : Side) (l u : Option Number) → tightened.is_bound_tightening (f j) side l u (spans_by f ss) ≡ tightened.is_bound_tightening j side l u ss
   tightened_by side l u =
       ap₂ (λ (a b : Bool). a && b) has_two_by
       (ap (tightened.is_tightened_at side (f j) l u (spans_by f ss)) (entry_by ss h) ∙ tightened_at_by side l u (tightened.entry_at j ss))
@@ -132,8 +132,8 @@ spans_alike n p o i j on = let ts : List Term = row_entries p i in
 pub tightened_alike : (n : Ids) (p : Sparse) → AreOneToOne n p → (i j : ℕ) (side : Side) → (column_at p j).live ≡ true
     → tightened.holds (n.column j) side (map (contents_at n) (row_found p i)) ≡ tightened.holds j side (row_found p i)
 tightened_alike n p o i j side on =
-    let new : RowTest = tightened.is_tightened_bound (n.column j) side in
-    let old : RowTest = tightened.is_tightened_bound j side in
+    let new : RowTest = tightened.is_bound_tightening (n.column j) side in
+    let old : RowTest = tightened.is_bound_tightening j side in
     let l : Option Number = (sides_at p i).lower in
     let u : Option Number = (sides_at p i).upper in
     let ss : List Span = spans_of p i in
@@ -151,7 +151,7 @@ pub bound_there : (p : Sparse) (i j : ℕ) → (row_at p i).live ≡ true → (c
 bound_there p i j h g = All-append (IsThere p) (heads i) (Bounds j ∷ []) (all_two (IsThere p) (Row i) (Sides i) h h) (all_one (IsThere p) (Bounds j) g)
 
 pub tightened_there : (p : Sparse) (i j : ℕ) (side : Side) → tightened.enabled p i j side ≡ true → AreThere p (heads i ++ Bounds j ∷ [])
-tightened_there p i j side e = bound_there p i j (said (tightened.is_tightened_bound j side) p i e).live (tightened_live p i j side e)
+tightened_there p i j side e = bound_there p i j (said (tightened.is_bound_tightening j side) p i e).live (tightened_live p i j side e)
 
 -- ---- the edits
 module _ (n : Ids) (p q : Sparse) (s : LinesStand n p q) (i : ℕ) where

@@ -137,8 +137,8 @@ module _ (n : Ids) (p : Sparse) (o : AreOneToOne n p) (i j k : ℕ) (first : (co
       λ t. not (same t) && (share_at t && (is_none a.upper && (is_apart b.lower b.upper && (is_place b.lower b.whole
       && (le_ℚ (cost_at p j) (cost_at p k) && ((not a.whole || b.whole) && (are_uncrossed_at n ss t && over_at ss t)))))))
 
-  pub dominated_alike : (row_at p i).live ≡ true → holds (n.column j) (n.column k) (map (contents_at n) (found_on (heads i j k) more p)) ≡ holds j k (found_on (heads i j k) more p)
-  dominated_alike h =
+  pub dominated_column_alike : (row_at p i).live ≡ true → holds (n.column j) (n.column k) (map (contents_at n) (found_on (heads i j k) more p)) ≡ holds j k (found_on (heads i j k) more p)
+  dominated_column_alike h =
       (λ t. holds (n.column j) (n.column k) (map (contents_at n) (found (h t) (first t) (second t))))
       ∙ all_live
       ∙ sym (λ t. holds j k (found (h t) (first t) (second t)))

@@ -23,7 +23,8 @@ use Rattle.problem_model.specs.Problems.{bounds_at, column_at, column_entries, c
 use Rattle.problem_model.specs.Sparse.{Sparse}
 use Rattle.problem_laws.proofs.Entries.{column_entries-live, row_entries-live}
 use Rattle.rule_words.specs.Reading.{found_on, no_more}
-use Rattle.aggregation_laws.specs.DoubletonEquation.{Computes, ImageFits, TermComputes, are_at, column_joined, edits, enabled, entry_at, entry_less, equal_of, factor, heads, holds, joined_cost, joined_lower, joined_upper, others, shift, sides_less, stays_whole}
+use Rattle.aggregation_laws.specs.DoubletonEquation.{Computes, ImageFits, TermComputes, are_at, column_joined, edits, enabled, entry_at, entry_less, equal_of, factor, heads, holds, joined_cost, joined_lower, joined_upper, others, shift, stays_whole}
+use Rattle.rule_words.specs.MovedSides.{sides_less}
 use Rattle.written_ids.specs.NewIds.{Ids, term_at, terms_at}
 use Rattle.written_ids.specs.Standing.{AreOneToOne, IsLive, IsOneToOne, LinesStand}
 use Rattle.written_ids.proofs.Lists.{all_both, all_two, both_by, both_then, map_where}
@@ -69,8 +70,8 @@ module _ (n : Ids) (p : Sparse) (o : AreOneToOne n p) (i j k : ℕ) (first : (co
       let b = dense_at n.column p.matrix.columns o.column k ts second (row_entries-live p i) in
       λ t. same t && (is_fixed l u false && (is_in_order x.lower x.upper && (is_in_order y.lower y.upper && stays_whole x.whole y.whole (a t) (b t) (unwrap_or l zero_ℚ))))
 
-  pub doubleton_alike : (row_at p i).live ≡ true → holds (n.column j) (n.column k) (map (contents_at n) (found_on (heads i j k) no_more p)) ≡ holds j k (found_on (heads i j k) no_more p)
-  doubleton_alike h =
+  pub doubleton_equation_alike : (row_at p i).live ≡ true → holds (n.column j) (n.column k) (map (contents_at n) (found_on (heads i j k) no_more p)) ≡ holds j k (found_on (heads i j k) no_more p)
+  doubleton_equation_alike h =
       (λ t. holds (n.column j) (n.column k) (map (contents_at n) (found (h t) (first t) (second t))))
       ∙ all_live
       ∙ sym (λ t. holds j k (found (h t) (first t) (second t)))
@@ -147,13 +148,13 @@ module _ (n : Ids) (p q : Sparse) (s : LinesStand n p q) (i j k : ℕ) (on : (ro
       let e = other_entry_same t h in
       let fits = λ (o : Option Number). LessFits o (t.value *ℚ w) in
       let less_fits = λ (x : Number). LessProductFits x t.value f in (
-        λ c. record { entry = subst less_fits (sym e) c.entry; product = c.product; lower = subst fits (sym r.lower) c.lower; upper = subst fits (sym r.upper) c.upper },
-        λ c. record { entry = subst less_fits e c.entry; product = c.product; lower = subst fits r.lower c.lower; upper = subst fits r.upper c.upper },
+        λ c. record { entry = subst less_fits (sym e) c.entry; sides = record { product = c.sides.product; lower = subst fits (sym r.lower) c.sides.lower; upper = subst fits (sym r.upper) c.sides.upper } },
+        λ c. record { entry = subst less_fits e c.entry; sides = record { product = c.sides.product; lower = subst fits r.lower c.sides.lower; upper = subst fits r.upper c.sides.upper } },
       )
 
   -- all
-  pub doubleton_edits : edits q row gone kept ≡ map (edit_at n) (edits p i j k)
-  doubleton_edits =
+  pub doubleton_equation_edits : edits q row gone kept ≡ map (edit_at n) (edits p i j k)
+  doubleton_equation_edits =
       let f : Number = factor p i j k in
       let w : Number = shift p i j in
       let ts : List Term = others p i j in
@@ -189,8 +190,8 @@ module _ (n : Ids) (p q : Sparse) (s : LinesStand n p q) (i j k : ℕ) (on : (ro
       both_by (λ (z : Number × Number × Number). LessProductFits z.0 z.1 z.2) (cost_at p k, cost_at p j, factor p i j k)
       (cost_at q kept, cost_at q gone, factor q row gone kept) (sym (λ t. (y t, x t, factor_same t)))
 
-  pub doubleton_computes : Computes p i j k ↔ Computes q row gone kept
-  doubleton_computes =
+  pub doubleton_equation_computes : Computes p i j k ↔ Computes q row gone kept
+  doubleton_equation_computes =
       let c = s.column j first in
       let lower = image_fits (bounds_at p j).lower (bounds_at q gone).lower c.lower in
       let upper = image_fits (bounds_at p j).upper (bounds_at q gone).upper c.upper in (
@@ -215,5 +216,5 @@ module _ (n : Ids) (p q : Sparse) (s : LinesStand n p q) (i j k : ℕ) (on : (ro
       )
 
   -- ---- it is enabled at both or at neither
-  pub doubleton_enabled : enabled q row gone kept ≡ enabled p i j k
-  doubleton_enabled = ap (holds gone kept) (all_stand n p q s (heads i j k) (pair_there p i j k on first second)) ∙ doubleton_alike n p s.apart i j k first second on
+  pub doubleton_equation_enabled : enabled q row gone kept ≡ enabled p i j k
+  doubleton_equation_enabled = ap (holds gone kept) (all_stand n p q s (heads i j k) (pair_there p i j k on first second)) ∙ doubleton_equation_alike n p s.apart i j k first second on

@@ -1,7 +1,7 @@
 pub mod Locks
 pub mod DominatedColumn
 pub mod Activities
-pub mod TightenedCoefficient
+pub mod CoefficientTightening
 pub mod DoubletonEquation
 pub mod SoleColumns
 pub mod Parallels

@@ -14,9 +14,9 @@ use Rattle.problem_model.specs.Problems.{bounds_at, column_at, column_entries, c
 use Rattle.problem_model.specs.Sparse.{Sparse}
 use Rattle.problem_laws.proofs.Entries.{column_entries-live}
 use Rattle.rule_words.specs.Reading.{sides_of}
-use Rattle.dual_laws.specs.FixedByCost.{end_kept, goes_down, goes_up, is_fixed_by_cost, place_of}
+use Rattle.dual_laws.specs.DualFixing.{end_kept, goes_down, goes_up, is_dual_fixing, place_of}
 use Rattle.dual_laws.specs.Locks.{all_take, are_uncrossed, is_uncrossed, sides_on, takes_down, takes_up}
-use Rattle.dual_laws.specs.Ray.{falls, is_ray, rises}
+use Rattle.dual_laws.specs.UnboundedColumn.{falls, is_unbounded_column, rises}
 use Rattle.written_ids.specs.NewIds.{Ids, terms_at}
 use Rattle.written_ids.specs.Standing.{LinesStand}
 use Rattle.written_ids.proofs.Naming.{sides_of_at}
@@ -71,13 +71,13 @@ module _ (n : Ids) where
     end_kept_at = ap (λ (y : Bool). if y then l else u) goes_down_at
 
   -- ---- the conditions look at no id
-  pub fixed_by_cost_alike : (a b : Contents) (ss : List Contents) → is_fixed_by_cost (contents_at n a) (contents_at n b) (map (contents_at n) ss) ≡ is_fixed_by_cost a b ss
-  fixed_by_cost_alike (holding.Column ts c) (holding.Bounds l u w) ss = λ t. is_apart l u && (are_uncrossed_at ss t && (goes_down_at ts c l u w ss t || goes_up_at ts c l u w ss t))
-  fixed_by_cost_alike a b ss = refl
+  pub dual_fixing_alike : (a b : Contents) (ss : List Contents) → is_dual_fixing (contents_at n a) (contents_at n b) (map (contents_at n) ss) ≡ is_dual_fixing a b ss
+  dual_fixing_alike (holding.Column ts c) (holding.Bounds l u w) ss = λ t. is_apart l u && (are_uncrossed_at ss t && (goes_down_at ts c l u w ss t || goes_up_at ts c l u w ss t))
+  dual_fixing_alike a b ss = refl
 
-  pub ray_alike : (a b : Contents) (ss : List Contents) → is_ray (contents_at n a) (contents_at n b) (map (contents_at n) ss) ≡ is_ray a b ss
-  ray_alike (holding.Column ts c) (holding.Bounds l u w) ss = λ t. is_in_order l u && (are_uncrossed_at ss t && (rises_at ts c l u w ss t || falls_at ts c l u w ss t))
-  ray_alike a b ss = refl
+  pub unbounded_column_alike : (a b : Contents) (ss : List Contents) → is_unbounded_column (contents_at n a) (contents_at n b) (map (contents_at n) ss) ≡ is_unbounded_column a b ss
+  unbounded_column_alike (holding.Column ts c) (holding.Bounds l u w) ss = λ t. is_in_order l u && (are_uncrossed_at ss t && (rises_at ts c l u w ss t || falls_at ts c l u w ss t))
+  unbounded_column_alike a b ss = refl
 
 -- ---- where K10 leaves a column
 module _ (n : Ids) (p q : Sparse) (s : LinesStand n p q) (j : ℕ) (on : (column_at p j).live ≡ true) where

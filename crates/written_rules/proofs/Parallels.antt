@@ -19,9 +19,10 @@ use Rattle.problem_model.specs.Sparse.{Sparse}
 use Rattle.problem_laws.proofs.Entries.{column_entries-live, row_entries-live}
 use Rattle.row_spans.specs.Exact.{fits}
 use Rattle.rule_words.specs.Reading.{found_on, no_more}
-use Rattle.parallel_column_laws.specs.ParallelColumns as columns
-use Rattle.parallel_column_laws.specs.ParallelColumns.{are_in_order, are_of_a_kind, are_times, factor_of}
-use Rattle.parallel_row_laws.specs.ParallelRows as rows
+use Rattle.parallel_laws.specs.ParallelColumns as columns
+use Rattle.rule_words.specs.Multiples.{are_times, factor_of}
+use Rattle.parallel_laws.specs.ParallelColumns.{are_in_order, are_of_a_kind}
+use Rattle.parallel_laws.specs.ParallelRows as rows
 use Rattle.written_ids.specs.NewIds.{Ids, terms_at}
 use Rattle.written_ids.specs.Standing.{AreOneToOne, IsOneToOne, LinesStand}
 use Rattle.written_ids.proofs.Lists.{all_two, both_by}

@@ -28,11 +28,11 @@ use Rattle.rule_words.specs.Reading.{bounds_named, bounds_of, found_on, no_more,
 use Rattle.row_spans.specs.declared.span.Span.{Span}
 use Rattle.row_spans.specs.Spans.{spans_of}
 use Rattle.activity_laws.specs.Rows.{RowTest, all_in_order, keeps_lower, keeps_upper, row_found}
-use Rattle.activity_laws.specs.TightenedBound.{entry_at}
+use Rattle.activity_laws.specs.BoundTightening.{entry_at}
 use Rattle.activity_laws.proofs.Rows.{tested}
 use Rattle.column_laws.specs.SoleEntry.{CostComputes, CostsCompute, cost_less, costs_less, entry_of, is_sole_at, others_of, price_of}
-use Rattle.column_laws.specs.FreeColumn as free
-use Rattle.column_laws.specs.SlackColumn as slack
+use Rattle.column_laws.specs.FreeColumnSingleton as free
+use Rattle.column_laws.specs.SlackColumnSingleton as slack
 use Rattle.written_ids.specs.NewIds.{Ids, term_at, terms_at}
 use Rattle.written_ids.specs.Standing.{AreOneToOne, IsLive, IsOneToOne, LinesStand}
 use Rattle.written_ids.proofs.Lists.{all_both, all_one, all_two, both_by, both_then, map_where}
@@ -76,25 +76,25 @@ module _ (n : Ids) (p : Sparse) (o : AreOneToOne n p) (j i : ℕ) (on : (row_at 
   abbrev column_found : Bool → Contents
   column_found b = held b (holding.Column es (cost_at p j))
 
-  free_column_by : (l u : Option Number) → free.is_free_column (n.column j) (n.row i) (contents_at n (contents_of p (Col j))) l u (spans_by n.column (spans_of p i))
-      ≡ free.is_free_column j i (contents_of p (Col j)) l u (spans_of p i)
-  free_column_by l u =
+  free_column_singleton_by : (l u : Option Number) → free.is_free_column_singleton (n.column j) (n.row i) (contents_at n (contents_of p (Col j))) l u (spans_by n.column (spans_of p i))
+      ≡ free.is_free_column_singleton j i (contents_of p (Col j)) l u (spans_of p i)
+  free_column_singleton_by l u =
       let ss : List Span = spans_of p i in
       let same = free_by n.column j ss (spans_alike n p o i j live) (cost_at p j) l u in
-      (λ t. free.is_free_column (n.column j) (n.row i) (contents_at n (column_found (live t))) l u (spans_by n.column ss))
+      (λ t. free.is_free_column_singleton (n.column j) (n.row i) (contents_at n (column_found (live t))) l u (spans_by n.column ss))
       ∙ (λ t. sole_at_new t && same t)
-      ∙ sym (λ t. free.is_free_column j i (column_found (live t)) l u ss)
+      ∙ sym (λ t. free.is_free_column_singleton j i (column_found (live t)) l u ss)
 
-  pub free_column_alike : free.holds (n.column j) (n.row i) (map (contents_at n) (found_on (free.heads j i) bounds_named p)) ≡ free.holds j i (found_on (free.heads j i) bounds_named p)
-  free_column_alike =
-      let new : RowTest = free.is_free_column (n.column j) (n.row i) (contents_at n (contents_of p (Col j))) in
-      let old : RowTest = free.is_free_column j i (contents_of p (Col j)) in
+  pub free_column_singleton_alike : free.holds (n.column j) (n.row i) (map (contents_at n) (found_on (free.heads j i) bounds_named p)) ≡ free.holds j i (found_on (free.heads j i) bounds_named p)
+  free_column_singleton_alike =
+      let new : RowTest = free.is_free_column_singleton (n.column j) (n.row i) (contents_at n (contents_of p (Col j))) in
+      let old : RowTest = free.is_free_column_singleton j i (contents_of p (Col j)) in
       let l : Option Number = (sides_at p i).lower in
       let u : Option Number = (sides_at p i).upper in
       let ss : List Span = spans_of p i in
       on_row_at n new (row_found p i)
       ∙ tested (test_by n.column new) p i
-      ∙ ap (λ (b : Bool). (row_at p i).live && (is_in_order l u && (all_in_order ss && b))) (free_column_by l u)
+      ∙ ap (λ (b : Bool). (row_at p i).live && (is_in_order l u && (all_in_order ss && b))) (free_column_singleton_by l u)
       ∙ sym (tested old p i)
 
   -- ---- K14's condition
@@ -113,8 +113,8 @@ module _ (n : Ids) (p : Sparse) (o : AreOneToOne n p) (j i : ℕ) (on : (row_at 
       let x = bounds_at p j in
       λ t. is_in_order l u && (is_in_order x.lower x.upper && (not x.whole && (sole_at_new t && slack.is_equation_or_free l u (cost_at p j))))
 
-  pub slack_column_alike : slack.holds (n.row i) (map (contents_at n) (found_on (slack.heads j i) no_more p)) ≡ slack.holds i (found_on (slack.heads j i) no_more p)
-  slack_column_alike =
+  pub slack_column_singleton_alike : slack.holds (n.row i) (map (contents_at n) (found_on (slack.heads j i) no_more p)) ≡ slack.holds i (found_on (slack.heads j i) no_more p)
+  slack_column_singleton_alike =
       (λ t. slack.holds (n.row i) (map (contents_at n) (slack_found (on t) (live t))))
       ∙ slack_live
       ∙ sym (λ t. slack.holds i (slack_found (on t) (live t)))
@@ -180,13 +180,13 @@ module _ (n : Ids) (p q : Sparse) (s : LinesStand n p q) (j i : ℕ) (on : (row_
   free_gain_same : free.gain_of q column row ≡ free.gain_of p j i
   free_gain_same = λ t. price_same t *ℚ value_same t
 
-  pub free_column_edits : free.edits q column row ≡ map (edit_at n) (free.edits p j i)
-  free_column_edits =
+  pub free_column_singleton_edits : free.edits q column row ≡ map (edit_at n) (free.edits p j i)
+  free_column_singleton_edits =
       (λ t. costs_less_same t ++ AddOffset (free_gain_same t) ∷ DeleteColumn column ∷ DeleteRow row ∷ [])
       ∙ sym (map-append (edit_at n) (costs_less p j i) (AddOffset (free.gain_of p j i) ∷ DeleteColumn j ∷ DeleteRow i ∷ []))
 
-  pub free_column_computes : free.Computes p j i ↔ free.Computes q column row
-  free_column_computes = (λ h. (costs_compute.0 h.0, subst Fits (sym free_gain_same) h.1), λ h. (costs_compute.1 h.0, subst Fits free_gain_same h.1))
+  pub free_column_singleton_computes : free.Computes p j i ↔ free.Computes q column row
+  free_column_singleton_computes = (λ h. (costs_compute.0 h.0, subst Fits (sym free_gain_same) h.1), λ h. (costs_compute.1 h.0, subst Fits free_gain_same h.1))
 
   -- ---- K14
   most_same : slack.most_at (entry_of q column row) (bounds_at q column).lower (bounds_at q column).upper ≡ slack.most_at (entry_of p j i) (bounds_at p j).lower (bounds_at p j).upper
@@ -209,8 +209,8 @@ module _ (n : Ids) (p q : Sparse) (s : LinesStand n p q) (j i : ℕ) (on : (row_
   out_at None (Some u) = refl
   out_at (Some l) u = refl
 
-  pub slack_column_edits : slack.edits q column row ≡ map (edit_at n) (slack.edits p j i)
-  slack_column_edits =
+  pub slack_column_singleton_edits : slack.edits q column row ≡ map (edit_at n) (slack.edits p j i)
+  slack_column_singleton_edits =
       let l : Option Number = slack.new_lower p j i in
       let u : Option Number = slack.new_upper p j i in
       (λ t. costs_less_same t ++ AddOffset (slack_gain_same t) ∷ slack.column_out column row (new_lower_same t) (new_upper_same t))
@@ -220,8 +220,8 @@ module _ (n : Ids) (p q : Sparse) (s : LinesStand n p q) (j i : ℕ) (on : (row_
   side_computes : (b e c d : Option Number) → d ≡ b → c ≡ e → slack.SideComputes (entry_of p j i) b e ↔ slack.SideComputes (entry_of q column row) d c
   side_computes b e c d f g = both_by (λ (x : Number × Option Number × Option Number). slack.SideComputes x.0 x.1 x.2) (entry_of p j i, b, e) (entry_of q column row, d, c) (sym (λ t. (entry_same t, f t, g t)))
 
-  pub slack_column_computes : slack.Computes p j i ↔ slack.Computes q column row
-  slack_column_computes =
+  pub slack_column_singleton_computes : slack.Computes p j i ↔ slack.Computes q column row
+  slack_column_singleton_computes =
       let r = s.row i on in
       let lower = side_computes (sides_at p i).lower _ _ (sides_at q row).lower r.lower most_same in
       let upper = side_computes (sides_at p i).upper _ _ (sides_at q row).upper r.upper least_same in (
@@ -238,8 +238,8 @@ module _ (n : Ids) (p q : Sparse) (s : LinesStand n p q) (j i : ℕ) (on : (row_
       ∙ ap (λ (ps : List Part). map (contents_of q) (free.heads column row ++ ps)) (bounds_read_at n p i)
       ∙ all_stand n p q s (free.heads j i ++ named) (All-append (IsThere p) (free.heads j i) named (free_there p j i on live) (bounds_read_there p i))
 
-  pub free_column_enabled : free.enabled q column row ≡ free.enabled p j i
-  free_column_enabled = ap (free.holds column row) free_found ∙ free_column_alike n p s.apart j i on live
+  pub free_column_singleton_enabled : free.enabled q column row ≡ free.enabled p j i
+  free_column_singleton_enabled = ap (free.holds column row) free_found ∙ free_column_singleton_alike n p s.apart j i on live
 
-  pub slack_column_enabled : slack.enabled q column row ≡ slack.enabled p j i
-  slack_column_enabled = ap (slack.holds row) (all_stand n p q s (slack.heads j i) (slack_there p j i on live)) ∙ slack_column_alike n p s.apart j i on live
+  pub slack_column_singleton_enabled : slack.enabled q column row ≡ slack.enabled p j i
+  slack_column_singleton_enabled = ap (slack.holds row) (all_stand n p q s (slack.heads j i) (slack_there p j i on live)) ∙ slack_column_singleton_alike n p s.apart j i on live

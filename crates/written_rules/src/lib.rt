@@ -6,10 +6,10 @@ ghost use Rattle.std.specs.Prelude.{◌≡◌, ◌↔◌, ℕ, true};
 ghost use Rattle.problem_model.specs.Problems.{column_at, row_at};
 ghost use Rattle.problem_model.specs.Sparse.{Sparse};
 ghost use Rattle.aggregation_laws.specs.DoubletonEquation as doubleton_equation;
-ghost use Rattle.column_laws.specs.FreeColumn as free_column;
-ghost use Rattle.column_laws.specs.SlackColumn as slack_column;
-ghost use Rattle.parallel_column_laws.specs.ParallelColumns as parallel_columns;
-ghost use Rattle.parallel_row_laws.specs.ParallelRows as parallel_rows;
+ghost use Rattle.column_laws.specs.FreeColumnSingleton as free_column_singleton;
+ghost use Rattle.column_laws.specs.SlackColumnSingleton as slack_column_singleton;
+ghost use Rattle.parallel_laws.specs.ParallelColumns as parallel_columns;
+ghost use Rattle.parallel_laws.specs.ParallelRows as parallel_rows;
 ghost use Rattle.written_ids.specs.NewIds.{Ids};
 ghost use Rattle.written_ids.specs.Standing.{LinesStand};
 
@@ -21,14 +21,14 @@ pub fn doubleton_equations_stand()
 
 /// A column can leave with the row of its one entry at their new ids where it can at their old ones, and the numbers that this computes have
 /// room there where they have it here.
-pub fn free_columns_stand()
-    ensures { (n : Ids) (p q : Sparse) (j i : ℕ) → LinesStand n p q → (row_at p i).live ≡ true → (column_at p j).live ≡ true → (free_column.enabled q (n.column j) (n.row i) ≡ free_column.enabled p j i) × (free_column.Computes p j i ↔ free_column.Computes q (n.column j) (n.row i)) }
+pub fn free_column_singletons_stand()
+    ensures { (n : Ids) (p q : Sparse) (j i : ℕ) → LinesStand n p q → (row_at p i).live ≡ true → (column_at p j).live ≡ true → (free_column_singleton.enabled q (n.column j) (n.row i) ≡ free_column_singleton.enabled p j i) × (free_column_singleton.Computes p j i ↔ free_column_singleton.Computes q (n.column j) (n.row i)) }
 {}
 
 /// A column can leave as a slack of the row of its one entry at their new ids where it can at their old ones, and the numbers that this
 /// computes have room there where they have it here.
-pub fn slack_columns_stand()
-    ensures { (n : Ids) (p q : Sparse) (j i : ℕ) → LinesStand n p q → (row_at p i).live ≡ true → (column_at p j).live ≡ true → (slack_column.enabled q (n.column j) (n.row i) ≡ slack_column.enabled p j i) × (slack_column.Computes p j i ↔ slack_column.Computes q (n.column j) (n.row i)) }
+pub fn slack_column_singletons_stand()
+    ensures { (n : Ids) (p q : Sparse) (j i : ℕ) → LinesStand n p q → (row_at p i).live ≡ true → (column_at p j).live ≡ true → (slack_column_singleton.enabled q (n.column j) (n.row i) ≡ slack_column_singleton.enabled p j i) × (slack_column_singleton.Computes p j i ↔ slack_column_singleton.Computes q (n.column j) (n.row i)) }
 {}
 
 /// A row can give its sides to another one at their new ids where it can at their old ones, and the numbers that this computes have room

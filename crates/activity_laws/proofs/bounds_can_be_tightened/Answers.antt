@@ -1,4 +1,4 @@
-use Rattle.activity_laws.proofs.TightenedBound.{improves, owes}
+use Rattle.activity_laws.proofs.BoundTightening.{improves, owes}
 use Rattle.activity_laws.proofs.bounds_can_be_tightened.Goals as goal
 
 pub returns-clause-owes : goal.returns-clause-owes

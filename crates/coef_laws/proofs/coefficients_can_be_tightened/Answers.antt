@@ -1,4 +1,4 @@
-use Rattle.coef_laws.proofs.TightenedCoefficient.{owes, shrinks}
+use Rattle.coef_laws.proofs.CoefficientTightening.{owes, shrinks}
 use Rattle.coef_laws.proofs.coefficients_can_be_tightened.Goals as goal
 
 pub returns-clause-owes : goal.returns-clause-owes

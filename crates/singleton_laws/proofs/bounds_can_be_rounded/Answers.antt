@@ -1,4 +1,4 @@
-use Rattle.singleton_laws.proofs.RoundBounds.{owes}
+use Rattle.singleton_laws.proofs.RoundedBounds.{owes}
 use Rattle.singleton_laws.proofs.bounds_can_be_rounded.Goals as goal
 
 pub returns : goal.returns

@@ -3,7 +3,7 @@ use Rattle.std.specs.List.{All}
 use Rattle.lp_model.specs.Sparse.{Ascends}
 use Rattle.problem_model.specs.declared.edit.Edit.{Edit}
 use Rattle.aggregation_laws.specs.DoubletonEquation.{entry_less}
-use Rattle.singleton_rules.proofs.Terms.{made_more, all_more, one_of, past_answer}
+use Rattle.rule_words.proofs.TermsInTurn.{made_more, all_more, one_of, past_answer}
 use Rattle.aggregation_rules.specs.Parts.{EntryFits}
 use Rattle.aggregation_rules.proofs.Walk.{before_is, entry_made, entry_fits, entry_unfit, walk_on, walk_starts}
 use Rattle.aggregation_rules.proofs.new_entries.new_entries.Goals as goal

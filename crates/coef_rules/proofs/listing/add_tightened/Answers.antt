@@ -1,6 +1,6 @@
 use Rattle.std.proofs.Common.{◌∙◌, sym, ap}
 use Rattle.problem_model.specs.declared.line.Sides.{Sides}
-use Rattle.coef_laws.specs.TightenedCoefficient.{one_side}
+use Rattle.coef_laws.specs.CoefficientTightening.{one_side}
 use Rattle.coef_rules.proofs.Columns.{all_found, none_where_crossed, none_without_side, none_without_whole}
 use Rattle.coef_rules.proofs.listing.add_tightened.Goals as goal
 

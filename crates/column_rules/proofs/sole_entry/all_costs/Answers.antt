@@ -2,7 +2,7 @@ use Rattle.std.proofs.Common.{◌≡◌, ap, Err, map, Vec, Global}
 use Rattle.std.specs.List.{All}
 use Rattle.problem_model.specs.declared.edit.Edit.{Edit}
 use Rattle.column_laws.specs.SoleEntry.{cost_less, CostComputes}
-use Rattle.singleton_rules.proofs.Terms.{made_more, all_more, one_of, past_answer}
+use Rattle.rule_words.proofs.TermsInTurn.{made_more, all_more, one_of, past_answer}
 use Rattle.column_rules.proofs.sole_entry.all_costs.Goals as goal
 
 pub loop-term-preserved : goal.loop-term-preserved

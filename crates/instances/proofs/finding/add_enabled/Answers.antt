@@ -1,4 +1,4 @@
-use Rattle.std.proofs.Common.{◌≡◌, ◌⊎◌, inl, inr, ◌++◌, true, List, map, ap, subst, sym, ◌∙◌, OnOk, ℕ}
+use Rattle.std.proofs.Common.{◌≡◌, ◌⊎◌, inl, inr, ◌++◌, true, List, map, ap, subst, ◌∙◌, OnOk, ℕ}
 use Rattle.std.specs.List.{filter}
 use Rattle.presolve_model.specs.declared.instance.Instance.{Instance}
 use Rattle.presolve_model.specs.declared.instance.Rule.{Rule}

@@ -2,10 +2,10 @@ use Rattle.std.proofs.Common.{◌≡◌, ℕ, List, ◌++◌, map, sym, ap, subs
 use Rattle.std.specs.List.{filter}
 use Rattle.undo_records.specs.declared.side.Side.{Side}
 use Rattle.problem_model.specs.Problems.{row_entries}
-use Rattle.activity_laws.specs.TightenedBound.{bounds_of}
+use Rattle.activity_laws.specs.BoundTightening.{bounds_of}
 use Rattle.presolve_model.specs.declared.instance.Instance.{Instance}
 use Rattle.presolve_model.specs.declared.instance.Instance.TheVariants as at
-use Rattle.presolve_model.specs.declared.instance.Reduction.TheVariants.{TightenedBound}
+use Rattle.presolve_model.specs.declared.instance.Reduction.TheVariants.{BoundTightening}
 use Rattle.presolve_model.specs.Enabled.{enabled_on}
 use Rattle.presolve_model.specs.Tallies.{open_on}
 use Rattle.instances.proofs.Scanning.{passes_mapped, tests_swapped}
@@ -13,7 +13,7 @@ use Rattle.instances.proofs.finding.add_open.Goals as goal
 
 pub returns : goal.returns
 returns c =
-    let f = λ (x : ℕ × Side). at.Reduction (TightenedBound c.args.row x.0 x.1) in
+    let f = λ (x : ℕ × Side). at.Reduction (BoundTightening c.args.row x.0 x.1) in
     let open_bound = λ (x : ℕ × Side). open_on c.args.tally.now x.0 x.1 in
     let tight = λ (x : ℕ × Side). enabled_on c.args.problem.now (f x) in
     let all : List (ℕ × Side) = bounds_of (row_entries c.args.problem.now c.args.row) in

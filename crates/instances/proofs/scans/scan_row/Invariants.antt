@@ -6,4 +6,4 @@ use Rattle.instances.proofs.scans.scan_row.Given as goal
 
 -- the enabled ones so far
 abbrev pub invariant-loop-passed : goal.invariant-loop-passed
-invariant-loop-passed l = l.found.items ≡ found_at (open_on l.tally) l.problem l.version l.rule (range_with_len l.first l.passed)
+invariant-loop-passed l = l.found.items ≡ found_at (open_on l.walk.tally.now) l.walk.problem.now l.walk.version l.rule (range_with_len l.first l.passed)

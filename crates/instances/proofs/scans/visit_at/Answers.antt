@@ -1,4 +1,4 @@
-use Rattle.std.proofs.Common.{◌≡◌, ◌++◌, ◌≤◌, List, sym, ap, subst, ◌∙◌, ℕ}
+use Rattle.std.proofs.Common.{◌++◌, ◌≤◌, List, sym, ap, subst, ◌∙◌, ℕ}
 use Rattle.std.proofs.lemmas.List.{append-nil}
 use Rattle.presolve_model.specs.Given.{Proposed}
 use Rattle.presolve_model.specs.Tallies.{open_on}
@@ -9,4 +9,4 @@ use Rattle.instances.proofs.scans.visit_at.Goals as goal
 pub returns-then-id-ids_of : goal.returns-then-id-ids_of
 returns-then-id-ids_of c =
     sym (append-nil c.args.found.now.items)
-    ∙ ap (λ (ps : List Proposed). c.args.found.now.items ++ ps) (sym (found_past (open_on c.args.tally.now) c.args.problem.now c.args.version c.args.rule c.args.id (subst (λ (n : ℕ). n ≤ c.args.id) c.ids_of.ensures.count c.if-id-ids_of.true)))
+    ∙ ap (λ (ps : List Proposed). c.args.found.now.items ++ ps) (sym (found_past (open_on c.args.walk.now.tally.now) c.args.walk.now.problem.now c.args.walk.now.version c.args.rule c.args.id (subst (λ (n : ℕ). n ≤ c.args.id) c.ids_of.ensures.count c.if-id-ids_of.true)))

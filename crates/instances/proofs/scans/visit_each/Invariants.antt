@@ -6,7 +6,7 @@ use Rattle.instances.proofs.scans.visit_each.Given as goal
 
 -- those so far, and those among the instances that are left
 abbrev pub invariant-loop-rest : goal.invariant-loop-rest
-invariant-loop-rest l = l.found.items ++ map (proposal_of l.problem l.version) (filter (enabled_on l.problem) l.rest) ≡ l.fn.found.items ++ map (proposal_of l.problem l.version) (filter (enabled_on l.problem) l.instances)
+invariant-loop-rest l = l.found.items ++ map (proposal_of l.walk.problem.now l.walk.version) (filter (enabled_on l.walk.problem.now) l.rest) ≡ l.fn.found.items ++ map (proposal_of l.walk.problem.now l.walk.version) (filter (enabled_on l.walk.problem.now) l.instances)
 
 abbrev pub decreases-loop-rest : goal.decreases-loop-rest
 decreases-loop-rest l = length l.rest

@@ -1,7 +1,7 @@
 use Rattle.std.proofs.Common.{◌≡◌, refl, sym, subst, ◌∙◌, ℕ, List, [], get_or}
 use Rattle.std.specs.List.{Contains}
 use Rattle.std.proofs.lemmas.List.{get_or_default}
-use Rattle.line_groups.specs.Ascending.{AscendsFrom}
+use Rattle.sorted_ids.specs.Ascending.{AscendsFrom}
 use Rattle.line_groups.proofs.Tables.{puts}
 use Rattle.line_groups.proofs.groups.add_to.Goals as goal
 

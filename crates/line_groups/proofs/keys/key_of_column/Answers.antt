@@ -1,4 +1,4 @@
-use Rattle.std.proofs.Common.{◌≡◌, ◌≢◌, true, rules, subst, sym}
+use Rattle.std.proofs.Common.{◌≡◌, ◌≢◌, rules, subst, sym}
 use Rattle.std.specs.List.{All}
 use Rattle.rational.specs.Number.{zero_ℚ}
 use Rattle.problem_model.specs.Problems.{column_at}
@@ -9,10 +9,9 @@ use Rattle.line_groups.proofs.keys.key_of_column.Goals as goal
 pub key_of-requires : goal.key_of-requires
 key_of-requires c =
     let p = c.args.problem.now in
-    let live : (column_at p c.args.column).live ≡ true = search rules in
-    let entries : c.as_slice-terms.result.now ≡ c.index-columns-column.result.entries = search rules in
-    read_none_zero p.matrix.columns p.matrix.rows c.columns.result.now c.rows.result.now c.args.column c.index-columns-column.result c.as_slice-terms.result.now
-    (column_entries-none_zero p c.args.column c.is_sparse.ensures) live c.columns.ensures c.rows.ensures c.index-columns-column.is entries
+    let entries : c.as_slice-terms.result.now ≡ c.column_line.result.now.entries = search rules in
+    read_none_zero p.matrix.rows c.rows.result (column_at p c.args.column) c.column_line.result.now c.as_slice-terms.result.now
+    (column_entries-none_zero p c.args.column c.is_sparse.ensures) c.rows.ensures c.column_line.ensures entries
 
 pub key_of_all-requires : goal.key_of_all-requires
 key_of_all-requires c = subst (All (λ t. t.value ≢ zero_ℚ)) (sym c.in-Some.ensures) (column_entries-none_zero c.args.problem.now c.args.column c.is_sparse.ensures)

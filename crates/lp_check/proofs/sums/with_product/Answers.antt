@@ -1,7 +1,7 @@
 use Rattle.std.proofs.Common.{Option, ◌+◌, sym, subst}
 use Rattle.rational.specs.Number.{Number}
-use Rattle.lp_check.specs.Summing.{IsSum}
-use Rattle.lp_check.proofs.Steps.{sum_of_result}
+use Rattle.lp_prices.specs.Prices.{IsSum}
+use Rattle.lp_prices.proofs.Steps.{sum_of_result}
 use Rattle.lp_check.proofs.sums.with_product.Goals as goal
 
 pub returns-in-Some : goal.returns-in-Some

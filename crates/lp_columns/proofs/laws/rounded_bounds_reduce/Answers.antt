@@ -1,4 +1,4 @@
-use Rattle.lp_columns.proofs.RoundBounds.{bounds_rounded_reduce}
+use Rattle.lp_columns.proofs.RoundedBounds.{bounds_rounded_reduce}
 use Rattle.lp_columns.proofs.laws.rounded_bounds_reduce.Goals as goal
 
 pub returns : goal.returns

@@ -1,6 +1,6 @@
 use Rattle.std.proofs.Common.{◌≡◌, ◌≤◌, length, drop}
-use Rattle.postsolve_dual.specs.Numbers.{IsSized, priced_of}
-use Rattle.postsolve_dual.specs.LiftPair.{lift_pair}
+use Rattle.undo_pairs.specs.Numbers.{IsSized, priced_of}
+use Rattle.undo_pairs.specs.LiftPair.{lift_pair}
 use Rattle.postsolve_dual.specs.PairRoom.{LiftPairFits}
 use Rattle.postsolve_dual.proofs.lifting.undo_all.Given as goal
 

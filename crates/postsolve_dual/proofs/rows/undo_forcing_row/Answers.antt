@@ -1,7 +1,7 @@
 use Rattle.std.proofs.Common.{List, ap, ◌∙◌}
 use Rattle.rational.specs.Number.{Number, zero_ℚ}
 use Rattle.lp_model.specs.Vectors.{vector_of}
-use Rattle.postsolve_dual.specs.LiftPair.{furthest}
+use Rattle.undo_pairs.specs.LiftPair.{furthest}
 use Rattle.postsolve_dual.proofs.Pairs.{forced_is}
 use Rattle.postsolve_dual.proofs.rows.undo_forcing_row.Goals as goal
 

@@ -1,8 +1,8 @@
 use Rattle.std.proofs.Common.{◌≡◌, ℕ, ◌<◌}
 use Rattle.lp_model.specs.Vectors.{vector_of}
 use Rattle.lp_model.specs.Meaning.{meaning}
-use Rattle.lp_check.specs.DecidingPairs.{ReducedCostFits}
-use Rattle.postsolve_dual.specs.Numbers.{reduced_costs_of}
+use Rattle.lp_prices.specs.Prices.{ReducedCostFits}
+use Rattle.undo_pairs.specs.Numbers.{reduced_costs_of}
 use Rattle.postsolve_dual.proofs.starting.reduced_costs.Given as goal
 
 -- the reduced costs so far

@@ -1,7 +1,7 @@
 use Rattle.std.proofs.Common.{◌↔◌, sym, subst}
 use Rattle.std.specs.Result.{IsOk}
 use Rattle.undo_records.specs.declared.undo.Undo.{Undo}
-use Rattle.postsolve_dual.specs.Numbers.{priced_of}
+use Rattle.undo_pairs.specs.Numbers.{priced_of}
 use Rattle.postsolve_dual.specs.PairRoom.{DualsFit}
 use Rattle.postsolve_dual.proofs.undo.undo_duals.Goals as goal
 

@@ -1,5 +1,6 @@
 use Rattle.std.proofs.Common.{Some, refl, inr}
 use Rattle.command_words.specs.Seen.{names_of}
+use Rattle.endings.specs.Forms.{form_of}
 use Rattle.endings.specs.declared.reads.TheConstants.{INPUT_LIMIT}
 use Rattle.endings.proofs.Earlier.{finds_there, program_read}
 use Rattle.presolve_command.specs.Presolved.{IsMadeOf}
@@ -18,7 +19,7 @@ returns-in-Ok-write_both-clause-ends g c =
     let texts = c.in-Ok-reduce.texts in
     let made : IsMadeOf names texts.program.items texts.records.items texts.report.items before = record {
       outcome = reduced.0;
-      source = program_read INPUT_LIMIT (before.told names.input) _ _ c.in-Ok.text.items _ reduced.0.source c.in-Ok.ensures.bytes c.in-Ok.ensures.most refl c.deref.ensures.value reduced.1;
+      source = program_read INPUT_LIMIT (before.told names.input) (form_of names.options) (form_of names.options) c.in-Ok.text.items _ reduced.0.source c.in-Ok.ensures.bytes c.in-Ok.ensures.most refl c.deref.ensures.value reduced.1;
       concluded = reduced.2;
     } in
     record {
@@ -43,7 +44,7 @@ returns-clause-ends g c =
     let texts = c.in-Ok-reduce.texts in
     let made : IsMadeOf names texts.program.items texts.records.items texts.report.items before = record {
       outcome = reduced.0;
-      source = program_read INPUT_LIMIT (before.told names.input) _ _ c.in-Ok.text.items _ reduced.0.source c.in-Ok.ensures.bytes c.in-Ok.ensures.most refl c.deref.ensures.value reduced.1;
+      source = program_read INPUT_LIMIT (before.told names.input) (form_of names.options) (form_of names.options) c.in-Ok.text.items _ reduced.0.source c.in-Ok.ensures.bytes c.in-Ok.ensures.most refl c.deref.ensures.value reduced.1;
       concluded = reduced.2;
     } in
     record {

@@ -8,9 +8,9 @@ use Rattle.presolve_command.proofs.reduce.reduce_program.Goals as goal
 pub returns-in_ok-texts-in-Ok-Reduced : goal.returns-in_ok-texts-in-Ok-Reduced
 returns-in_ok-texts-in-Ok-Reduced c =
     let made = c.in-Ok-Reduced.made in
-    let concluded = concluded_of c.args.options.now c.args.program c.in-Ok-Reduced.field-0 made c.in-Ok-Reduced.field-0-is c.in-Ok-Reduced.ensures in
+    let concluded = concluded_of c.args.options.now c.args.workers.now c.args.program c.in-Ok-Reduced.field-0 made c.in-Ok-Reduced.field-0-is c.in-Ok-Reduced.ensures in
     let outcome : Outcome = record { source = c.args.program; program = made.program; records = made.records; report = c.report_for-report.result } in
-    let told = concluded_with c.args.options.now c.args.program made c.report_for-report.result.end c.report_for-report.ensures.end concluded in
+    let told = concluded_with c.args.options.now c.args.workers.now c.args.program made c.report_for-report.result.end c.report_for-report.ensures.end concluded in
     let counted = c.size_of-before.ensures in
     let texts = c.in_ok-texts-in-Ok-Reduced.ensures c.args.program (c.report_for-report.ensures.told c.args.program counted.rows counted.columns counted.entries) in (
       outcome,
@@ -22,18 +22,18 @@ returns-in_ok-texts-in-Ok-Reduced c =
         range = c.records_have_range.ensures;
         texts = texts;
         reads_back = reads_back c.args.options.now.numbers outcome _ concluded.names concluded.named concluded.writable concluded.ascends texts.program_text;
-        comes_back = comes_back c.args.options.now outcome _ _ _ c.texts_come_back.ensures told texts c.records_have_range.ensures;
+        comes_back = comes_back c.args.options.now c.args.workers.now outcome _ _ _ c.texts_come_back.ensures told texts c.records_have_range.ensures;
       },
     )
 
 pub texts_of-requires : goal.texts_of-requires
 texts_of-requires c =
-    let concluded = concluded_of c.args.options.now c.args.program c.in-Ok-Reduced.field-0 c.in-Ok-Reduced.made c.in-Ok-Reduced.field-0-is c.in-Ok-Reduced.ensures in
+    let concluded = concluded_of c.args.options.now c.args.workers.now c.args.program c.in-Ok-Reduced.field-0 c.in-Ok-Reduced.made c.in-Ok-Reduced.field-0-is c.in-Ok-Reduced.ensures in
     widths_fit c.args.options.now.numbers c.in-Ok-Reduced.made.program concluded.writable
 
 pub returns-in-Ok-Infeasible : goal.returns-in-Ok-Infeasible
-returns-in-Ok-Infeasible c = infeasible_of c.args.options.now c.args.program c.in-Ok-Infeasible.field-0 c.in-Ok-Infeasible._decided c.in-Ok-Infeasible.field-0-is c.requires.taken c.in-Ok-Infeasible.ensures
+returns-in-Ok-Infeasible c = infeasible_of c.args.options.now c.args.workers.now c.args.program c.in-Ok-Infeasible.field-0 c.in-Ok-Infeasible._decided c.in-Ok-Infeasible.field-0-is c.requires.taken c.in-Ok-Infeasible.ensures
 
 pub returns-in-Ok-UnboundedOrInfeasible : goal.returns-in-Ok-UnboundedOrInfeasible
 returns-in-Ok-UnboundedOrInfeasible c =
-    unbounded_of c.args.options.now c.args.program c.in-Ok-UnboundedOrInfeasible.field-0 c.in-Ok-UnboundedOrInfeasible._decided c.in-Ok-UnboundedOrInfeasible.field-0-is c.requires.taken c.in-Ok-UnboundedOrInfeasible.ensures
+    unbounded_of c.args.options.now c.args.workers.now c.args.program c.in-Ok-UnboundedOrInfeasible.field-0 c.in-Ok-UnboundedOrInfeasible._decided c.in-Ok-UnboundedOrInfeasible.field-0-is c.requires.taken c.in-Ok-UnboundedOrInfeasible.ensures

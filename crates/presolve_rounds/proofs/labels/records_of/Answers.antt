@@ -1,29 +1,36 @@
 use Rattle.std.proofs.Common.{subst, length, refl, sym, ap, ap₂, ◌∙◌}
 use Rattle.std.specs.List.{All}
+use Rattle.std.proofs.lemmas.List.{length-map}
 use Rattle.std.proofs.lemmas.List.Elements.{All-tail}
 use Rattle.lp_model.specs.Name.{IsName}
 use Rattle.lp_model.specs.Names.{names_of_columns, names_of_rows}
+use Rattle.lp_model.specs.ProgramData.{ProgramData}
 use Rattle.lp_model.specs.Turning.{signed}
 use Rattle.undo_records.specs.Postsolve.{Postsolve}
 use Rattle.problem_model.specs.Sparse.{Sparse}
 use Rattle.presolve_model.specs.Telling.{are_live, IsToldOf}
 use Rattle.run_laws.proofs.Telling.{problem_is_of, told_sound}
+use Rattle.presolve_rounds.specs.Sources.{emptied, given}
+use Rattle.presolve_rounds.proofs.Sources.{told_kept}
 use Rattle.presolve_rounds.proofs.labels.records_of.Goals as goal
 
 pub row_labels-requires : goal.row_labels-requires
 row_labels-requires c =
     ap length (c.rows-2.ensures ∙ ap (λ (p : Sparse). p.matrix.rows) c.problem.ensures)
-    ∙ (problem_is_of c.args.program.now c.args.book c.requires c.stands.ensures.stands).rows ∙ sym (ap length c.rows.ensures)
+    ∙ (problem_is_of (given c.args.source.now) c.args.book c.requires.start c.stands.ensures.stands).rows
+    ∙ sym (ap length (c.rows.ensures ∙ ap (λ (p : ProgramData). p.rows) c.requires.kept))
 
 pub column_labels-requires : goal.column_labels-requires
 column_labels-requires c =
     ap length (c.columns-2.ensures ∙ ap (λ (p : Sparse). p.matrix.columns) c.problem-2.ensures)
-    ∙ (problem_is_of c.args.program.now c.args.book c.requires c.stands.ensures.stands).columns ∙ sym (ap length c.columns.ensures)
+    ∙ (problem_is_of (given c.args.source.now) c.args.book c.requires.start c.stands.ensures.stands).columns
+    ∙ sym (ap length (c.columns.ensures ∙ ap (λ (p : ProgramData). p.columns) c.requires.kept) ∙ length-map (given c.args.source.now).columns emptied)
 
 pub new-requires-clause-sound : goal.new-requires-clause-sound
 new-requires-clause-sound c =
+    let program : ProgramData = given c.args.source.now in
     let told : Postsolve = record { sense = c.sense-2.result; duals = c.args.dual; columns = c.in_ok-columns.columns.items; rows = c.in_ok-rows.rows.items; offset = c.in_sense-offset.result; undos = c.close-ended.result.records.items } in
-    let is : IsToldOf c.args.dual c.args.program.now c.args.book told = record {
+    let is : IsToldOf c.args.dual c.args.source.now.kept c.args.book told = record {
       sense = c.sense-2.ensures;
       duals = refl;
       undos = c.close-ended.ensures.records;
@@ -33,11 +40,27 @@ new-requires-clause-sound c =
       rows = c.in_ok-rows.ensures.live ∙ ap are_live (c.rows-2.ensures ∙ ap (λ (p : Sparse). p.matrix.rows) c.problem.ensures);
       columns = c.in_ok-columns.ensures.live ∙ ap are_live (c.columns-2.ensures ∙ ap (λ (p : Sparse). p.matrix.columns) c.problem-2.ensures);
     } in
-    told_sound c.args.dual c.args.program.now c.args.book told c.requires c.stands.ensures.stands is
+    told_sound c.args.dual program c.args.book told c.requires.start c.stands.ensures.stands (told_kept c.args.dual program c.args.source.now.kept c.args.book told c.requires.kept is)
+
+pub returns : goal.returns
+returns c =
+    let program : ProgramData = given c.args.source.now in
+    let told : Postsolve = record { sense = c.sense-2.result; duals = c.args.dual; columns = c.in_ok-columns.columns.items; rows = c.in_ok-rows.rows.items; offset = c.in_sense-offset.result; undos = c.close-ended.result.records.items } in
+    let is : IsToldOf c.args.dual c.args.source.now.kept c.args.book told = record {
+      sense = c.sense-2.ensures;
+      duals = refl;
+      undos = c.close-ended.ensures.records;
+      offset = c.in_sense-offset.ensures ∙ ap₂ (λ s q. signed s q) c.sense.ensures (c.offset.ensures ∙ ap (λ (p : Sparse). p.offset) c.problem-3.ensures);
+      row_names = c.in_ok-rows.ensures.names ∙ ap names_of_rows c.rows.ensures;
+      column_names = c.in_ok-columns.ensures.names ∙ ap names_of_columns c.columns.ensures;
+      rows = c.in_ok-rows.ensures.live ∙ ap are_live (c.rows-2.ensures ∙ ap (λ (p : Sparse). p.matrix.rows) c.problem.ensures);
+      columns = c.in_ok-columns.ensures.live ∙ ap are_live (c.columns-2.ensures ∙ ap (λ (p : Sparse). p.matrix.columns) c.problem-2.ensures);
+    } in
+    subst (IsToldOf c.args.dual program c.args.book) (sym c.new.ensures) (told_kept c.args.dual program c.args.source.now.kept c.args.book told c.requires.kept is)
 
 pub new-requires-clause-named : goal.new-requires-clause-named
 new-requires-clause-named c = record {
   rows = subst (All IsName) (sym (c.in_ok-rows.ensures.names ∙ ap names_of_rows c.rows.ensures))
-      (All-tail IsName c.args.program.now.objective (names_of_rows c.args.program.now.rows) c.objective-name.ensures.named.row_names);
+      (All-tail IsName c.args.source.now.kept.objective (names_of_rows c.args.source.now.kept.rows) c.objective-name.ensures.named.row_names);
   columns = subst (All IsName) (sym (c.in_ok-columns.ensures.names ∙ ap names_of_columns c.columns.ensures)) c.objective-name.ensures.named.column_names;
 }

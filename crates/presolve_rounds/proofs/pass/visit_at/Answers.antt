@@ -3,7 +3,7 @@ use Rattle.std.specs.List.{filter}
 use Rattle.presolve_model.specs.declared.instance.Instance.{Instance}
 use Rattle.presolve_model.specs.Enabled.{enabled_on}
 use Rattle.presolve_model.specs.Instances.{beside_at, instances_from}
-use Rattle.presolve_model.specs.Ledger.{Ledger}
+use Rattle.presolve_model.specs.Ledger.{instance_count, Ledger}
 use Rattle.presolve_model.specs.Tallies.{open_on}
 use Rattle.round_laws.proofs.Thinning.{passed_found}
 use Rattle.presolve_rounds.specs.Walking.{AreAlike, IsPassed}
@@ -22,7 +22,7 @@ visit_alike-requires-clause-alike c =
 
 pub returns-then-shares_reading : goal.returns-then-shares_reading
 returns-then-shares_reading c =
-    let a : Ledger = c.args.frozen.now.value in
+    let a : Ledger = c.args.walk.now.frozen.now.value in
     let b : Ledger = c.args.book.now in
     let found : c.as_slice.result.now ≡ filter (enabled_on b.problem) (instances_from (open_on b.tally) b.problem c.args.rule c.args.id) =
     c.as_slice.ensures.value ∙ c.in_ok-add_enabled.ensures
@@ -31,13 +31,13 @@ returns-then-shares_reading c =
     let h : IsPassed a (filter (enabled_on b.problem) (instances_from (open_on b.tally) b.problem c.args.rule c.args.id)) c.args.watch.now b c.visit_alike.new.watch c.visit_alike.new.book =
     subst (λ (es : List Instance). IsPassed a es c.args.watch.now b c.visit_alike.new.watch c.visit_alike.new.book) found c.in_ok-visit_alike.ensures in
     record {
-      passed = passed_found (open_on a.tally) a.problem c.args.rule c.args.id c.args.watch.now.marks c.visit_alike.new.watch.marks b c.visit_alike.new.book c.requires.going.follows h.passed;
+      passed = passed_found (open_on a.tally) a.problem (instance_count a) c.args.rule c.args.id c.args.watch.now.marks c.visit_alike.new.watch.marks b c.visit_alike.new.book c.requires.going.follows h.passed;
       forms = h.forms;
     }
 
 pub returns : goal.returns
 returns c =
-    let a : Ledger = c.args.frozen.now.value in
+    let a : Ledger = c.args.walk.now.frozen.now.value in
     let b : Ledger = c.args.book.now in
     let found : c.as_slice-2.result.now ≡ filter (enabled_on b.problem) (instances_from (open_on b.tally) b.problem c.args.rule c.args.id) =
     c.as_slice-2.ensures.value ∙ c.in_ok-add_enabled.ensures
@@ -46,7 +46,7 @@ returns c =
     let h : IsPassed a (filter (enabled_on b.problem) (instances_from (open_on b.tally) b.problem c.args.rule c.args.id)) c.args.watch.now b c.visit_found.new.watch c.visit_found.new.book =
     subst (λ (es : List Instance). IsPassed a es c.args.watch.now b c.visit_found.new.watch c.visit_found.new.book) found c.in_ok-visit_found.ensures in
     record {
-      passed = passed_found (open_on a.tally) a.problem c.args.rule c.args.id c.args.watch.now.marks c.visit_found.new.watch.marks b c.visit_found.new.book c.requires.going.follows h.passed;
+      passed = passed_found (open_on a.tally) a.problem (instance_count a) c.args.rule c.args.id c.args.watch.now.marks c.visit_found.new.watch.marks b c.visit_found.new.book c.requires.going.follows h.passed;
       forms = h.forms;
     }
 
@@ -55,7 +55,7 @@ add_enabled-requires c t = absurd (true≢false (sym t ∙ sym c.goes_by_groups.
 
 pub returns-then-goes_by_groups : goal.returns-then-goes_by_groups
 returns-then-goes_by_groups c =
-    let a : Ledger = c.args.frozen.now.value in
+    let a : Ledger = c.args.walk.now.frozen.now.value in
     let b : Ledger = c.args.book.now in
-    passed_lines a c.args.groups.now c.args.rule c.args.id c.args.watch.now c.visit_beside.new.watch b c.visit_beside.new.book c.requires.groups (sym c.goes_by_groups.ensures ∙ c.if-goes_by_groups.true) c.requires.going
+    passed_lines a c.args.walk.now.groups.now c.args.rule c.args.id c.args.watch.now c.visit_beside.new.watch b c.visit_beside.new.book c.requires.walk.groups (sym c.goes_by_groups.ensures ∙ c.if-goes_by_groups.true) c.requires.going
     (subst (λ (ks : List ℕ). IsPassed a (map (beside_at c.args.rule c.args.id) ks) c.args.watch.now b c.visit_beside.new.watch c.visit_beside.new.book) c.lines_beside-others.ensures c.in_ok-visit_beside.ensures)

@@ -6,4 +6,4 @@ use Rattle.presolve_rounds.proofs.pass.visit_each.Given as goal
 
 -- those so far
 abbrev pub invariant-loop-id : goal.invariant-loop-id
-invariant-loop-id l = IsPassed l.frozen.value (instances_at (open_on l.frozen.value.tally) l.frozen.value.problem l.rule (take l.id-index l.ids)) l.initial.watch l.initial.book l.watch l.book
+invariant-loop-id l = IsPassed l.walk.frozen.now.value (instances_at (open_on l.walk.frozen.now.value.tally) l.walk.frozen.now.value.problem l.rule (take l.id-index l.ids)) l.initial.watch l.initial.book l.watch l.book

@@ -4,4 +4,4 @@ use Rattle.presolve_rounds.proofs.pass.visit_found.Given as goal
 
 -- those so far
 abbrev pub invariant-loop-instance : goal.invariant-loop-instance
-invariant-loop-instance l = IsPassed l.frozen.value (take l.instance-index l.found) l.initial.watch l.initial.book l.watch l.book
+invariant-loop-instance l = IsPassed l.walk.frozen.now.value (take l.instance-index l.found) l.initial.watch l.initial.book l.watch l.book

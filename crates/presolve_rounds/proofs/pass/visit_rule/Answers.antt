@@ -5,5 +5,5 @@ use Rattle.presolve_rounds.specs.Walking.{IsPassed}
 use Rattle.presolve_rounds.proofs.pass.visit_rule.Goals as goal
 
 pub returns : goal.returns
-returns c = let a = c.args.frozen.now.value in
+returns c = let a = c.args.walk.now.frozen.now.value in
     subst (λ (ids : List ℕ). IsPassed a (instances_at (open_on a.tally) a.problem c.args.rule ids) c.args.watch.now c.args.book.now c.visit_each.new.watch c.visit_each.new.book) c.of.ensures c.in_ok-visit_each.ensures

@@ -6,4 +6,4 @@ use Rattle.presolve_rounds.proofs.pass.visit_rules.Given as goal
 
 -- those so far
 abbrev pub invariant-loop-rule : goal.invariant-loop-rule
-invariant-loop-rule l = IsPassed l.frozen.value (instances_of (open_on l.frozen.value.tally) l.frozen.value.problem l.ids (take l.rule-index l.rules)) l.initial.watch l.initial.book l.watch l.book
+invariant-loop-rule l = IsPassed l.walk.frozen.now.value (instances_of (open_on l.walk.frozen.now.value.tally) l.walk.frozen.now.value.problem l.ids (take l.rule-index l.rules)) l.initial.watch l.initial.book l.watch l.book

@@ -1,4 +1,3 @@
-use Rattle.std.proofs.Common.{length}
 use Rattle.presolve_rounds.proofs.Running.{full_decided, full_enabled}
 use Rattle.presolve_rounds.proofs.rounds.decide.Goals as goal
 
@@ -7,6 +6,5 @@ apply-requires c = record { enabled = full_enabled c.args.book.now c.args.verdic
 
 pub returns : goal.returns
 returns c =
-    let w = length c.args.book.now.history in
-    let d = full_decided c.args.book.now c.apply.new.self w c.args.verdict c.apply.result c.requires.undecided c.requires.full c.requires.first c.in_default.not-NoMemory (c.apply.ensures.outcome w) (c.apply.ensures.left w) in
+    let d = full_decided c.args.book.now c.apply.new.self _ c.args.verdict c.apply.result c.requires.undecided c.requires.full c.requires.first c.in_default.not-NoMemory c.apply.ensures.outcome c.apply.ensures.left in
     record { book = d.2; ordered = d.0; decided = d.1 }

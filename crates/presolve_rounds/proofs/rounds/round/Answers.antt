@@ -1,8 +1,8 @@
-use Rattle.std.proofs.Common.{List, ap₂, inl, refl, ◌∙◌, subst, sym}
+use Rattle.std.proofs.Common.{List, ap, ap₂, inl, refl, ◌∙◌, subst, sym}
 use Rattle.problem_model.specs.declared.part.Part.{Part}
 use Rattle.problem_model.specs.Sparse.{Sparse}
 use Rattle.line_groups.specs.Groups.{AreGroupsOf}
-use Rattle.presolve_model.specs.Ledger.{Ledger}
+use Rattle.presolve_model.specs.Ledger.{instance_count, Ledger}
 use Rattle.presolve_model.specs.Tallies.{open_on}
 use Rattle.place_laws.specs.Choosing.{HoldsAround, visited}
 use Rattle.round_marks.specs.Stamping.{AreStampsOf, restamped}
@@ -15,8 +15,12 @@ pass-requires-clause-going c =
     let ready = ready_begun c.args.book.now c.args.stamps.now c.args.ids.now c.args.watch.now c.begin_round.new.self c.requires.ready c.begin_round.ensures in
     subst (λ (a : Ledger). IsGoing a c.begin_round.new.self c.args.book.now) (sym c.of-frozen.ensures) (record { began = ready.follows.sparse; follows = ready.follows; forms = ready.forms; noted = λ x. inl refl })
 
-pub pass-requires-clause-stamps : goal.pass-requires-clause-stamps
-pass-requires-clause-stamps c = subst (λ (a : Ledger). AreStampsOf c.args.stamps.now a.problem) (sym c.of-frozen.ensures) c.requires.ready.stamps
+pub pass-requires-clause-walk : goal.pass-requires-clause-walk
+pass-requires-clause-walk c = record {
+  version = c.instance_count-version.ensures ∙ ap instance_count (sym c.of-frozen.ensures);
+  stamps = subst (λ (a : Ledger). AreStampsOf c.args.stamps.now a.problem) (sym c.of-frozen.ensures) c.requires.ready.stamps;
+  groups = subst (λ (a : Ledger). AreGroupsOf c.args.groups.now a.problem) (sym c.of-frozen.ensures) c.requires.groups;
+}
 
 pub returns-clause-committed : goal.returns-clause-committed
 returns-clause-committed c =
@@ -41,9 +45,6 @@ returns-clause-ready c =
     c.refresh.new.self _
     (c.refresh.ensures ∙ ap₂ (λ (p : Sparse) (ps : List Part). restamped c.args.stamps.now p ps) c.problem.ensures c.noted.ensures)
     c.in_ok-ids.ensures.sorted (subst (λ (p : Sparse). HoldsAround p c.pass.new.watch.marks c.in_ok-ids.field-0) c.problem-3.ensures c.in_ok-ids.ensures.holds)
-
-pub pass-requires-clause-groups : goal.pass-requires-clause-groups
-pass-requires-clause-groups c = subst (λ (a : Ledger). AreGroupsOf c.args.groups.now a.problem) (sym c.of-frozen.ensures) c.requires.groups
 
 pub returns-clause-groups : goal.returns-clause-groups
 returns-clause-groups c =

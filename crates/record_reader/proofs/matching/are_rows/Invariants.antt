@@ -1,6 +1,7 @@
 use Rattle.std.proofs.Common.{◌≡◌, length}
 use Rattle.lp_model.specs.Names.{names_of_rows}
-use Rattle.record_reader.specs.Matching.{live_names, same_names}
+use Rattle.undo_records.specs.Named.{live_names}
+use Rattle.record_reader.specs.Matching.{same_names}
 use Rattle.record_reader.proofs.matching.are_rows.Given as goal
 
 abbrev pub invariant-loop-rest : goal.invariant-loop-rest

@@ -10,7 +10,7 @@ returns-clause-counts c =
     let history : c.as_slice.result.now ≡ c.args.run.book.history = c.as_slice.ensures.value ∙ c.close-ended.ensures.history in
     let applied : c.as_slice-4.result.now ≡ applied_in c.args.run.book = c.as_slice-4.ensures.value ∙ c.in_ok-applied.ensures ∙ (λ t. map at.Reduction (history t) ++ closing (c.close-ended.ensures.verdict t)) in
     counted c.args.run.book c.args.run.held.items _ _ _ _ c.in_ok-counts.counts.items c.in_ok-counts.ensures applied (c.as_slice-5.ensures.value ∙ c.in_ok-refused.ensures ∙ ap refused_in c.as_slice-2.ensures.value)
-    (c.as_slice-6.ensures.value ∙ c.in_ok-left.ensures ∙ ap left_in c.as_slice-3.ensures.value) c.all_rules.ensures
+    (c.as_slice-6.ensures.value ∙ c.in_ok-left.ensures ∙ ap left_in c.as_slice-3.ensures.value) (c.as_slice-7.ensures.value ∙ c.in_ok-rules.ensures)
 
 pub returns-clause-adds_up : goal.returns-clause-adds_up
 returns-clause-adds_up c =

@@ -18,7 +18,7 @@ returns c =
     let notes : Notes d.problem changed c.args.self.now c.note.new.self =
     subst (λ (ps : List Part). Notes d.problem ps c.args.self.now c.note.new.self) c.as_slice.ensures.value (subst (λ (q : Sparse). Notes q c.as_slice.result.now c.args.self.now c.note.new.self) c.problem.ensures c.in_ok-note.ensures) in
     let size : SameSize b.problem d.problem =
-    subst (λ (x : Ledger). SameSize b.problem x.problem) (sym (c.apply-outcome.ensures.left 0)) (size_left b (proposal_of b.problem 0 c.args.instance) c.apply-outcome.result) in
+    subst (λ (x : Ledger). SameSize b.problem x.problem) (sym c.apply-outcome.ensures.left) (size_left b (proposal_of b.problem c.args.version c.args.instance) c.apply-outcome.result) in
     record {
       answered = c.in_default.not-NoMemory;
       outcome = c.apply-outcome.ensures.outcome;

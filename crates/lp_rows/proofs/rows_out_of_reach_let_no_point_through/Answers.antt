@@ -1,8 +1,0 @@
-use Rattle.lp_rows.proofs.OutOfReach.{above_upper_side, below_lower_side}
-use Rattle.lp_rows.proofs.rows_out_of_reach_let_no_point_through.Goals as goal
-
-pub returns-clause-above : goal.returns-clause-above
-returns-clause-above c = above_upper_side
-
-pub returns-clause-below : goal.returns-clause-below
-returns-clause-below c = below_lower_side

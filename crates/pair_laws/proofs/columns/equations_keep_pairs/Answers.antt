@@ -1,5 +1,0 @@
-use Rattle.pair_laws.proofs.ColumnPairs.{equation_pair}
-use Rattle.pair_laws.proofs.columns.equations_keep_pairs.Goals as goal
-
-pub returns : goal.returns
-returns c = equation_pair

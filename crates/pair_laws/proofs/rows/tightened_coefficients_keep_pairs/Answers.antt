@@ -1,5 +1,0 @@
-use Rattle.pair_laws.proofs.RowPairs.{coefficient_pair}
-use Rattle.pair_laws.proofs.rows.tightened_coefficients_keep_pairs.Goals as goal
-
-pub returns : goal.returns
-returns c = coefficient_pair

@@ -1,5 +1,0 @@
-use Rattle.parallel_column_laws.proofs.ParallelColumns.{owes}
-use Rattle.parallel_column_laws.proofs.parallel_columns_can_be_joined.Goals as goal
-
-pub returns : goal.returns
-returns c = owes

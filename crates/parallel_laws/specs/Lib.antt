@@ -1,0 +1,2 @@
+pub mod ParallelColumns
+pub mod ParallelRows

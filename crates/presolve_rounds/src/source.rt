@@ -1,0 +1,46 @@
+//! The program that a run began with. Its entries are those of the problem that was made of it, and are kept there alone.
+
+ghost use Rattle.std.specs.Prelude.{◌≡◌, map};
+ghost use Rattle.presolve_rounds.specs.Sources.{emptied, given, IsKept};
+
+use lp_model::{ColumnDef, Program, Terms};
+use std::alloc::Global;
+use std::snapshot::Snapshot;
+
+/// A program of which the entries are gone. What it was is known to contracts alone.
+#[derive(Drop)]
+pub struct Source {
+    pub given: Snapshot<Program>,
+    pub kept: Program,
+}
+
+/// Takes the entries out of a column.
+fn empty_column(alloc: Global, column: &mut ColumnDef)
+    ensures { column.new ≡ emptied column.old }
+{
+    column.entries = Terms::empty(alloc);
+}
+
+/// Takes the entries out of columns.
+fn empty_columns(alloc: Global, columns: &mut Vec<ColumnDef>)
+    ensures { columns.new.items ≡ map emptied columns.old.items }
+{
+    for one in columns.iter_mut() {
+        empty_column(alloc, one);
+    }
+}
+
+/// Lets the entries of a program go. Its names, sides, bounds and costs stay.
+pub fn source_of(alloc: Global, program: Program) -> Source
+    ensures given { given result ≡ program }
+    ensures kept { IsKept result }
+{
+    let given = Snapshot::of(&program);
+    let sense = program.sense();
+    let constant = program.constant();
+    let (objective, rows, columns) = program.into_parts();
+    let mut columns = columns.into_vec();
+    empty_columns(alloc, &mut columns);
+    let kept = Program::new(sense, objective, constant, rows.into_vec(), columns);
+    Source { given, kept }
+}

@@ -1,0 +1,7 @@
+mod Joined
+mod Back
+mod OneLifting
+mod Layers
+mod OneCheck
+mod OnePostsolve
+mod OnePresolve

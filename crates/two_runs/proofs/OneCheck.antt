@@ -1,0 +1,232 @@
+-- What check says of the same bytes is one.
+use Rattle.std.proofs.Common.{◌≡◌, ◌⊎◌, inl, inr, ℕ, ◌<◌, ◌≤◌, true, false, List, [], ◌∷◌, ◌++◌, codes, length, Option, Some, None, sym, ap, ◌∙◌, subst, arith}
+use Rattle.std.proofs.lemmas.Bool.{cases_lt}
+use Rattle.rational.specs.Number.{Number}
+use Rattle.file_ports.specs.Ports.{Moment}
+use Rattle.command_words.specs.Names.{CheckNames}
+use Rattle.lp_model.specs.LinearProgram.{LinearProgram}
+use Rattle.lp_model.specs.Meaning.{meaning}
+use Rattle.lp_model.specs.Optimality.{Continuous}
+use Rattle.lp_model.specs.ProgramData.{ProgramData}
+use Rattle.lp_model.specs.Vectors.{Vector, vector_of}
+use Rattle.lp_model.specs.declared.program.Sense.{Sense}
+use Rattle.lp_check.specs.Deciding.{Decides}
+use Rattle.lp_check.specs.DecidingPairs.{DecidesPair}
+use Rattle.lp_check.specs.FirstWhole.{IsFirstWhole}
+use Rattle.lp_check.specs.declared.pair_verdicts.PairVerdict.{PairVerdict}
+use Rattle.lp_check.specs.declared.verdicts.Verdict.{Verdict}
+use Rattle.mps_profile.specs.Reading.{first_fault}
+use Rattle.mps_profile.specs.declared.faults.MpsFaultKind.{MpsFaultKind}
+use Rattle.point_text.specs.declared.faults.SolFaultKind.{SolFaultKind}
+use Rattle.endings.specs.Continuity.{NamesFirstWhole, not_continuous_text}
+use Rattle.endings.specs.Moments.{Reads}
+use Rattle.endings.specs.Forms.{dialect_in}
+use Rattle.endings.specs.ProgramTexts.{IsFaultOf, IsProgramOf, mps_fault_text, program_in, SaysFaultOf}
+use Rattle.endings.specs.declared.forms.ProgramFault.TheVariants.{Mps}
+use Rattle.endings.specs.SolutionTexts.{fault_of, IsPairOf, SaysPairFault, solution_fault_text}
+use Rattle.endings.specs.declared.reads.TheConstants.{INPUT_LIMIT, SOLUTION_LIMIT}
+use Rattle.check_command.specs.Checked.{check_form, IsChecked, IsJudged, IsNotContinuous, IsProgramIn, RefusesProgram, RefusesSolution, SaysCheck}
+use Rattle.check_command.specs.VerdictText.{pair_verdict_text, status_of_pair_verdict, status_of_verdict, verdict_text}
+use Rattle.two_runs.specs.Runs.{duals_in, Holds, point_in}
+use Rattle.two_runs.specs.SameAnswers.{ChecksAreOne, IsOfBytes}
+use Rattle.two_runs.proofs.Layers.{at_status, either, Layer, layer_same, longer_held, read_held}
+
+abbrev pub ProgramFault : Type 0
+ProgramFault = MpsFaultKind × ℕ
+
+abbrev pub SolutionFault : Type 0
+SolutionFault = SolFaultKind × ℕ
+
+abbrev pub program_line : ProgramFault → List ℕ
+program_line k = mps_fault_text (record { kind = k.0; line = k.1 })
+
+abbrev pub solution_line : SolutionFault → List ℕ
+solution_line k = solution_fault_text (record { kind = k.0; line = k.1 })
+
+abbrev pub program_over : List ℕ
+program_over = codes "error M17" ++ 10 ∷ []
+
+abbrev pub solution_over : List ℕ
+solution_over = codes "error S6" ++ 10 ∷ []
+
+-- ---- the first column that has to be whole
+pub whole_same : (M : LinearProgram) (j k : ℕ) → IsFirstWhole M j → IsFirstWhole M k → j ≡ k
+whole_same M j k a b = by (cases_lt j k) (cases_lt k j)
+  where
+    by : (j < k) ⊎ (k ≤ j) → (k < j) ⊎ (j ≤ k) → j ≡ k
+    by (inl l) m = absurd (let e : false ≡ true = sym (b.first j l) ∙ a.whole in cc)
+    by (inr n) (inl m) = absurd (let e : false ≡ true = sym (a.first k m) ∙ b.whole in cc)
+    by (inr n) (inr m) = omega (arith, n, m)
+
+pub whole_line_same : (program : ProgramData) (said more : List ℕ) → NamesFirstWhole program said → NamesFirstWhole program more → said ≡ more
+whole_line_same program said more a b = a.line ∙ ap (not_continuous_text program) (whole_same (meaning program) a.column b.column a.whole b.whole) ∙ sym b.line
+
+pub whole_not_continuous : (M : LinearProgram) (j : ℕ) → IsFirstWhole M j → Continuous M → ⊥
+whole_not_continuous M j a c = let e : false ≡ true = sym (c j a.column) ∙ a.whole in cc
+
+-- ---- a verdict
+module _ (program : ProgramData) (solution : List ℕ) where
+  abbrev point : List Number
+  point = point_in program solution
+
+  abbrev duals : Option (List Number)
+  duals = duals_in program solution
+
+  -- on the point
+  record OfPoint (s : ℕ) (said : List ℕ) : Type 0 where
+    alone : duals ≡ None
+    verdict : Verdict
+    decides : Decides (meaning program) (vector_of point) verdict
+    answers : status_of_verdict verdict ≡ s
+    line : said ≡ verdict_text program verdict
+
+  -- on the point with its duals
+  record OfPair (s : ℕ) (said : List ℕ) : Type 0 where
+    prices : List Number
+    given : duals ≡ Some prices
+    continuous : Continuous (meaning program)
+    verdict : PairVerdict
+    decides : DecidesPair program.sense (meaning program) (vector_of point) (vector_of prices) verdict
+    answers : status_of_pair_verdict verdict ≡ s
+    line : said ≡ pair_verdict_text program verdict
+
+  -- none, since a column has to be whole
+  record OfWhole (s : ℕ) (said : List ℕ) : Type 0 where
+    prices : List Number
+    given : duals ≡ Some prices
+    refused : s ≡ 2
+    names : NamesFirstWhole program said
+
+  abbrev Told : ℕ → List ℕ → Type 0
+  Told s said = OfPoint s said ⊎ (OfPair s said ⊎ OfWhole s said)
+
+  none_or_some : (ys : List Number) → duals ≡ None → duals ≡ Some ys → ⊥
+  none_or_some ys a b = let e : None ≡ Some ys = sym a ∙ b in cc
+
+  some_same : (ys zs : List Number) → duals ≡ Some ys → duals ≡ Some zs → ys ≡ zs
+  some_same ys zs a b = let e : Some ys ≡ Some zs = sym a ∙ b in cc
+
+  module _ (one_verdict : (M : LinearProgram) (x : Vector) (v w : Verdict) → Decides M x v → Decides M x w → v ≡ w)
+      (one_pair_verdict : (d : Sense) (M : LinearProgram) (x y : Vector) (v w : PairVerdict) → DecidesPair d M x y v → DecidesPair d M x y w → v ≡ w) (s t : ℕ) (said more : List ℕ) where
+    points_same : OfPoint s said → OfPoint t more → (s ≡ t) × (said ≡ more)
+    points_same a b =
+        let e : a.verdict ≡ b.verdict = one_verdict (meaning program) (vector_of point) a.verdict b.verdict a.decides b.decides in
+        (sym a.answers ∙ ap status_of_verdict e ∙ b.answers, a.line ∙ ap (verdict_text program) e ∙ sym b.line)
+
+    pairs_same : OfPair s said → OfPair t more → (s ≡ t) × (said ≡ more)
+    pairs_same a b =
+        let same : b.prices ≡ a.prices = some_same b.prices a.prices b.given a.given in
+        let e : a.verdict ≡ b.verdict = one_pair_verdict program.sense (meaning program) (vector_of point) (vector_of a.prices) a.verdict b.verdict a.decides
+        (subst (λ (ys : List Number). DecidesPair program.sense (meaning program) (vector_of point) (vector_of ys) b.verdict) same b.decides) in
+        (sym a.answers ∙ ap status_of_pair_verdict e ∙ b.answers, a.line ∙ ap (pair_verdict_text program) e ∙ sym b.line)
+
+    told_same : Told s said → Told t more → (s ≡ t) × (said ≡ more)
+    told_same (inl a) (inl b) = points_same a b
+    told_same (inl a) (inr (inl b)) = absurd (none_or_some b.prices a.alone b.given)
+    told_same (inl a) (inr (inr b)) = absurd (none_or_some b.prices a.alone b.given)
+    told_same (inr (inl a)) (inl b) = absurd (none_or_some a.prices b.alone a.given)
+    told_same (inr (inr a)) (inl b) = absurd (none_or_some a.prices b.alone a.given)
+    told_same (inr (inl a)) (inr (inl b)) = pairs_same a b
+    told_same (inr (inl a)) (inr (inr b)) = absurd (whole_not_continuous (meaning program) b.names.column b.names.whole a.continuous)
+    told_same (inr (inr a)) (inr (inl b)) = absurd (whole_not_continuous (meaning program) a.names.column a.names.whole b.continuous)
+    told_same (inr (inr a)) (inr (inr b)) = (a.refused ∙ sym b.refused, whole_line_same program said more a.names b.names)
+
+-- ---- of two texts
+module _ (names : CheckNames) (input solution : List ℕ) where
+  abbrev program : ProgramData
+  program = program_in (check_form names) input
+
+  abbrev OfSolution : ℕ → List ℕ → Type 0
+  OfSolution s said = Layer SOLUTION_LIMIT solution solution_over (fault_of program solution) solution_line 8 s said (Told program solution s said)
+
+  abbrev OfTexts : ℕ → List ℕ → Type 0
+  OfTexts s said = Layer INPUT_LIMIT input program_over (first_fault (dialect_in (check_form names)) input) program_line 2 s said (OfSolution s said)
+
+  module _ (before : Moment) (at_input : Holds before names.input input) (at_solution : Holds before names.solution solution) where
+    -- IN's program is the program
+    in_program : (p : ProgramData) → IsProgramIn names before p → (length input ≤ INPUT_LIMIT) × IsProgramOf (check_form names) input p
+    in_program p h = read_held INPUT_LIMIT (before.told names.input) input (λ text. IsProgramOf (check_form names) text p) at_input h
+
+    under : (s : ℕ) (said : List ℕ) (P : ProgramData → Type 0) → (p : ProgramData) × IsProgramIn names before p × P p → (P program → OfSolution s said) → OfTexts s said
+    under s said P (p, h, q) f = let r = in_program p h in inr (r.0, r.1.0, f (subst P r.1.1 q))
+
+    refused_input : (s : ℕ) (said : List ℕ) (now : Moment) → s ≡ 2 → SaysFaultOf INPUT_LIMIT (check_form names) names.input said before now → OfTexts s said
+    refused_input s said now e (inl (Mps fault, h, line)) =
+        let r = read_held INPUT_LIMIT (before.told names.input) input (λ text. IsFaultOf (check_form names) text (Mps fault)) at_input h in
+        inl (e, inr (r.0, ((fault.kind, fault.line), r.1, line)))
+    refused_input s said now e (inr (over, line)) = inl (e, inl (longer_held INPUT_LIMIT (before.told names.input) input at_input over.0, line))
+
+    refused_solution : (s : ℕ) (said : List ℕ) (now : Moment) → s ≡ 8 → SaysPairFault program names.solution said before now → OfSolution s said
+    refused_solution s said now e (inl (fault, h, line)) =
+        let r = read_held SOLUTION_LIMIT (before.told names.solution) solution (λ text. fault_of program text ≡ Some (fault.kind, fault.line)) at_solution h in
+        inl (e, inr (r.0, ((fault.kind, fault.line), r.1, line)))
+    refused_solution s said now e (inr (over, line)) = inl (e, inl (longer_held SOLUTION_LIMIT (before.told names.solution) solution at_solution over.0, line))
+
+    -- SOL's point and duals
+    in_pair : (xs : List Number) (ys : Option (List Number)) → Reads SOLUTION_LIMIT (before.told names.solution) (λ text. IsPairOf program text xs ys) → (length solution ≤ SOLUTION_LIMIT) × IsPairOf program solution xs ys
+    in_pair xs ys h = read_held SOLUTION_LIMIT (before.told names.solution) solution (λ text. IsPairOf program text xs ys) at_solution h
+
+    judged : (k s : ℕ) (said : List ℕ) → s ≡ k → IsJudged program (before.told names.solution) k said → OfSolution s said
+    judged k s said e (inl a) =
+        let r = in_pair a.point None a.given in
+        inr (
+          r.0,
+          r.1.0,
+          inl (record {
+            alone = sym r.1.2;
+            verdict = a.verdict;
+            decides = subst (λ (xs : List Number). Decides (meaning program) (vector_of xs) a.verdict) r.1.1 a.decides;
+            answers = a.answers ∙ sym e;
+            line = a.said;
+          }),
+        )
+    judged k s said e (inr a) =
+        let r = in_pair a.point (Some a.duals) a.given in
+        inr (
+          r.0,
+          r.1.0,
+          inr (inl (record {
+            prices = a.duals;
+            given = sym r.1.2;
+            continuous = a.continuous;
+            verdict = a.verdict;
+            decides = subst (λ (xs : List Number). DecidesPair program.sense (meaning program) (vector_of xs) (vector_of a.duals) a.verdict) r.1.1 a.decides;
+            answers = a.answers ∙ sym e;
+            line = a.said;
+          })),
+        )
+
+    not_continuous : (s : ℕ) (said : List ℕ) → s ≡ 2 → IsNotContinuous program (before.told names.solution) said → OfSolution s said
+    not_continuous s said e a =
+        let r = in_pair a.point (Some a.duals) a.given in
+        inr (r.0, r.1.0, inr (inr (record { prices = a.duals; given = sym r.1.2; refused = e; names = a.names })))
+
+    -- at each status
+    checked : (k s : ℕ) (said : List ℕ) → s ≡ k → IsChecked names k said before → OfTexts s said
+    checked k s said e h = under s said (λ p. IsJudged p (before.told names.solution) k said) h (judged k s said e)
+
+    refuses_program : (s : ℕ) (said : List ℕ) (now : Moment) → s ≡ 2 → RefusesProgram names said before now → OfTexts s said
+    refuses_program s said now e (inl h) = refused_input s said now e h
+    refuses_program s said now e (inr h) = under s said (λ p. IsNotContinuous p (before.told names.solution) said) h (not_continuous s said e)
+
+    refuses_solution : (s : ℕ) (said : List ℕ) (now : Moment) → s ≡ 8 → RefusesSolution names said before now → OfTexts s said
+    refuses_solution s said now e h = under s said (λ p. SaysPairFault p names.solution said before now) h (refused_solution s said now e)
+
+    told_of : (s : ℕ) (said : List ℕ) (now : Moment) → IsOfBytes s → SaysCheck names s said before now → OfTexts s said
+    told_of s said now b w0 =
+        either (at_status s 0 _ _ w0) (λ h. checked 0 s said h.0 h.1)
+        (λ w2. either (at_status s 2 _ _ w2) (λ h. refuses_program s said now h.0 h.1)
+        (λ w3. either (at_status s 3 _ _ w3) (λ h. absurd (b.read h.0))
+        (λ w5. either (at_status s 5 _ _ w5) (λ h. absurd (b.made h.0))
+        (λ w6. either (at_status s 6 _ _ w6) (λ h. checked 6 s said h.0 h.1)
+        (λ w8. either (at_status s 8 _ _ w8) (λ h. refuses_solution s said now h.0 h.1)
+        (λ w9. either (at_status s 9 _ _ w9) (λ h. checked 9 s said h.0 h.1)
+        (λ none. absurd none)))))))
+
+pub check_same : ((M : LinearProgram) (x : Vector) (v w : Verdict) → Decides M x v → Decides M x w → v ≡ w)
+    → ((d : Sense) (M : LinearProgram) (x y : Vector) (v w : PairVerdict) → DecidesPair d M x y v → DecidesPair d M x y w → v ≡ w) → ChecksAreOne
+check_same one pair names s t said more before now then later (input, i, j) (solution, k, l) b c x y =
+    let p : ProgramData = program_in (check_form names) input in
+    layer_same INPUT_LIMIT input program_over (first_fault (dialect_in (check_form names)) input) program_line 2 s t said more
+    (told_of names input solution before i k s said now b x.says) (told_of names input solution then j l t more later c y.says)
+    (λ q r. layer_same SOLUTION_LIMIT solution solution_over (fault_of p solution) solution_line 8 s t said more q r (told_same p solution one pair s t said more))

@@ -1,0 +1,119 @@
+-- What records make of a point, or of a point with duals, is one.
+use Rattle.std.proofs.Common.{◌≡◌, ◌⊎◌, inl, inr, ℕ, zero, suc, pred, ◌<◌, ◌≤◌, List, [], ◌∷◌, drop, length, Option, Some, None, sym, refl, ap, ap₂, ◌∙◌, arith}
+use Rattle.std.proofs.lemmas.Bool.{cases_lt}
+use Rattle.rational.specs.Number.{Number}
+use Rattle.lp_model.specs.LinearProgram.{LinearProgram}
+use Rattle.lp_model.specs.Meaning.{meaning}
+use Rattle.lp_model.specs.ProgramData.{ProgramData}
+use Rattle.lp_model.specs.Reductions.{Priced}
+use Rattle.lp_model.specs.Vectors.{Vector, vector_of}
+use Rattle.lp_prices.specs.Prices.{ReducedCostsFit}
+use Rattle.undo_records.specs.Postsolve.{Postsolve}
+use Rattle.undo_records.specs.Room.{LiftFits, StopsAt}
+use Rattle.undo_records.specs.declared.undo.Undo.{Undo}
+use Rattle.undo_pairs.specs.Numbers.{started}
+use Rattle.postsolve_dual.specs.PairRoom.{IsFirstPast, LiftPairFits, PairStopsAt}
+use Rattle.postsolve_command.specs.Lifted.{IsLift, IsLifted, IsPairLift, point_at, Stops, stop_text, unpriced_text}
+
+-- ---- as many numbers, the same by id
+numbers_same : (xs ys : List Number) → length xs ≡ length ys → vector_of xs ≡ vector_of ys → xs ≡ ys
+numbers_same [] [] e h = refl
+numbers_same [] (y ∷ ys) e h = absurd (omega (arith, e))
+numbers_same (x ∷ xs) [] e h = absurd (omega (arith, e))
+numbers_same (x ∷ xs) (y ∷ ys) e h =
+    let rest : Vector → Vector = λ v k. v (suc k) in
+    ap₂ (λ (z : Number) (zs : List Number). z ∷ zs) (ap (λ (v : Vector). v zero) h) (numbers_same xs ys (omega (arith, e)) (ap rest h))
+
+-- ---- of records of which those from one on have room, those from a later one on have it
+module _ (x : Vector) where
+  fits_drop : (us : List Undo) (b : ℕ) → LiftFits us x → LiftFits (drop b us) x
+  fits_drop us zero h = h
+  fits_drop [] (suc b) h = tt
+  fits_drop (u ∷ us) (suc b) h = fits_drop us b h.0
+
+  fits_later : (us : List Undo) (a b : ℕ) → a ≤ b → LiftFits (drop a us) x → LiftFits (drop b us) x
+  fits_later us zero b l h = fits_drop us b h
+  fits_later us (suc a) zero l h = absurd (omega (arith, l))
+  fits_later [] (suc a) (suc b) l h = tt
+  fits_later (u ∷ us) (suc a) (suc b) l h = fits_later us a b (omega (arith, l)) h
+
+  not_later : (us : List Undo) (a b : ℕ) → StopsAt us x a → StopsAt us x b → a < b → ⊥
+  not_later us a zero s t l = omega (arith, l)
+  not_later us a (suc b) s t l = t.here (fits_later us a b (omega (arith, l)) s.after)
+
+  stop_same : (us : List Undo) (a b : ℕ) → StopsAt us x a → StopsAt us x b → a ≡ b
+  stop_same us a b s t = by (cases_lt a b) (cases_lt b a)
+    where
+      by : (a < b) ⊎ (b ≤ a) → (b < a) ⊎ (a ≤ b) → a ≡ b
+      by (inl l) m = absurd (not_later us a b s t l)
+      by (inr g) (inl m) = absurd (not_later us b a t s m)
+      by (inr g) (inr k) = omega (arith, g, k)
+
+-- the same of pairs
+module _ (p : Priced) where
+  pair_drop : (us : List Undo) (b : ℕ) → LiftPairFits us p → LiftPairFits (drop b us) p
+  pair_drop us zero h = h
+  pair_drop [] (suc b) h = tt
+  pair_drop (u ∷ us) (suc b) h = pair_drop us b h.0
+
+  pair_later : (us : List Undo) (a b : ℕ) → a ≤ b → LiftPairFits (drop a us) p → LiftPairFits (drop b us) p
+  pair_later us zero b l h = pair_drop us b h
+  pair_later us (suc a) zero l h = absurd (omega (arith, l))
+  pair_later [] (suc a) (suc b) l h = tt
+  pair_later (u ∷ us) (suc a) (suc b) l h = pair_later us a b (omega (arith, l)) h
+
+  pair_not_later : (us : List Undo) (a b : ℕ) → PairStopsAt us p a → PairStopsAt us p b → a < b → ⊥
+  pair_not_later us a zero s t l = omega (arith, l)
+  pair_not_later us a (suc b) s t l = t.here (pair_later us a b (omega (arith, l)) s.after)
+
+  pair_stop_same : (us : List Undo) (a b : ℕ) → PairStopsAt us p a → PairStopsAt us p b → a ≡ b
+  pair_stop_same us a b s t = by (cases_lt a b) (cases_lt b a)
+    where
+      by : (a < b) ⊎ (b ≤ a) → (b < a) ⊎ (a ≤ b) → a ≡ b
+      by (inl l) m = absurd (pair_not_later us a b s t l)
+      by (inr g) (inl m) = absurd (pair_not_later us b a t s m)
+      by (inr g) (inr k) = omega (arith, g, k)
+
+-- ---- the first reduced cost without room
+first_same : (M : LinearProgram) (y : Vector) (j k : ℕ) → IsFirstPast M y j → IsFirstPast M y k → j ≡ k
+first_same M y j k f g = by (cases_lt j k) (cases_lt k j)
+  where
+    by : (j < k) ⊎ (k ≤ j) → (k < j) ⊎ (j ≤ k) → j ≡ k
+    by (inl l) m = absurd (f.here (g.before j l))
+    by (inr n) (inl m) = absurd (g.here (f.before k m))
+    by (inr n) (inr m) = omega (arith, n, m)
+
+not_all : (M : LinearProgram) (y : Vector) (j : ℕ) → IsFirstPast M y j → ReducedCostsFit M y → ⊥
+not_all M y j f all = f.here (all j f.within)
+
+-- ---- the lift
+module _ (records : Postsolve) (program : ProgramData) (point : List Number) where
+  points_same : (xs ys : List Number) → IsLift records point xs → IsLift records point ys → xs ≡ ys
+  points_same xs ys a b = numbers_same xs ys (a.size ∙ sym b.size) (a.is ∙ sym b.is)
+
+  pairs_same : (ds xs ys us vs : List Number) → IsPairLift records program point ds xs us → IsPairLift records program point ds ys vs → (xs ≡ ys) × (us ≡ vs)
+  pairs_same ds xs ys us vs a b = (numbers_same xs ys (a.size ∙ sym b.size) (a.is ∙ sym b.is), numbers_same us vs (a.prices_size ∙ sym b.prices_size) (a.prices_are ∙ sym b.prices_are))
+
+  pub lifted_same : (duals : Option (List Number)) (xs ys : List Number) (us vs : Option (List Number)) → IsLifted records program point duals xs us → IsLifted records program point duals ys vs → (xs ≡ ys) × (us ≡ vs)
+  lifted_same None xs ys None None a b = (points_same xs ys a b, refl)
+  lifted_same None xs ys None (Some vs) a b = absurd b
+  lifted_same None xs ys (Some us) vs a b = absurd a
+  lifted_same (Some ds) xs ys None vs a b = absurd a
+  lifted_same (Some ds) xs ys (Some us) None a b = absurd b
+  lifted_same (Some ds) xs ys (Some us) (Some vs) a b = let e = pairs_same ds xs ys us vs a b in (e.0, ap (λ (zs : List Number). Some zs) e.1)
+
+  -- ---- where it stops
+  pub stopped_same : (duals : Option (List Number)) (said other : List ℕ) → Stops records program point duals said → Stops records program point duals other → said ≡ other
+  stopped_same None said other (a, s, e) (b, t, f) = e ∙ ap stop_text (stop_same (point_at records point) records.undos a b s t) ∙ sym f
+  stopped_same (Some ds) said other (inl (j, s, e)) (inl (k, t, f)) = e ∙ ap (unpriced_text program) (first_same (meaning program) (vector_of ds) j k s t) ∙ sym f
+  stopped_same (Some ds) said other (inl (j, s, e)) (inr (all, t)) = absurd (not_all (meaning program) (vector_of ds) j s all)
+  stopped_same (Some ds) said other (inr (all, s)) (inl (k, t, f)) = absurd (not_all (meaning program) (vector_of ds) k t all)
+  stopped_same (Some ds) said other (inr (all, (a, s, e))) (inr (_, (b, t, f))) = e ∙ ap stop_text (pair_stop_same (started records program point ds) records.undos a b s t) ∙ sym f
+
+  -- ---- never both
+  pub lifted_or_stopped : (duals : Option (List Number)) (xs : List Number) (us : Option (List Number)) (said : List ℕ) → IsLifted records program point duals xs us → Stops records program point duals said → ⊥
+  lifted_or_stopped None xs None said l (a, s, e) = s.here (fits_drop (point_at records point) records.undos (pred a) l.fits)
+  lifted_or_stopped None xs (Some us) said l s = l
+  lifted_or_stopped (Some ds) xs None said l s = l
+  lifted_or_stopped (Some ds) xs (Some us) said l (inl (j, s, e)) = not_all (meaning program) (vector_of ds) j s l.priced
+  lifted_or_stopped (Some ds) xs (Some us) said l (inr (all, (a, s, e))) = s.here (pair_drop (started records program point ds) records.undos (pred a) l.fits)

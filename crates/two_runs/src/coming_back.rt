@@ -1,0 +1,16 @@
+//! What a presolve and a later postsolve say together.
+
+ghost use Rattle.two_runs.specs.ComingBack.{BestComesBack, FeasibleComesBack, ProofComesBack};
+
+use point_text::written_pair_is_read;
+
+/// A presolve leaves OUT and REC, and a later postsolve finds them so. Then a feasible SOL of OUT is brought back to a feasible RESULT of IN
+/// that costs the printed offset more, and a best one to a best one. With duals a proof that SOL is best is brought back to a proof that
+/// RESULT is.
+pub fn solutions_come_back_from_two_runs()
+    ensures feasible { FeasibleComesBack }
+    ensures best { BestComesBack }
+    ensures proof { ProofComesBack }
+{
+    written_pair_is_read();
+}

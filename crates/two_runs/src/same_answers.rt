@@ -1,0 +1,43 @@
+//! What is said of the same programs, points and records is one; and so is what a command prints and writes of the same bytes.
+
+ghost use Rattle.std.specs.Prelude.{◌≡◌, ℕ, List, Option};
+ghost use Rattle.rational.specs.Number.{Number};
+ghost use Rattle.lp_model.specs.ProgramData.{ProgramData};
+ghost use Rattle.undo_records.specs.Postsolve.{Postsolve};
+ghost use Rattle.postsolve_command.specs.Lifted.{IsLifted, Stops};
+ghost use Rattle.two_runs.specs.SameAnswers.{ChecksAreOne, PostsolvesAreOne, PresolvesAreOne};
+
+use lp_check::laws::{verdicts_are_one, verdicts_with_duals_are_one};
+use run_laws::conclusions_are_one;
+
+/// What records make of a point, with its duals if it has duals, is one: the lifted numbers; or where they have no room, the line that says
+/// so; and never both.
+pub fn liftings_are_one()
+    ensures lifted { (records : Postsolve) (program : ProgramData) (point : List Number) (duals : Option (List Number)) (xs ys : List Number) (us vs : Option (List Number))
+        → IsLifted records program point duals xs us → IsLifted records program point duals ys vs → (xs ≡ ys) × (us ≡ vs) }
+    ensures stopped { (records : Postsolve) (program : ProgramData) (point : List Number) (duals : Option (List Number)) (said more : List ℕ)
+        → Stops records program point duals said → Stops records program point duals more → said ≡ more }
+    ensures apart { (records : Postsolve) (program : ProgramData) (point : List Number) (duals : Option (List Number)) (xs : List Number) (us : Option (List Number)) (said : List ℕ)
+        → IsLifted records program point duals xs us → Stops records program point duals said → ⊥ }
+{}
+
+/// `presolve` with the same words on the same IN ends with the same status, and prints the same; and it leaves the same OUT and REC. That is
+/// so where no read and no write failed, and memory did not run out.
+pub fn presolves_are_one()
+    ensures { PresolvesAreOne }
+{
+    conclusions_are_one();
+}
+
+/// The same of `check`, on the same IN and SOL. It writes nothing.
+pub fn checks_are_one()
+    ensures { ChecksAreOne }
+{
+    verdicts_are_one();
+    verdicts_with_duals_are_one();
+}
+
+/// The same of `postsolve`, on the same OUT, REC and SOL: it leaves the same RESULT.
+pub fn postsolves_are_one()
+    ensures { PostsolvesAreOne }
+{}

@@ -1,0 +1,2 @@
+pub mod LiftPair
+pub mod Numbers

@@ -1,0 +1,32 @@
+//! The record of K10.
+
+ghost use Rattle.std.specs.Prelude.{◌≡◌, ◌↔◌, IsTrue};
+ghost use Rattle.std.specs.List.{list_all};
+ghost use Rattle.undo_records.specs.Ids.{is_on};
+ghost use Rattle.undo_records.specs.DualFixing.{IsSound, columns_named};
+
+use crate::flags::are_on;
+use crate::sound::is_among;
+
+/// K10: a column that does no good in any row was fixed at the bound where it costs least.
+#[derive(Drop)]
+pub struct DualFixing {
+    /// The column.
+    pub column: u32,
+}
+
+impl DualFixing {
+    /// Whether it is sound in a program of so many columns.
+    pub fn is_sound(&self, columns: usize) -> bool
+        ensures { IsTrue result ↔ IsSound columns self.now }
+    {
+        is_among(self.column, columns)
+    }
+
+    /// Whether all that it names is on.
+    pub(crate) fn names_live(&self, columns: &[bool]) -> bool
+        ensures { result ≡ list_all (is_on columns.now) (columns_named self.now) }
+    {
+        are_on(columns, &[self.column])
+    }
+}

@@ -1,4 +1,0 @@
-pub mod Placing
-pub mod Listing
-pub mod Back
-pub mod PairsBack

@@ -1,2 +1,0 @@
-pub mod ComingBack
-pub mod Laws

@@ -1,5 +1,0 @@
-use Rattle.written_rules.proofs.SoleColumns.{free_column_computes, free_column_enabled}
-use Rattle.written_rules.proofs.free_columns_stand.Goals as goal
-
-pub returns : goal.returns
-returns c = λ n p q j i s on live. (free_column_enabled n p q s j i on live, free_column_computes n p q s j i on live)
