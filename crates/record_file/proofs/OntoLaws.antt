@@ -1,14 +1,30 @@
 -- Words and lines behind other bytes.
-use Rattle.std.proofs.Common.{◌≡◌, ℕ, List, [], ◌∷◌, ◌++◌, sym, ap, ◌∙◌, append_assoc}
+use Rattle.std.proofs.Common.{◌≡◌, ℕ, List, [], ◌∷◌, ◌++◌, refl, sym, ap, ◌∙◌, append_assoc}
 use Rattle.std.proofs.lemmas.List.{append-nil}
 use Rattle.std.specs.Prelude.{codes}
 use Rattle.undo_records.specs.Postsolve.{Postsolve}
+use Rattle.record_values.specs.Value.{Value}
+use Rattle.record_file.specs.Fields.{value_words, words_of_values}
 use Rattle.record_file.specs.RecordText.{Line, spaced, line_text, lines_text, header_lines, label_lines, offset_line, undo_lines, end_line, record_text}
 use Rattle.record_file.specs.Onto.{words_onto}
 
 pub words_onto_is : (bytes : List ℕ) (ws : List (List ℕ)) → words_onto bytes ws ≡ bytes ++ spaced ws
 words_onto_is bytes [] = sym (append-nil bytes)
 words_onto_is bytes (w ∷ ws) = words_onto_is (bytes ++ 32 ∷ w) ws ∙ append_assoc bytes (32 ∷ w) (spaced ws)
+
+-- words behind words
+pub words_onto_both : (bytes : List ℕ) (vs ws : List (List ℕ)) → words_onto bytes (vs ++ ws) ≡ words_onto (words_onto bytes vs) ws
+words_onto_both bytes [] ws = refl
+words_onto_both bytes (v ∷ vs) ws = words_onto_both (bytes ++ 32 ∷ v) vs ws
+
+-- values behind other bytes, one after another
+abbrev pub values_onto : List ℕ → List Value → List ℕ
+values_onto bytes [] = bytes
+values_onto bytes (v ∷ vs) = values_onto (words_onto bytes (value_words v)) vs
+
+pub values_onto_is : (bytes : List ℕ) (vs : List Value) → values_onto bytes vs ≡ words_onto bytes (words_of_values vs)
+values_onto_is bytes [] = refl
+values_onto_is bytes (v ∷ vs) = values_onto_is (words_onto bytes (value_words v)) vs ∙ sym (words_onto_both bytes (value_words v) (words_of_values vs))
 
 -- a line behind other bytes
 pub line_onto_is : (bytes first : List ℕ) (ws : List (List ℕ)) → words_onto (bytes ++ first) ws ++ 10 ∷ [] ≡ bytes ++ ((first ++ spaced ws) ++ 10 ∷ [])

@@ -7,6 +7,7 @@ use Rattle.lp_model.specs.declared.program.Sense.{Sense}
 use Rattle.undo_records.specs.Postsolve.{Postsolve}
 use Rattle.undo_records.specs.declared.label.Label.{Label}
 use Rattle.undo_records.specs.declared.undo.Undo.{Undo}
+use Rattle.record_values.specs.Values.{rule_undone}
 use Rattle.record_file.specs.Words.{sense_word, duals_word, live_word}
 use Rattle.record_file.specs.Fields.{rule_word, field_words}
 
@@ -45,7 +46,7 @@ abbrev pub offset_line : Number → Line
 offset_line q = line (codes "offset") (written q ∷ [])
 
 abbrev pub undo_line : Undo → Line
-undo_line u = line (rule_word u) (field_words u)
+undo_line u = line (rule_word (rule_undone u)) (field_words u)
 
 abbrev pub undo_lines : List Undo → List Line
 undo_lines us = line (codes "records") (decimal (length us) ∷ []) ∷ map undo_line us

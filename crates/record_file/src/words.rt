@@ -40,18 +40,6 @@ pub fn push_id(out: &mut Vec<u8>, id: u32) -> Result<(), AllocError>
     push_natural(out, id as u128)
 }
 
-/// Appends ids.
-pub fn push_ids(out: &mut Vec<u8>, ids: &[u32]) -> Result<(), AllocError>
-    ensures { OnOk result (out.new.items ≡ words_onto out.old.items (map decimal ids.now)) }
-{
-    let mut rest = ids;
-    while let [id, after @ ..] = rest {
-        push_id(out, *id)?;
-        rest = after;
-    }
-    Ok(())
-}
-
 /// Appends a number as `n` or `n/d`.
 pub fn push_ratio(out: &mut Vec<u8>, number: &Frac) -> Result<(), AllocError>
     ensures { OnOk result (out.new.items ≡ out.old.items ++ 32 ∷ ratio_word number.now) }
@@ -69,20 +57,8 @@ pub fn push_ratio(out: &mut Vec<u8>, number: &Frac) -> Result<(), AllocError>
     Ok(())
 }
 
-/// Appends numbers.
-pub fn push_ratios(out: &mut Vec<u8>, numbers: &[Frac]) -> Result<(), AllocError>
-    ensures { OnOk result (out.new.items ≡ words_onto out.old.items (map ratio_word numbers.now)) }
-{
-    let mut rest = numbers;
-    while let [number, after @ ..] = rest {
-        push_ratio(out, number)?;
-        rest = after;
-    }
-    Ok(())
-}
-
 /// Appends a lower bound.
-fn push_lower(out: &mut Vec<u8>, bound: Ext) -> Result<(), AllocError>
+pub fn push_lower(out: &mut Vec<u8>, bound: Ext) -> Result<(), AllocError>
     ensures { OnOk result (out.new.items ≡ out.old.items ++ 32 ∷ lower_word bound) }
 {
     match bound.number() {
@@ -92,21 +68,13 @@ fn push_lower(out: &mut Vec<u8>, bound: Ext) -> Result<(), AllocError>
 }
 
 /// Appends an upper bound.
-fn push_upper(out: &mut Vec<u8>, bound: Ext) -> Result<(), AllocError>
+pub fn push_upper(out: &mut Vec<u8>, bound: Ext) -> Result<(), AllocError>
     ensures { OnOk result (out.new.items ≡ out.old.items ++ 32 ∷ upper_word bound) }
 {
     match bound.number() {
         None => out.extend_from_slice(b" inf"),
         Some(number) => push_ratio(out, &number),
     }
-}
-
-/// Appends two bounds, the lower one first.
-pub fn push_bounds(out: &mut Vec<u8>, lower: Ext, upper: Ext) -> Result<(), AllocError>
-    ensures { OnOk result (out.new.items ≡ words_onto out.old.items (lower_word lower ∷ upper_word upper ∷ [])) }
-{
-    push_lower(out, lower)?;
-    push_upper(out, upper)
 }
 
 /// Appends which of two bounds one is, and the bound.
