@@ -1,6 +1,6 @@
 -- How the digits of two numbers tell which is less.
-use Rattle.std.proofs.Common.{rules, ◌≡◌, ℕ, zero, suc, ◌+◌, ◌-◌, ◌*◌, ◌^◌, ◌<◌, ◌≤◌, Bool, true, false, cond, Ordering, Less, Equal, Greater, List, [], ◌∷◌, length, arith, sym, ◌∙◌, refl, ap, lit<, le_trans, mul-le-mul_right}
-use Rattle.std.specs.Prelude.{◌==◌, ◌&&◌, ◌||◌, not, nat_lt, slice_index}
+use Rattle.std.proofs.Common.{rules, ◌≡◌, ℕ, suc, ◌+◌, ◌-◌, ◌*◌, ◌^◌, ◌<◌, ◌≤◌, Bool, true, false, cond, Less, Equal, Greater, List, [], ◌∷◌, length, arith, sym, ◌∙◌, refl, ap, lit<, mul-le-mul_right}
+use Rattle.std.specs.Prelude.{◌==◌, ◌||◌, not, nat_lt, slice_index}
 use Rattle.std.specs.List.{list_all}
 use Rattle.std.specs.Char.{is_ascii_digit}
 use Rattle.std.proofs.lemmas.Nat.{pow-add}
@@ -10,7 +10,6 @@ use Rattle.std.specs.Ordering.{is_lt, nat_cmp, ordering_then}
 use Rattle.std.specs.Cmp.Lexicographic.{slice_cmp}
 use Rattle.number_texts.specs.Form.{number_after, number, is_digits}
 use Rattle.number_texts.proofs.Cutting.{Digits, both_true}
-use Rattle.number_texts.proofs.Digits.{number-is}
 use Rattle.number_texts.proofs.ReachLaws.{number_after_least, number_after_most}
 use Rattle.record_fields.specs.Words.{is_plain}
 

@@ -1,5 +1,5 @@
 -- The words of bounds and sides, and of what became of a row.
-use Rattle.std.specs.Prelude.{ℕ, Bool, true, ◌||◌, not, List, Option, Some, None, codes, unwrap_or, if◌then◌else◌}
+use Rattle.std.specs.Prelude.{ℕ, Bool, true, ◌||◌, not, List, Option, Some, None, codes, if◌then◌else◌}
 use Rattle.std.specs.Str.{bytes_eq}
 use Rattle.rational.specs.Number.{Number}
 use Rattle.undo_records.specs.declared.side.Side.{Side}

@@ -1,6 +1,6 @@
 //! The words of a line, read in place.
 
-ghost use Rattle.std.specs.Prelude.{◌≡◌, ◌<◌, ◌≤◌, ◌^◌, IfSome, length};
+ghost use Rattle.std.specs.Prelude.{◌≡◌, ◌<◌, ◌≤◌, ◌^◌, IfSome, [], length};
 ghost use Rattle.std.specs.List.{count_by, position};
 ghost use Rattle.std.specs.Option.{option_map, ForSome};
 ghost use Rattle.number_texts.specs.Form.{parted, cut};
@@ -69,6 +69,16 @@ pub fn next_word<'a>(words: &mut Words<'a>) -> &'a [u8]
             word
         }
     }
+}
+
+/// All words that are left. None is left behind them.
+pub fn all_words<'a>(words: &mut Words<'a>) -> Words<'a>
+    ensures all { words_left result ≡ words_left words.old }
+    ensures left { words_left words.new ≡ [] }
+{
+    let all = *words;
+    words.rest = None;
+    all
 }
 
 /// Two words.

@@ -1,15 +1,13 @@
 -- The words of a record without a fault are a sound record.
-use Rattle.std.proofs.Common.{◌≡◌, ◌≢◌, ◌↔◌, ℕ, zero, suc, ◌<◌, ◌≤◌, Bool, true, false, cond, IsTrue, List, [], ◌∷◌, length, map, Option, Some, None, Result, Ok, Err, refl, sym, ap, ◌∙◌, subst, arith, slice_index_or, All}
+use Rattle.std.proofs.Common.{◌≡◌, ◌≢◌, ◌↔◌, ℕ, zero, suc, ◌<◌, ◌≤◌, Bool, true, false, IsTrue, List, [], ◌∷◌, length, map, Option, Some, None, Result, Ok, Err, refl, sym, ap, ◌∙◌, subst, arith}
 use Rattle.std.specs.Prelude.{◌&&◌, not, nat_eq, if◌then◌else◌}
 use Rattle.std.specs.List.{list_all, list_any}
-use Rattle.std.specs.Str.{bytes_eq}
 use Rattle.std.proofs.lemmas.Slice.Eq.{bytes_eq-Decides}
 use Rattle.std.proofs.lemmas.Bool.Decides.{nat_tests, Decides-eqb}
 use Rattle.std.proofs.lemmas.List.Sums.{AllPass-from_list_all, list_all-from_AllPass}
-use Rattle.rational.specs.Number.{Number, zero_ℚ, one_ℚ}
+use Rattle.rational.specs.Number.{Number, zero_ℚ}
 use Rattle.rational.specs.Compare.{eq_ℚ}
 use Rattle.rational.proofs.Comparisons.{eq_ℚ-is}
-use Rattle.lp_model.specs.declared.terms.Term.{Term}
 use Rattle.lp_model.specs.Sparse.{Ascends, has}
 use Rattle.number_texts.specs.Form.{number}
 use Rattle.number_texts.specs.declared.reading.ReadNumber.{ReadNumber}
@@ -20,18 +18,17 @@ use Rattle.undo_records.specs.Ids.{is_on, ids_of}
 use Rattle.undo_records.specs.Walk.{NamesLive, rows_named, columns_named}
 use Rattle.undo_records.specs.Sound.{IsSound}
 use Rattle.undo_records.specs.declared.undo.Undo.{Undo}
-use Rattle.record_fields.specs.Words.{first, others, skip, is_plain, is_far, id_of, id_fault, same_id, comes_after}
+use Rattle.record_fields.specs.Words.{others, is_empty, skip, is_plain, is_far, id_of, id_fault, same_id, comes_after}
 use Rattle.record_fields.specs.Faults.{unless, lower}
-use Rattle.record_fields.specs.Ratios.{ratio_read, ratio_of, number_in, number_fault, entry_fault}
-use Rattle.record_fields.specs.Ends.{bound_of, has_end}
+use Rattle.record_fields.specs.Ratios.{ratio_read, number_in, entry_fault}
 use Rattle.record_fields.specs.Lists.{pairs_of, pair_fault, pairs_fault, list_fault, term_of, list_of, is_listed}
-use Rattle.record_fields.specs.Fields.{word_fault, rest_fault, fields_fault}
-use Rattle.record_words.specs.Rules.{fields_of, has_list}
-use Rattle.record_words.specs.Undos.{word, id, undo_of, agree, names_live, form_fault, rule_fault, rule_undo}
+use Rattle.record_fields.specs.Fields.{behind, field_fault, fields_fault}
+use Rattle.record_words.specs.Rules.{fields_of}
+use Rattle.record_words.specs.Undos.{word, undo_of, agree, names_live, form_fault, rule_fault, rule_undo}
 use Rattle.record_fields.specs.declared.faults.LineFault.{LineFault}
 use Rattle.record_fields.specs.declared.faults.LineFault.TheVariants.{BadLine, BadId, NumberPast}
-use Rattle.record_words.specs.declared.rules.Rule.{Rule}
-use Rattle.record_words.specs.declared.rules.Rule.TheVariants.{K1, K2, K3, K4, K5, K6, K7, K8, K9, K10, K11, K12, K13, K14, K15, K16, K17}
+use Rattle.record_values.specs.declared.rule.Rule.{Rule}
+use Rattle.record_values.specs.declared.rule.Rule.TheVariants.{K1, K2, K3, K4, K5, K6, K7, K8, K9, K10, K11, K12, K13, K14, K15, K16, K17}
 use Rattle.record_fields.specs.declared.fields.Field.{Field}
 use Rattle.record_fields.proofs.IdOrder.{same_word}
 
@@ -50,13 +47,13 @@ pub unless_none : (b : Bool) (k : LineFault) → unless b k ≡ None → b ≡ t
 unless_none true k h = refl
 unless_none false k h = cc
 
-abbrev AllFine : Bool → List Field → List (List ℕ) → Type 0
-AllFine listed [] ws = rest_fault listed ws ≡ None
-AllFine listed (f ∷ fs) ws = (word_fault f (first ws) ≡ None) × AllFine listed fs (others ws)
+abbrev AllFine : List Field → List (List ℕ) → Type 0
+AllFine [] ws = unless (is_empty ws) BadLine ≡ None
+AllFine (f ∷ fs) ws = (field_fault f ws ≡ None) × AllFine fs (behind f ws)
 
-all_fine : (listed : Bool) (fs : List Field) (ws : List (List ℕ)) → fields_fault listed fs ws ≡ None → AllFine listed fs ws
-all_fine listed [] ws h = h
-all_fine listed (f ∷ fs) ws h = let q = lower_none (word_fault f (first ws)) (fields_fault listed fs (others ws)) h in (q.0, all_fine listed fs (others ws) q.1)
+all_fine : (fs : List Field) (ws : List (List ℕ)) → fields_fault fs ws ≡ None → AllFine fs ws
+all_fine [] ws h = h
+all_fine (f ∷ fs) ws h = let q = lower_none (field_fault f ws) (fields_fault fs (behind f ws)) h in (q.0, all_fine fs (behind f ws) q.1)
 
 -- ---- ids
 id_by : (p f : Bool) (n : ℕ) → (if p then (if f then Some BadId else None) else Some BadLine) ≡ None → (p ≡ true) × (f ≡ false) × ((if p && not f then n else 0) ≡ n)
@@ -171,68 +168,67 @@ named : (flags : List Bool) (k : ℕ) (ks : List ℕ) → list_all (is_on flags)
 named flags k ks h = let o = both_true (is_on flags k) (list_all (is_on flags) ks) h in record { below = on_below flags k o.0; more = o.1 }
 
 -- ---- the kinds
-sound_fields : (f : Flags) (rule : Rule) (ws : List (List ℕ)) → AllFine (has_list rule) (fields_of rule) ws → agree rule ws ≡ true
+sound_fields : (f : Flags) (rule : Rule) (ws : List (List ℕ)) → AllFine (fields_of rule) ws → agree rule ws ≡ true
     → list_all (is_on f.rows) (rows_named (undo_of rule ws)) ≡ true → list_all (is_on f.columns) (columns_named (undo_of rule ws)) ≡ true
     → IsSound (length f.rows) (length f.columns) (undo_of rule ws)
-sound_fields f K1 ws x a r c = (named f.rows (id 0 ws) [] r).below
-sound_fields f K2 ws x a r c = ((named f.rows (id 0 ws) [] r).below, (named f.columns (id 1 ws) [] c).below, entry_fine (ratio_read (word 2 ws)) x.1.1.0)
-sound_fields f K3 ws x a r c = ((named f.columns (id 0 ws) [] c).below, list_ascends f.rows (skip 3 ws) x.1.1.1 r)
-sound_fields f K4 ws x a r c = (named f.columns (id 0 ws) [] c).below
-sound_fields f K5 ws x a r c = (named f.rows (id 0 ws) [] r).below
-sound_fields f K6 ws x a r c = (named f.rows (id 0 ws) [] r).below
-sound_fields f K7 ws x a r c = ((named f.rows (id 0 ws) [] r).below, list_ascends f.columns (skip 2 ws) x.1.1 c)
+sound_fields f K1 ws x a r c = (named f.rows (id_of (word 0 ws)) [] r).below
+sound_fields f K2 ws x a r c = ((named f.rows (id_of (word 0 ws)) [] r).below, (named f.columns (id_of (word 1 ws)) [] c).below, entry_fine (ratio_read (word 2 ws)) x.1.1.0)
+sound_fields f K3 ws x a r c = ((named f.columns (id_of (word 0 ws)) [] c).below, list_ascends f.rows (skip 3 ws) x.1.1.1.0 r)
+sound_fields f K4 ws x a r c = (named f.columns (id_of (word 0 ws)) [] c).below
+sound_fields f K5 ws x a r c = (named f.rows (id_of (word 0 ws)) [] r).below
+sound_fields f K6 ws x a r c = (named f.rows (id_of (word 0 ws)) [] r).below
+sound_fields f K7 ws x a r c = ((named f.rows (id_of (word 0 ws)) [] r).below, list_ascends f.columns (skip 2 ws) x.1.1.0 c)
 sound_fields f K8 ws x a r c =
-    let j = named f.columns (id 1 ws) (ids_of (list_of (skip 4 ws))) c in
-    let b = both_true (has_end (bound_of (word 2 ws)) (word 3 ws)) (is_listed (word 1 ws) (skip 4 ws)) a in
-    ((named f.rows (id 0 ws) [] r).below, j.below, list_ascends f.columns (skip 4 ws) x.1.1.1.1 j.more, list_has (word 1 ws) (skip 4 ws) x.1.0 x.1.1.1.1 b.1)
-sound_fields f K9 ws x a r c = ((named f.rows (id 0 ws) [] r).below, (named f.columns (id 1 ws) [] c).below)
-sound_fields f K10 ws x a r c = (named f.columns (id 0 ws) [] c).below
+    let j = named f.columns (id_of (word 1 ws)) (ids_of (list_of (skip 4 ws))) c in
+    ((named f.rows (id_of (word 0 ws)) [] r).below, j.below, list_ascends f.columns (skip 4 ws) x.1.1.1.0 j.more, list_has (word 1 ws) (skip 4 ws) x.1.0 x.1.1.1.0 a)
+sound_fields f K9 ws x a r c = ((named f.rows (id_of (word 0 ws)) [] r).below, (named f.columns (id_of (word 1 ws)) [] c).below)
+sound_fields f K10 ws x a r c = (named f.columns (id_of (word 0 ws)) [] c).below
 sound_fields f K11 ws x a r c =
-    let j = named f.columns (id 1 ws) (id 2 ws ∷ []) c in
-    let k = named f.columns (id 2 ws) [] j.more in
-    ((named f.rows (id 0 ws) [] r).below, (j.below, k.below, ids_differ (word 1 ws) (word 2 ws) x.1.0 x.1.1.0 a))
+    let j = named f.columns (id_of (word 1 ws)) (id_of (word 2 ws) ∷ []) c in
+    let k = named f.columns (id_of (word 2 ws)) [] j.more in
+    ((named f.rows (id_of (word 0 ws)) [] r).below, (j.below, k.below, ids_differ (word 1 ws) (word 2 ws) x.1.0 x.1.1.0 a))
 sound_fields f K12 ws x a r c =
-    let i = named f.rows (id 0 ws) (ids_of (list_of (skip 9 ws))) r in
-    let j = named f.columns (id 1 ws) (id 2 ws ∷ []) c in
-    let k = named f.columns (id 2 ws) [] j.more in
+    let i = named f.rows (id_of (word 0 ws)) (ids_of (list_of (skip 9 ws))) r in
+    let j = named f.columns (id_of (word 1 ws)) (id_of (word 2 ws) ∷ []) c in
+    let k = named f.columns (id_of (word 2 ws)) [] j.more in
     let b = both_true (not (same_id (word 1 ws) (word 2 ws))) (not (is_listed (word 0 ws) (skip 9 ws))) a in
-    let ys = x.1.1.1.1.1.1.1.1.1 in (
+    let ys = x.1.1.1.1.1.1.1.1.1.0 in (
       (i.below, j.below, entry_fine (ratio_read (word 3 ws)) x.1.1.1.0),
       (j.below, k.below, ids_differ (word 1 ws) (word 2 ws) x.1.0 x.1.1.0 b.0),
       entry_fine (ratio_read (word 4 ws)) x.1.1.1.1.0,
       (list_ascends f.rows (skip 9 ws) ys i.more, list_lacks (word 0 ws) (skip 9 ws) x.0 ys b.1),
     )
 sound_fields f K13 ws x a r c =
-    let j = named f.columns (id 0 ws) (ids_of (list_of (skip 5 ws))) c in
-    let ys = x.1.1.1.1.1 in (
-      ((named f.rows (id 1 ws) [] r).below, j.below, entry_fine (ratio_read (word 2 ws)) x.1.1.0),
+    let j = named f.columns (id_of (word 0 ws)) (ids_of (list_of (skip 5 ws))) c in
+    let ys = x.1.1.1.1.1.0 in (
+      ((named f.rows (id_of (word 1 ws)) [] r).below, j.below, entry_fine (ratio_read (word 2 ws)) x.1.1.0),
       (list_ascends f.columns (skip 5 ws) ys j.more, list_lacks (word 0 ws) (skip 5 ws) x.0 ys a),
     )
 sound_fields f K14 ws x a r c =
-    let j = named f.columns (id 0 ws) (ids_of (list_of (skip 9 ws))) c in
-    let ys = x.1.1.1.1.1.1.1.1.1 in (
-      ((named f.rows (id 1 ws) [] r).below, j.below, entry_fine (ratio_read (word 2 ws)) x.1.1.0),
+    let j = named f.columns (id_of (word 0 ws)) (ids_of (list_of (skip 9 ws))) c in
+    let ys = x.1.1.1.1.1.1.1.1.1.0 in (
+      ((named f.rows (id_of (word 1 ws)) [] r).below, j.below, entry_fine (ratio_read (word 2 ws)) x.1.1.0),
       (list_ascends f.columns (skip 9 ws) ys j.more, list_lacks (word 0 ws) (skip 9 ws) x.0 ys a),
     )
 sound_fields f K15 ws x a r c =
-    let i = named f.rows (id 0 ws) (id 1 ws ∷ []) r in
-    let k = named f.rows (id 1 ws) [] i.more in (
+    let i = named f.rows (id_of (word 0 ws)) (id_of (word 1 ws) ∷ []) r in
+    let k = named f.rows (id_of (word 1 ws)) [] i.more in (
       (i.below, k.below, ids_differ (word 0 ws) (word 1 ws) x.0 x.1.0 a),
       entry_fine (ratio_read (word 2 ws)) x.1.1.0,
-      list_ascends f.columns (skip 5 ws) x.1.1.1.1.1 c,
+      list_ascends f.columns (skip 5 ws) x.1.1.1.1.1.0 c,
     )
 sound_fields f K16 ws x a r c =
-    let j = named f.columns (id 0 ws) (id 1 ws ∷ []) c in
-    let k = named f.columns (id 1 ws) [] j.more in
+    let j = named f.columns (id_of (word 0 ws)) (id_of (word 1 ws) ∷ []) c in
+    let k = named f.columns (id_of (word 1 ws)) [] j.more in
     ((j.below, k.below, ids_differ (word 0 ws) (word 1 ws) x.0 x.1.0 a), entry_fine (ratio_read (word 2 ws)) x.1.1.0)
-sound_fields f K17 ws x a r c = (named f.columns (id 0 ws) [] c).below
+sound_fields f K17 ws x a r c = (named f.columns (id_of (word 0 ws)) [] c).below
 
 pub sound_rule : (f : Flags) (rule : Rule) (ws : List (List ℕ)) → form_fault rule ws ≡ None → names_live f (undo_of rule ws) ≡ true → IsSound (length f.rows) (length f.columns) (undo_of rule ws)
 unfolding form_fault
 sound_rule f rule ws h n =
-    let q = lower_none (fields_fault (has_list rule) (fields_of rule) ws) (unless (agree rule ws) BadLine) h in
+    let q = lower_none (fields_fault (fields_of rule) ws) (unless (agree rule ws) BadLine) h in
     let l = both_true (list_all (is_on f.rows) (rows_named (undo_of rule ws))) (list_all (is_on f.columns) (columns_named (undo_of rule ws))) n in
-    sound_fields f rule ws (all_fine (has_list rule) (fields_of rule) ws q.0) (unless_none (agree rule ws) BadLine q.1) l.0 l.1
+    sound_fields f rule ws (all_fine (fields_of rule) ws q.0) (unless_none (agree rule ws) BadLine q.1) l.0 l.1
 
 and-is : (a b : Bool) → a ≡ true → b ≡ true → (a && b) ≡ true
 and-is true b e h = h

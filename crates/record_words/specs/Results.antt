@@ -6,7 +6,7 @@ use Rattle.record_fields.specs.Words.{words_of}
 use Rattle.record_words.specs.Undos.{rule_fault, undo_of, undo_fault, undo_in}
 use Rattle.record_words.specs.declared.lines.LineError.{LineError}
 use Rattle.record_words.specs.declared.lines.LineError.TheVariants.{Fault, NoMemory}
-use Rattle.record_words.specs.declared.rules.Rule.{Rule}
+use Rattle.record_values.specs.declared.rule.Rule.{Rule}
 
 -- the record of a rule's words, or their fault
 abbrev pub IsRuleUndo : Flags → Rule → List (List ℕ) → Result Undo LineError → Type 0

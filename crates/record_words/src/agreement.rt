@@ -5,13 +5,13 @@ ghost use Rattle.record_words.specs.Undos.{agree, form_fault, word, differ, is_l
 ghost use Rattle.record_fields.specs.Words.{skip};
 ghost use Rattle.record_fields.specs.Views.{words_left};
 
-use crate::rules::{Rule, fields_of, has_list};
-use record_fields::ends::{bound_of, has_end};
+use crate::rules::fields_of;
 use record_fields::faults::{LineFault, lower, unless};
 use record_fields::fields::fields_fault;
 use record_fields::ids::same_id;
 use record_fields::lists::is_listed;
 use record_fields::words::{Words, next_word};
+use record_values::Rule;
 
 /// The words behind so many.
 fn skip(count: usize, words: Words<'_>) -> Words<'_>
@@ -46,15 +46,12 @@ fn is_left_out(id: usize, list: usize, words: Words<'_>) -> bool
     !is_listed(word(id, words), skip(list, words))
 }
 
-/// Whether a rule's words agree: ids that must differ, lists that must or must not have an id, and an end that the bound may have.
+/// Whether a rule's words agree: ids that must differ, and lists that must or must not have an id.
 fn agree(rule: Rule, words: Words<'_>) -> bool
     ensures { result ≡ agree rule (words_left words.entry) }
 {
     match rule {
-        Rule::K8 => {
-            has_end(bound_of(word(2, words)), word(3, words))
-                && is_listed(word(1, words), skip(4, words))
-        }
+        Rule::K8 => is_listed(word(1, words), skip(4, words)),
         Rule::K11 => differ(1, 2, words),
         Rule::K12 => differ(1, 2, words) && is_left_out(0, 9, words),
         Rule::K13 => is_left_out(0, 5, words),
@@ -70,7 +67,7 @@ pub fn form_fault(rule: Rule, words: Words<'_>) -> Option<LineFault>
     ensures { result ≡ form_fault rule (words_left words.entry) }
 {
     lower(
-        fields_fault(has_list(rule), fields_of(rule), words),
+        fields_fault(fields_of(rule), words),
         unless(agree(rule, words), LineFault::BadLine),
     )
 }

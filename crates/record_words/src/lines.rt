@@ -10,10 +10,11 @@ ghost use Rattle.record_fields.specs.Views.{words_left};
 ghost use Rattle.record_words.specs.declared.lines.LineError.TheVariants.{NoMemory};
 
 use crate::agreement::form_fault;
-use crate::rules::{Rule, rule_of};
+use crate::rules::rule_of;
 use crate::undos::undo_in;
 use record_fields::faults::{LineFault, lower, unless};
 use record_fields::words::{Words, next_word, words_of};
+use record_values::Rule;
 use std::alloc::{AllocError, Global};
 use undo_records::{Undo, Walk};
 

@@ -1,50 +1,12 @@
 //! The rules of records, and the fields of each.
 
 ghost use Rattle.std.specs.Prelude.{◌≡◌};
-ghost use Rattle.record_words.specs.Rules.{rule_of, fields_of, has_list};
+ghost use Rattle.record_words.specs.Rules.{rule_of, fields_of};
 
 use record_fields::fields::Field;
+use record_values::Rule;
 
-/// A rule, by the name that it has in the record text.
-#[derive(Clone, Copy, Debug, PartialEq, Eq)]
-pub enum Rule {
-    /// An empty row.
-    K1,
-    /// A row with one entry.
-    K2,
-    /// A fixed column.
-    K3,
-    /// Bounds that were rounded.
-    K4,
-    /// A redundant row.
-    K5,
-    /// A redundant side.
-    K6,
-    /// A forcing row.
-    K7,
-    /// A bound that was tightened.
-    K8,
-    /// A coefficient that was tightened.
-    K9,
-    /// A column that was fixed at a bound.
-    K10,
-    /// A dominated column.
-    K11,
-    /// An equation of two columns.
-    K12,
-    /// A free column singleton.
-    K13,
-    /// A slack column singleton.
-    K14,
-    /// Parallel rows.
-    K15,
-    /// Parallel columns.
-    K16,
-    /// An empty column.
-    K17,
-}
-
-/// The fields of a rule's record, but for its list.
+/// The fields of a rule's record.
 pub fn fields_of(rule: Rule) -> &'static [Field]
     ensures { result.now ≡ fields_of rule }
 {
@@ -57,12 +19,12 @@ pub fn fields_of(rule: Rule) -> &'static [Field]
             Field::LowerEnd,
             Field::UpperEnd,
         ],
-        Rule::K3 => &[Field::Id, Field::Number, Field::Number],
+        Rule::K3 => &[Field::Id, Field::Number, Field::Number, Field::Entries],
         Rule::K4 => &[Field::Id],
         Rule::K5 => &[Field::Id],
         Rule::K6 => &[Field::Id],
-        Rule::K7 => &[Field::Id, Field::SideLetter],
-        Rule::K8 => &[Field::Id, Field::Id, Field::BoundName, Field::SomeEnd],
+        Rule::K7 => &[Field::Id, Field::SideLetter, Field::Entries],
+        Rule::K8 => &[Field::Id, Field::Id, Field::Bound, Field::Entries],
         Rule::K9 => &[Field::Id, Field::Id],
         Rule::K10 => &[Field::Id],
         Rule::K11 => &[Field::Id, Field::Id, Field::Id],
@@ -76,6 +38,7 @@ pub fn fields_of(rule: Rule) -> &'static [Field]
             Field::LowerEnd,
             Field::UpperEnd,
             Field::Number,
+            Field::Entries,
         ],
         Rule::K13 => &[
             Field::Id,
@@ -83,6 +46,7 @@ pub fn fields_of(rule: Rule) -> &'static [Field]
             Field::Entry,
             Field::Number,
             Field::Number,
+            Field::Entries,
         ],
         Rule::K14 => &[
             Field::Id,
@@ -94,6 +58,7 @@ pub fn fields_of(rule: Rule) -> &'static [Field]
             Field::LowerEnd,
             Field::UpperEnd,
             Field::Fate,
+            Field::Entries,
         ],
         Rule::K15 => &[
             Field::Id,
@@ -101,6 +66,7 @@ pub fn fields_of(rule: Rule) -> &'static [Field]
             Field::Entry,
             Field::LowerEnd,
             Field::UpperEnd,
+            Field::Entries,
         ],
         Rule::K16 => &[
             Field::Id,
@@ -113,16 +79,6 @@ pub fn fields_of(rule: Rule) -> &'static [Field]
         ],
         Rule::K17 => &[Field::Id],
     }
-}
-
-/// Whether a list of entries stands behind the fields.
-pub fn has_list(rule: Rule) -> bool
-    ensures { result ≡ has_list rule }
-{
-    matches!(
-        rule,
-        Rule::K3 | Rule::K7 | Rule::K8 | Rule::K12 | Rule::K13 | Rule::K14 | Rule::K15
-    )
 }
 
 /// The rule that a word names.

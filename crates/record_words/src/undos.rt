@@ -6,15 +6,15 @@ ghost use Rattle.record_fields.specs.Words.{first, others, id_of};
 ghost use Rattle.record_fields.specs.Ratios.{ratio_of};
 ghost use Rattle.record_fields.specs.Ends.{end_of};
 ghost use Rattle.record_fields.specs.Lists.{list_of};
-ghost use Rattle.record_words.specs.declared.rules.Rule.TheVariants.{K2, K3, K7, K8, K12, K13, K14, K15, K16};
+ghost use Rattle.record_values.specs.declared.rule.Rule.TheVariants.{K2, K3, K7, K8, K12, K13, K14, K15, K16};
 ghost use Rattle.record_fields.specs.Views.{words_left};
 
-use crate::rules::Rule;
 use record_fields::ends::{bound_of, end_in, fate_of, letter_of};
 use record_fields::ids::id_in;
 use record_fields::lists::list_in;
 use record_fields::ratios::number_in;
 use record_fields::words::{Words, next_word};
+use record_values::Rule;
 use std::alloc::{AllocError, Global};
 use undo_records::{
     BoundTightening, CoefficientTightening, DominatedColumn, DoubletonEquation, DualFixing,
@@ -72,22 +72,25 @@ fn list_apart(alloc: Global, words: Words<'_>) -> Result<TermsApart, AllocError>
     TermsApart::new(alloc, terms)
 }
 
+/// The terms of a list, for several owners.
+fn list_shared(alloc: Global, words: Words<'_>) -> Result<SharedTerms, AllocError>
+    ensures { IfOk result (λ terms. terms ≡ list_of (words_left words.entry)) }
+{
+    let terms = list_in(alloc, words)?;
+    SharedTerms::new(alloc, terms)
+}
+
 /// The record of a row with one entry.
 fn singleton_row(alloc: Global, words: Words<'_>) -> Result<Undo, AllocError>
     ensures { IfOk result (λ undo. undo ≡ undo_of K2 (words_left words.entry)) }
 {
     let mut rest = words;
-    let row = next_id(&mut rest);
-    let column = next_id(&mut rest);
-    let value = next_number(alloc, &mut rest)?;
-    let lower = next_end(alloc, &mut rest)?;
-    let upper = next_end(alloc, &mut rest)?;
     Ok(Undo::SingletonRow(SingletonRow {
-        row,
-        column,
-        value,
-        lower,
-        upper,
+        row: next_id(&mut rest),
+        column: next_id(&mut rest),
+        value: next_number(alloc, &mut rest)?,
+        lower: next_end(alloc, &mut rest)?,
+        upper: next_end(alloc, &mut rest)?,
     }))
 }
 
@@ -96,15 +99,11 @@ fn fixed_column(alloc: Global, words: Words<'_>) -> Result<Undo, AllocError>
     ensures { IfOk result (λ undo. undo ≡ undo_of K3 (words_left words.entry)) }
 {
     let mut rest = words;
-    let column = next_id(&mut rest);
-    let value = next_number(alloc, &mut rest)?;
-    let cost = next_number(alloc, &mut rest)?;
-    let entries = list_in(alloc, rest)?;
     Ok(Undo::FixedColumn(FixedColumn {
-        column,
-        value,
-        cost,
-        entries,
+        column: next_id(&mut rest),
+        value: next_number(alloc, &mut rest)?,
+        cost: next_number(alloc, &mut rest)?,
+        entries: list_in(alloc, rest)?,
     }))
 }
 
@@ -113,10 +112,11 @@ fn forcing_row(alloc: Global, words: Words<'_>) -> Result<Undo, AllocError>
     ensures { IfOk result (λ undo. undo ≡ undo_of K7 (words_left words.entry)) }
 {
     let mut rest = words;
-    let row = next_id(&mut rest);
-    let side = letter_of(next_word(&mut rest)).unwrap_or(Side::Lower);
-    let entries = list_in(alloc, rest)?;
-    Ok(Undo::ForcingRow(ForcingRow { row, side, entries }))
+    Ok(Undo::ForcingRow(ForcingRow {
+        row: next_id(&mut rest),
+        side: letter_of(next_word(&mut rest)).unwrap_or(Side::Lower),
+        entries: list_in(alloc, rest)?,
+    }))
 }
 
 /// The record of a bound that was tightened.
@@ -124,17 +124,12 @@ fn bound_tightening(alloc: Global, words: Words<'_>) -> Result<Undo, AllocError>
     ensures { IfOk result (λ undo. undo ≡ undo_of K8 (words_left words.entry)) }
 {
     let mut rest = words;
-    let row = next_id(&mut rest);
-    let column = next_id(&mut rest);
-    let side = bound_of(next_word(&mut rest)).unwrap_or(Side::Lower);
-    let bound = next_end(alloc, &mut rest)?;
-    let entries = SharedTerms::new(alloc, list_in(alloc, rest)?)?;
     Ok(Undo::BoundTightening(BoundTightening {
-        row,
-        column,
-        side,
-        bound,
-        entries,
+        row: next_id(&mut rest),
+        column: next_id(&mut rest),
+        side: bound_of(next_word(&mut rest)).unwrap_or(Side::Lower),
+        bound: next_end(alloc, &mut rest)?,
+        entries: list_shared(alloc, rest)?,
     }))
 }
 
@@ -143,27 +138,17 @@ fn doubleton_equation(alloc: Global, words: Words<'_>) -> Result<Undo, AllocErro
     ensures { IfOk result (λ undo. undo ≡ undo_of K12 (words_left words.entry)) }
 {
     let mut rest = words;
-    let row = next_id(&mut rest);
-    let column = next_id(&mut rest);
-    let kept = next_id(&mut rest);
-    let value = number_apart(alloc, &mut rest)?;
-    let kept_value = number_apart(alloc, &mut rest)?;
-    let equal = number_apart(alloc, &mut rest)?;
-    let lower = end_apart(alloc, &mut rest)?;
-    let upper = end_apart(alloc, &mut rest)?;
-    let cost = number_apart(alloc, &mut rest)?;
-    let entries = list_apart(alloc, rest)?;
     Ok(Undo::DoubletonEquation(DoubletonEquation {
-        row,
-        column,
-        kept,
-        value,
-        kept_value,
-        equal,
-        lower,
-        upper,
-        cost,
-        entries,
+        row: next_id(&mut rest),
+        column: next_id(&mut rest),
+        kept: next_id(&mut rest),
+        value: number_apart(alloc, &mut rest)?,
+        kept_value: number_apart(alloc, &mut rest)?,
+        equal: number_apart(alloc, &mut rest)?,
+        lower: end_apart(alloc, &mut rest)?,
+        upper: end_apart(alloc, &mut rest)?,
+        cost: number_apart(alloc, &mut rest)?,
+        entries: list_apart(alloc, rest)?,
     }))
 }
 
@@ -172,19 +157,13 @@ fn free_column_singleton(alloc: Global, words: Words<'_>) -> Result<Undo, AllocE
     ensures { IfOk result (λ undo. undo ≡ undo_of K13 (words_left words.entry)) }
 {
     let mut rest = words;
-    let column = next_id(&mut rest);
-    let row = next_id(&mut rest);
-    let value = number_apart(alloc, &mut rest)?;
-    let at = number_apart(alloc, &mut rest)?;
-    let price = number_apart(alloc, &mut rest)?;
-    let entries = list_in(alloc, rest)?;
     Ok(Undo::FreeColumnSingleton(FreeColumnSingleton {
-        column,
-        row,
-        value,
-        at,
-        price,
-        entries,
+        column: next_id(&mut rest),
+        row: next_id(&mut rest),
+        value: number_apart(alloc, &mut rest)?,
+        at: number_apart(alloc, &mut rest)?,
+        price: number_apart(alloc, &mut rest)?,
+        entries: list_in(alloc, rest)?,
     }))
 }
 
@@ -193,27 +172,17 @@ fn slack_column_singleton(alloc: Global, words: Words<'_>) -> Result<Undo, Alloc
     ensures { IfOk result (λ undo. undo ≡ undo_of K14 (words_left words.entry)) }
 {
     let mut rest = words;
-    let column = next_id(&mut rest);
-    let row = next_id(&mut rest);
-    let value = number_apart(alloc, &mut rest)?;
-    let price = number_apart(alloc, &mut rest)?;
-    let lower_side = end_apart(alloc, &mut rest)?;
-    let upper_side = end_apart(alloc, &mut rest)?;
-    let lower = end_apart(alloc, &mut rest)?;
-    let upper = end_apart(alloc, &mut rest)?;
-    let fate = fate_of(next_word(&mut rest)).unwrap_or(RowFate::Kept);
-    let entries = list_apart(alloc, rest)?;
     Ok(Undo::SlackColumnSingleton(SlackColumnSingleton {
-        column,
-        row,
-        value,
-        price,
-        lower_side,
-        upper_side,
-        lower,
-        upper,
-        fate,
-        entries,
+        column: next_id(&mut rest),
+        row: next_id(&mut rest),
+        value: number_apart(alloc, &mut rest)?,
+        price: number_apart(alloc, &mut rest)?,
+        lower_side: end_apart(alloc, &mut rest)?,
+        upper_side: end_apart(alloc, &mut rest)?,
+        lower: end_apart(alloc, &mut rest)?,
+        upper: end_apart(alloc, &mut rest)?,
+        fate: fate_of(next_word(&mut rest)).unwrap_or(RowFate::Kept),
+        entries: list_apart(alloc, rest)?,
     }))
 }
 
@@ -222,19 +191,13 @@ fn parallel_rows(alloc: Global, words: Words<'_>) -> Result<Undo, AllocError>
     ensures { IfOk result (λ undo. undo ≡ undo_of K15 (words_left words.entry)) }
 {
     let mut rest = words;
-    let row = next_id(&mut rest);
-    let kept = next_id(&mut rest);
-    let factor = number_apart(alloc, &mut rest)?;
-    let lower = end_apart(alloc, &mut rest)?;
-    let upper = end_apart(alloc, &mut rest)?;
-    let entries = SharedTerms::new(alloc, list_in(alloc, rest)?)?;
     Ok(Undo::ParallelRows(ParallelRows {
-        row,
-        kept,
-        factor,
-        lower,
-        upper,
-        entries,
+        row: next_id(&mut rest),
+        kept: next_id(&mut rest),
+        factor: number_apart(alloc, &mut rest)?,
+        lower: end_apart(alloc, &mut rest)?,
+        upper: end_apart(alloc, &mut rest)?,
+        entries: list_shared(alloc, rest)?,
     }))
 }
 
@@ -243,21 +206,14 @@ fn parallel_columns(alloc: Global, words: Words<'_>) -> Result<Undo, AllocError>
     ensures { IfOk result (λ undo. undo ≡ undo_of K16 (words_left words.entry)) }
 {
     let mut rest = words;
-    let column = next_id(&mut rest);
-    let kept = next_id(&mut rest);
-    let factor = number_apart(alloc, &mut rest)?;
-    let lower = end_apart(alloc, &mut rest)?;
-    let upper = end_apart(alloc, &mut rest)?;
-    let kept_lower = end_apart(alloc, &mut rest)?;
-    let kept_upper = end_apart(alloc, &mut rest)?;
     Ok(Undo::ParallelColumns(ParallelColumns {
-        column,
-        kept,
-        factor,
-        lower,
-        upper,
-        kept_lower,
-        kept_upper,
+        column: next_id(&mut rest),
+        kept: next_id(&mut rest),
+        factor: number_apart(alloc, &mut rest)?,
+        lower: end_apart(alloc, &mut rest)?,
+        upper: end_apart(alloc, &mut rest)?,
+        kept_lower: end_apart(alloc, &mut rest)?,
+        kept_upper: end_apart(alloc, &mut rest)?,
     }))
 }
 

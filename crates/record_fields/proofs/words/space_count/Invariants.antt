@@ -1,4 +1,4 @@
-use Rattle.std.proofs.Common.{◌≡◌, ◌+◌, ◌≤◌, ◌==◌, length}
+use Rattle.std.proofs.Common.{◌≡◌, ◌+◌, ◌≤◌, length}
 use Rattle.std.specs.List.{count_by}
 use Rattle.record_fields.specs.Words.{is_space}
 use Rattle.record_fields.proofs.words.space_count.Given as goal

@@ -1,4 +1,4 @@
-use Rattle.std.proofs.Common.{◌∙◌, ◌+◌, sym, ap, arith, length}
+use Rattle.std.proofs.Common.{◌∙◌, ◌+◌, sym, ap, length}
 use Rattle.std.specs.Option.{option_map}
 use Rattle.std.proofs.lemmas.List.Splits.{length-slice_split}
 use Rattle.record_fields.specs.Words.{is_space}

@@ -1,4 +1,4 @@
-use Rattle.std.proofs.Common.{◌≡◌, ◌∙◌, ◌<◌, sym, arith}
+use Rattle.std.proofs.Common.{◌∙◌, ◌<◌, sym, arith}
 use Rattle.record_fields.specs.Views.{words_left}
 use Rattle.record_fields.proofs.WordLaws.{skip-next}
 use Rattle.record_words.proofs.agreement.skip.Goals as goal
