@@ -1,6 +1,6 @@
 -- The words of ends, sides and fates are read as they are written.
-use Rattle.std.proofs.Common.{◌≡◌, Bool, true, false, cond, not, ◌||◌, Option, Some, None, Err, refl, ap, ap₂, ◌∙◌}
-use Rattle.std.specs.Prelude.{codes, unwrap_or}
+use Rattle.std.proofs.Common.{◌≡◌, Bool, false, cond, not, ◌||◌, Option, Some, None, Err, refl, ap, ap₂, ◌∙◌}
+use Rattle.std.specs.Prelude.{codes, is_some, unwrap_or}
 use Rattle.rational.specs.Number.{Number}
 use Rattle.number_texts.specs.declared.reading.ReadNumber.TheVariants.{NotNumber}
 use Rattle.undo_records.specs.declared.side.Side.{Side}
@@ -8,14 +8,16 @@ use Rattle.undo_records.specs.declared.side.Side.TheVariants.{Lower, Upper}
 use Rattle.undo_records.specs.declared.side.RowFate.{RowFate}
 use Rattle.undo_records.specs.declared.side.RowFate.TheVariants.{Kept, Dropped}
 use Rattle.record_file.specs.Words.{ratio_word, lower_word, upper_word, letter_word, side_word, bound_word, fate_word}
-use Rattle.record_fields.specs.Ends.{is_below, is_above, is_endless, end_of, letter_of, bound_of, fate_of, has_end}
-use Rattle.record_fields.specs.Fields.{word_fault}
+use Rattle.record_fields.specs.Ends.{is_below, is_above, is_endless, end_of, letter_of, bound_of, fate_of}
+use Rattle.record_fields.specs.Faults.{unless}
+use Rattle.record_fields.specs.Fields.{bound_fault}
+use Rattle.record_fields.specs.declared.faults.LineFault.TheVariants.{BadLine}
 use Rattle.record_fields.specs.Ratios.{ratio_read, ratio_of, number_fault}
-use Rattle.record_fields.specs.declared.fields.Field.TheVariants.{LowerEnd, UpperEnd, SomeEnd, SideLetter, BoundName, Fate}
 use Rattle.rational.specs.Lowest.{Fits}
 use Rattle.record_round_trip.specs.Ranges.{EndFits}
 use Rattle.record_round_trip.proofs.Numerals.{number_again, number_passes, no_word}
 use Rattle.record_round_trip.proofs.Words.{Whole, ratio_whole}
+use Rattle.record_round_trip.proofs.Lists.{both, holds}
 
 read_below : ratio_read (codes "-inf") ≡ Err NotNumber
 unfolding ratio_read
@@ -49,35 +51,29 @@ pub bound_again : (s : Side) (e : Option Number) → EndFits e → end_of (bound
 bound_again Lower e f = lower_again e f
 bound_again Upper e f = upper_again e f
 
-pub lower_passes : (e : Option Number) → EndFits e → word_fault LowerEnd (lower_word e) ≡ None
+pub lower_passes : (e : Option Number) → EndFits e → cond (is_below (lower_word e)) None (number_fault (ratio_read (lower_word e))) ≡ None
 lower_passes None f = refl
 lower_passes (Some q) f = ap (λ (b : Bool). cond b None (number_fault (ratio_read (ratio_word q)))) (not_below q f) ∙ number_passes q f
 
-pub upper_passes : (e : Option Number) → EndFits e → word_fault UpperEnd (upper_word e) ≡ None
+pub upper_passes : (e : Option Number) → EndFits e → cond (is_above (upper_word e)) None (number_fault (ratio_read (upper_word e))) ≡ None
 upper_passes None f = refl
 upper_passes (Some q) f = ap (λ (b : Bool). cond b None (number_fault (ratio_read (ratio_word q)))) (not_above q f) ∙ number_passes q f
 
-some_passes : (q : Number) → Fits q → word_fault SomeEnd (ratio_word q) ≡ None
+some_passes : (q : Number) → Fits q → cond (is_endless (ratio_word q)) None (number_fault (ratio_read (ratio_word q))) ≡ None
 some_passes q f = ap (λ (b : Bool). cond b None (number_fault (ratio_read (ratio_word q)))) (not_endless q f) ∙ number_passes q f
 
-pub bound_passes : (s : Side) (e : Option Number) → EndFits e → word_fault SomeEnd (bound_word s e) ≡ None
-bound_passes Lower None f = refl
-bound_passes Lower (Some q) f = some_passes q f
-bound_passes Upper None f = refl
-bound_passes Upper (Some q) f = some_passes q f
-
 -- a bound has no end only on its own side
-pub bound_agrees : (s : Side) (e : Option Number) → EndFits e → has_end (bound_of (side_word s)) (bound_word s e) ≡ true
-bound_agrees Lower None f = refl
-bound_agrees Lower (Some q) f = ap not (not_above q f)
-bound_agrees Upper None f = refl
-bound_agrees Upper (Some q) f = ap not (not_below q f)
+pub bound_passes : (s : Side) (e : Option Number) → EndFits e → bound_fault (side_word s) (bound_word s e) ≡ None
+bound_passes Lower None f = refl
+bound_passes Lower (Some q) f = both _ _ (some_passes q f) (holds _ BadLine (ap not (not_above q f)))
+bound_passes Upper None f = refl
+bound_passes Upper (Some q) f = both _ _ (some_passes q f) (holds _ BadLine (ap not (not_below q f)))
 
 pub letter_again : (s : Side) → unwrap_or (letter_of (letter_word s)) Lower ≡ s
 letter_again Lower = refl
 letter_again Upper = refl
 
-pub letter_passes : (s : Side) → word_fault SideLetter (letter_word s) ≡ None
+pub letter_passes : (s : Side) → unless (is_some (letter_of (letter_word s))) BadLine ≡ None
 letter_passes Lower = refl
 letter_passes Upper = refl
 
@@ -85,15 +81,11 @@ pub side_again : (s : Side) → unwrap_or (bound_of (side_word s)) Lower ≡ s
 side_again Lower = refl
 side_again Upper = refl
 
-pub side_passes : (s : Side) → word_fault BoundName (side_word s) ≡ None
-side_passes Lower = refl
-side_passes Upper = refl
-
 pub fate_again : (f : RowFate) → unwrap_or (fate_of (fate_word f)) Kept ≡ f
 fate_again Kept = refl
 fate_again Dropped = refl
 
-pub fate_passes : (f : RowFate) → word_fault Fate (fate_word f) ≡ None
+pub fate_passes : (f : RowFate) → unless (is_some (fate_of (fate_word f))) BadLine ≡ None
 fate_passes Kept = refl
 fate_passes Dropped = refl
 

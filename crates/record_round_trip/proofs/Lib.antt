@@ -1,4 +1,5 @@
 pub mod Ends
+pub mod Items
 pub mod Lines
 pub mod Lists
 pub mod Numerals
@@ -6,4 +7,5 @@ pub mod Passing
 pub mod Records
 pub mod Round
 pub mod Sections
+pub mod Values
 pub mod Words

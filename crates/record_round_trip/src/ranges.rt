@@ -2,19 +2,16 @@
 
 ghost use Rattle.std.specs.Prelude.{◌≡◌, ◌<◌, ◌^◌, All, None};
 ghost use Rattle.rational.specs.Lowest.{Fits};
-ghost use Rattle.undo_records.specs.declared.undo.Undo.TheVariants as kind;
+ghost use Rattle.record_values.specs.Value.{seen};
 ghost use Rattle.record_file.specs.RecordText.{record_text};
 ghost use Rattle.record_reader.specs.Reading.{first_fault, records_of};
-ghost use Rattle.record_round_trip.specs.Ranges.{EndFits, EndsFit, HasRange, IsId, ListFits, UndoFits};
+ghost use Rattle.record_round_trip.specs.Ranges.{EndFits, HasRange, IsId, ListFits, UndoFits, ValueFits};
 
 use fractions::ext::Ext;
 use fractions::frac::Frac;
 use lp_model::Term;
-use undo_records::{
-    BoundTightening, CoefficientTightening, DominatedColumn, DoubletonEquation, FixedColumn,
-    ForcingRow, FreeColumnSingleton, ParallelColumns, ParallelRows, Records, SingletonRow,
-    SlackColumnSingleton, Undo,
-};
+use record_values::{Hearer, Value, tell};
+use undo_records::{Records, Undo};
 
 /// An id has 32 bits.
 fn id_fits(id: u32)
@@ -40,14 +37,6 @@ fn end_fits(end: &Ext)
     }
 }
 
-/// Two ends have room.
-fn ends_fit(lower: &Ext, upper: &Ext)
-    ensures { EndsFit lower.now upper.now }
-{
-    end_fits(lower);
-    end_fits(upper);
-}
-
 /// A term's id has 32 bits, and its number has room.
 fn term_fits(term: &Term)
     ensures id { IsId term.now.id }
@@ -66,146 +55,51 @@ fn list_fits(terms: &[Term])
     }
 }
 
-/// The record of a row with one entry.
-fn singleton_row_fits(undo: &SingletonRow)
-    ensures { UndoFits (kind.SingletonRow undo.now) }
+/// The ids and numbers of a value.
+fn value_fits(value: &Value<'_>)
+    ensures { ValueFits (seen value.now) }
 {
-    id_fits(undo.row);
-    id_fits(undo.column);
-    number_fits(&undo.value.get());
-    ends_fit(&undo.lower.get(), &undo.upper.get());
+    match value {
+        Value::Id(id) => id_fits(*id),
+        Value::Ratio(number) => number_fits(number),
+        Value::LowerEnd(end) => end_fits(end),
+        Value::UpperEnd(end) => end_fits(end),
+        Value::Bound(_, end) => end_fits(end),
+        Value::Entries(terms) => list_fits(terms),
+        Value::Letter(_) => {}
+        Value::Fate(_) => {}
+    }
 }
 
-/// The record of a column with equal bounds.
-fn fixed_column_fits(undo: &FixedColumn)
-    ensures { UndoFits (kind.FixedColumn undo.now) }
+/// The ids and numbers of values.
+fn values_fit(values: &[Value<'_>])
+    ensures { All (λ v. ValueFits (seen v)) values.now }
 {
-    id_fits(undo.column);
-    number_fits(&undo.value.get());
-    number_fits(&undo.cost.get());
-    list_fits(undo.entries.as_slice());
+    for value in values {
+        value_fits(value);
+    }
 }
 
-/// The record of a row that fixed its columns.
-fn forcing_row_fits(undo: &ForcingRow)
-    ensures { UndoFits (kind.ForcingRow undo.now) }
-{
-    id_fits(undo.row);
-    list_fits(undo.entries.as_slice());
-}
+/// Hears that values have room.
+struct Room;
 
-/// The record of a bound that was replaced.
-fn bound_tightening_fits(undo: &BoundTightening)
-    ensures { UndoFits (kind.BoundTightening undo.now) }
-{
-    id_fits(undo.row);
-    id_fits(undo.column);
-    end_fits(&undo.bound.get());
-    list_fits(undo.entries.as_slice());
-}
+impl Hearer for Room {
+    type Kept = ();
 
-/// The record of an entry that was brought nearer to 0.
-fn coefficient_tightening_fits(undo: &CoefficientTightening)
-    ensures { UndoFits (kind.CoefficientTightening undo.now) }
-{
-    id_fits(undo.row);
-    id_fits(undo.column);
-}
+    type Answer = ();
 
-/// The record of a column that another one does better than.
-fn dominated_column_fits(undo: &DominatedColumn)
-    ensures { UndoFits (kind.DominatedColumn undo.now) }
-{
-    id_fits(undo.row);
-    id_fits(undo.better);
-    id_fits(undo.column);
-}
+    ghost hears = { λ before values answer after. All ValueFits values };
 
-/// The record of an equation of two columns.
-fn doubleton_equation_fits(undo: &DoubletonEquation)
-    ensures { UndoFits (kind.DoubletonEquation undo.now) }
-{
-    id_fits(undo.row);
-    id_fits(undo.column);
-    id_fits(undo.kept);
-    number_fits(&undo.value.get());
-    number_fits(&undo.kept_value.get());
-    number_fits(&undo.equal.get());
-    ends_fit(&undo.lower.get(), &undo.upper.get());
-    number_fits(&undo.cost.get());
-    list_fits(undo.entries.as_slice());
-}
-
-/// The record of a free column singleton.
-fn free_column_singleton_fits(undo: &FreeColumnSingleton)
-    ensures { UndoFits (kind.FreeColumnSingleton undo.now) }
-{
-    id_fits(undo.column);
-    id_fits(undo.row);
-    number_fits(&undo.value.get());
-    number_fits(&undo.at.get());
-    number_fits(&undo.price.get());
-    list_fits(undo.entries.as_slice());
-}
-
-/// The record of a slack column singleton.
-fn slack_column_singleton_fits(undo: &SlackColumnSingleton)
-    ensures { UndoFits (kind.SlackColumnSingleton undo.now) }
-{
-    id_fits(undo.column);
-    id_fits(undo.row);
-    number_fits(&undo.value.get());
-    number_fits(&undo.price.get());
-    ends_fit(&undo.lower_side.get(), &undo.upper_side.get());
-    ends_fit(&undo.lower.get(), &undo.upper.get());
-    list_fits(undo.entries.as_slice());
-}
-
-/// The record of parallel rows.
-fn parallel_rows_fits(undo: &ParallelRows)
-    ensures { UndoFits (kind.ParallelRows undo.now) }
-{
-    id_fits(undo.row);
-    id_fits(undo.kept);
-    number_fits(&undo.factor.get());
-    ends_fit(&undo.lower.get(), &undo.upper.get());
-    list_fits(undo.entries.as_slice());
-}
-
-/// The record of parallel columns.
-fn parallel_columns_fits(undo: &ParallelColumns)
-    ensures { UndoFits (kind.ParallelColumns undo.now) }
-{
-    id_fits(undo.column);
-    id_fits(undo.kept);
-    number_fits(&undo.factor.get());
-    ends_fit(&undo.lower.get(), &undo.upper.get());
-    ends_fit(&undo.kept_lower.get(), &undo.kept_upper.get());
+    fn hear(_kept: &mut (), values: &[Value<'_>]) {
+        values_fit(values);
+    }
 }
 
 /// The ids and numbers of a record.
 fn undo_fits(undo: &Undo)
     ensures { UndoFits undo.now }
 {
-    match undo {
-        Undo::EmptyRow(undo) => id_fits(undo.row),
-        Undo::SingletonRow(undo) => singleton_row_fits(undo),
-        Undo::FixedColumn(undo) => fixed_column_fits(undo),
-        Undo::RoundedBounds(undo) => id_fits(undo.column),
-        Undo::RedundantRow(undo) => id_fits(undo.row),
-        Undo::RedundantSide(undo) => id_fits(undo.row),
-        Undo::ForcingRow(undo) => forcing_row_fits(undo),
-        Undo::BoundTightening(undo) => bound_tightening_fits(undo),
-        Undo::CoefficientTightening(undo) => coefficient_tightening_fits(undo),
-        Undo::DualFixing(undo) => id_fits(undo.column),
-        Undo::DominatedColumn(undo) => dominated_column_fits(undo),
-        Undo::DoubletonEquation(undo) => doubleton_equation_fits(undo),
-        Undo::FreeColumnSingleton(undo) => free_column_singleton_fits(undo),
-        Undo::SlackColumnSingleton(undo) => slack_column_singleton_fits(undo),
-        Undo::ParallelRows(undo) => parallel_rows_fits(undo),
-        Undo::ParallelColumns(undo) => parallel_columns_fits(undo),
-        Undo::EmptyColumn(undo) => id_fits(undo.column),
-    }
+    tell::<Room>(&mut (), undo);
 }
 
 /// The ids and numbers of all records.

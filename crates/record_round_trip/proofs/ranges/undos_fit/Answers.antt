@@ -1,18 +1,6 @@
-use Rattle.std.proofs.Common.{◌≡◌, ℕ, ◌+◌, ◌<◌, Bool, true, false, ltb, List, length, slice_index_or, ◌∙◌, subst, arith, refl}
-use Rattle.std.proofs.lemmas.Bool.Decides.{nat_tests}
-use Rattle.std.proofs.lemmas.List.{get_or_default}
-use Rattle.undo_records.specs.declared.undo.Undo.{Undo}
 use Rattle.record_round_trip.specs.Ranges.{UndoFits}
+use Rattle.record_round_trip.proofs.Items.{next}
 use Rattle.record_round_trip.proofs.ranges.undos_fit.Goals as goal
-
--- what holds of those before a place and at it holds of those up to it
-next : (P : Undo → Type 0) (xs : List Undo) (i : ℕ) (x : Undo) → i < length xs → x ≡ slice_index_or xs i x → P x
-    → ((k : ℕ) (d : Undo) → k < i → P (slice_index_or xs k d)) → (k : ℕ) (d : Undo) → k < i + 1 → P (slice_index_or xs k d)
-next P xs i x l e p h k d b = by (ltb k i) refl
-  where
-    by : (t : Bool) → ltb k i ≡ t → P (slice_index_or xs k d)
-    by true q = h k d (grind (arith, nat_tests))
-    by false q = let s : i ≡ k = grind (arith, nat_tests) in subst (λ (n : ℕ). P (slice_index_or xs n d)) s (subst P (e ∙ get_or_default xs i x d l) p)
 
 pub loop-undo-preserved : goal.loop-undo-preserved
 loop-undo-preserved c = next UndoFits c.args.undos.now c.loop-undo.undo-index c.undo-item.result c.loop-undo-test.true c.undo-item.is c.undo_fits.ensures c.loop-undo.invariant
