@@ -8,24 +8,9 @@ ghost use Rattle.record_reader.specs.Reading.{first_fault, records_of};
 ghost use Rattle.record_round_trip.specs.Ranges.{EndFits, HasRange, IsId, ListFits, UndoFits, ValueFits};
 
 use fractions::ext::Ext;
-use fractions::frac::Frac;
 use lp_model::Term;
 use record_values::{Hearer, Value, tell};
 use undo_records::{Records, Undo};
-
-/// An id has 32 bits.
-fn id_fits(id: u32)
-    ensures { IsId id }
-{
-    let _id = id;
-}
-
-/// A number has room.
-fn number_fits(number: &Frac)
-    ensures { Fits number.now }
-{
-    let _parts = number.parts();
-}
 
 /// An end that is a number has room.
 fn end_fits(end: &Ext)
@@ -33,17 +18,10 @@ fn end_fits(end: &Ext)
 {
     match end.number() {
         None => {}
-        Some(number) => number_fits(&number),
+        Some(number) => {
+            let _parts = number.parts();
+        }
     }
-}
-
-/// A term's id has 32 bits, and its number has room.
-fn term_fits(term: &Term)
-    ensures id { IsId term.now.id }
-    ensures value { Fits term.now.value }
-{
-    id_fits(term.id);
-    number_fits(&term.value);
 }
 
 /// The ids and numbers of a list.
@@ -51,7 +29,8 @@ fn list_fits(terms: &[Term])
     ensures { ListFits terms.now }
 {
     for term in terms {
-        term_fits(term);
+        let _id = term.id;
+        let _parts = term.value.parts();
     }
 }
 
@@ -60,14 +39,15 @@ fn value_fits(value: &Value<'_>)
     ensures { ValueFits (seen value.now) }
 {
     match value {
-        Value::Id(id) => id_fits(*id),
-        Value::Ratio(number) => number_fits(number),
-        Value::LowerEnd(end) => end_fits(end),
-        Value::UpperEnd(end) => end_fits(end),
-        Value::Bound(_, end) => end_fits(end),
+        Value::Id(id) => {
+            let _id = *id;
+        }
+        Value::Ratio(number) => {
+            let _parts = number.parts();
+        }
+        Value::LowerEnd(end) | Value::UpperEnd(end) | Value::Bound(_, end) => end_fits(end),
         Value::Entries(terms) => list_fits(terms),
-        Value::Letter(_) => {}
-        Value::Fate(_) => {}
+        Value::Letter(_) | Value::Fate(_) => {}
     }
 }
 
@@ -118,7 +98,7 @@ pub fn records_have_range(records: &Records)
     let _columns = records.columns().len();
     let _rows = records.rows().len();
     let _undos = records.undos().len();
-    number_fits(&records.offset());
+    let _parts = records.offset().parts();
     undos_fit(records.undos());
 }
 

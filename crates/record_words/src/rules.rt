@@ -4,6 +4,9 @@ ghost use Rattle.std.specs.Prelude.{◌≡◌};
 ghost use Rattle.record_words.specs.Rules.{rule_of, fields_of};
 
 use record_fields::fields::Field;
+use record_fields::fields::Field::{
+    Bound, Entries, Entry, Fate, Id, LowerEnd, Number, SideLetter, UpperEnd,
+};
 use record_values::Rule;
 
 /// The fields of a rule's record.
@@ -11,73 +14,27 @@ pub fn fields_of(rule: Rule) -> &'static [Field]
     ensures { result.now ≡ fields_of rule }
 {
     match rule {
-        Rule::K1 => &[Field::Id],
-        Rule::K2 => &[
-            Field::Id,
-            Field::Id,
-            Field::Entry,
-            Field::LowerEnd,
-            Field::UpperEnd,
-        ],
-        Rule::K3 => &[Field::Id, Field::Number, Field::Number, Field::Entries],
-        Rule::K4 => &[Field::Id],
-        Rule::K5 => &[Field::Id],
-        Rule::K6 => &[Field::Id],
-        Rule::K7 => &[Field::Id, Field::SideLetter, Field::Entries],
-        Rule::K8 => &[Field::Id, Field::Id, Field::Bound, Field::Entries],
-        Rule::K9 => &[Field::Id, Field::Id],
-        Rule::K10 => &[Field::Id],
-        Rule::K11 => &[Field::Id, Field::Id, Field::Id],
+        Rule::K1 => &[Id],
+        Rule::K2 => &[Id, Id, Entry, LowerEnd, UpperEnd],
+        Rule::K3 => &[Id, Number, Number, Entries],
+        Rule::K4 => &[Id],
+        Rule::K5 => &[Id],
+        Rule::K6 => &[Id],
+        Rule::K7 => &[Id, SideLetter, Entries],
+        Rule::K8 => &[Id, Id, Bound, Entries],
+        Rule::K9 => &[Id, Id],
+        Rule::K10 => &[Id],
+        Rule::K11 => &[Id, Id, Id],
         Rule::K12 => &[
-            Field::Id,
-            Field::Id,
-            Field::Id,
-            Field::Entry,
-            Field::Entry,
-            Field::Number,
-            Field::LowerEnd,
-            Field::UpperEnd,
-            Field::Number,
-            Field::Entries,
+            Id, Id, Id, Entry, Entry, Number, LowerEnd, UpperEnd, Number, Entries,
         ],
-        Rule::K13 => &[
-            Field::Id,
-            Field::Id,
-            Field::Entry,
-            Field::Number,
-            Field::Number,
-            Field::Entries,
-        ],
+        Rule::K13 => &[Id, Id, Entry, Number, Number, Entries],
         Rule::K14 => &[
-            Field::Id,
-            Field::Id,
-            Field::Entry,
-            Field::Number,
-            Field::LowerEnd,
-            Field::UpperEnd,
-            Field::LowerEnd,
-            Field::UpperEnd,
-            Field::Fate,
-            Field::Entries,
+            Id, Id, Entry, Number, LowerEnd, UpperEnd, LowerEnd, UpperEnd, Fate, Entries,
         ],
-        Rule::K15 => &[
-            Field::Id,
-            Field::Id,
-            Field::Entry,
-            Field::LowerEnd,
-            Field::UpperEnd,
-            Field::Entries,
-        ],
-        Rule::K16 => &[
-            Field::Id,
-            Field::Id,
-            Field::Entry,
-            Field::LowerEnd,
-            Field::UpperEnd,
-            Field::LowerEnd,
-            Field::UpperEnd,
-        ],
-        Rule::K17 => &[Field::Id],
+        Rule::K15 => &[Id, Id, Entry, LowerEnd, UpperEnd, Entries],
+        Rule::K16 => &[Id, Id, Entry, LowerEnd, UpperEnd, LowerEnd, UpperEnd],
+        Rule::K17 => &[Id],
     }
 }
 
