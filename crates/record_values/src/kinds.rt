@@ -12,128 +12,128 @@ use undo_records::{
 };
 
 /// The values of a row with one entry.
-pub fn singleton_row(record: &SingletonRow) -> [Value<'_>; 5]
-    ensures { map seen result ≡ values (kind.SingletonRow record.now) }
+pub fn singleton_row(undo: &SingletonRow) -> [Value<'_>; 5]
+    ensures { map seen result ≡ values (kind.SingletonRow undo.now) }
 {
     [
-        Value::Id(record.row),
-        Value::Id(record.column),
-        Value::Ratio(record.value.get()),
-        Value::LowerEnd(record.lower.get()),
-        Value::UpperEnd(record.upper.get()),
+        Value::Id(undo.row),
+        Value::Id(undo.column),
+        Value::Ratio(undo.value.get()),
+        Value::LowerEnd(undo.lower.get()),
+        Value::UpperEnd(undo.upper.get()),
     ]
 }
 
 /// The values of a column with equal bounds.
-pub fn fixed_column(record: &FixedColumn) -> [Value<'_>; 4]
-    ensures { map seen result ≡ values (kind.FixedColumn record.now) }
+pub fn fixed_column(undo: &FixedColumn) -> [Value<'_>; 4]
+    ensures { map seen result ≡ values (kind.FixedColumn undo.now) }
 {
     [
-        Value::Id(record.column),
-        Value::Ratio(record.value.get()),
-        Value::Ratio(record.cost.get()),
-        Value::Entries(record.entries.as_slice()),
+        Value::Id(undo.column),
+        Value::Ratio(undo.value.get()),
+        Value::Ratio(undo.cost.get()),
+        Value::Entries(undo.entries.as_slice()),
     ]
 }
 
 /// The values of a row that fixed its columns.
-pub fn forcing_row(record: &ForcingRow) -> [Value<'_>; 3]
-    ensures { map seen result ≡ values (kind.ForcingRow record.now) }
+pub fn forcing_row(undo: &ForcingRow) -> [Value<'_>; 3]
+    ensures { map seen result ≡ values (kind.ForcingRow undo.now) }
 {
     [
-        Value::Id(record.row),
-        Value::Letter(record.side),
-        Value::Entries(record.entries.as_slice()),
+        Value::Id(undo.row),
+        Value::Letter(undo.side),
+        Value::Entries(undo.entries.as_slice()),
     ]
 }
 
 /// The values of a bound that was replaced.
-pub fn bound_tightening(record: &BoundTightening) -> [Value<'_>; 4]
-    ensures { map seen result ≡ values (kind.BoundTightening record.now) }
+pub fn bound_tightening(undo: &BoundTightening) -> [Value<'_>; 4]
+    ensures { map seen result ≡ values (kind.BoundTightening undo.now) }
 {
     [
-        Value::Id(record.row),
-        Value::Id(record.column),
-        Value::Bound(record.side, record.bound.get()),
-        Value::Entries(record.entries.as_slice()),
+        Value::Id(undo.row),
+        Value::Id(undo.column),
+        Value::Bound(undo.side, undo.bound.get()),
+        Value::Entries(undo.entries.as_slice()),
     ]
 }
 
 /// The values of an equation of two columns.
-pub fn doubleton_equation(record: &DoubletonEquation) -> [Value<'_>; 10]
-    ensures { map seen result ≡ values (kind.DoubletonEquation record.now) }
+pub fn doubleton_equation(undo: &DoubletonEquation) -> [Value<'_>; 10]
+    ensures { map seen result ≡ values (kind.DoubletonEquation undo.now) }
 {
     [
-        Value::Id(record.row),
-        Value::Id(record.column),
-        Value::Id(record.kept),
-        Value::Ratio(record.value.get()),
-        Value::Ratio(record.kept_value.get()),
-        Value::Ratio(record.equal.get()),
-        Value::LowerEnd(record.lower.get()),
-        Value::UpperEnd(record.upper.get()),
-        Value::Ratio(record.cost.get()),
-        Value::Entries(record.entries.as_slice()),
+        Value::Id(undo.row),
+        Value::Id(undo.column),
+        Value::Id(undo.kept),
+        Value::Ratio(undo.value.get()),
+        Value::Ratio(undo.kept_value.get()),
+        Value::Ratio(undo.equal.get()),
+        Value::LowerEnd(undo.lower.get()),
+        Value::UpperEnd(undo.upper.get()),
+        Value::Ratio(undo.cost.get()),
+        Value::Entries(undo.entries.as_slice()),
     ]
 }
 
 /// The values of a free column singleton.
-pub fn free_column_singleton(record: &FreeColumnSingleton) -> [Value<'_>; 6]
-    ensures { map seen result ≡ values (kind.FreeColumnSingleton record.now) }
+pub fn free_column_singleton(undo: &FreeColumnSingleton) -> [Value<'_>; 6]
+    ensures { map seen result ≡ values (kind.FreeColumnSingleton undo.now) }
 {
     [
-        Value::Id(record.column),
-        Value::Id(record.row),
-        Value::Ratio(record.value.get()),
-        Value::Ratio(record.at.get()),
-        Value::Ratio(record.price.get()),
-        Value::Entries(record.entries.as_slice()),
+        Value::Id(undo.column),
+        Value::Id(undo.row),
+        Value::Ratio(undo.value.get()),
+        Value::Ratio(undo.at.get()),
+        Value::Ratio(undo.price.get()),
+        Value::Entries(undo.entries.as_slice()),
     ]
 }
 
 /// The values of a slack column singleton.
-pub fn slack_column_singleton(record: &SlackColumnSingleton) -> [Value<'_>; 10]
-    ensures { map seen result ≡ values (kind.SlackColumnSingleton record.now) }
+pub fn slack_column_singleton(undo: &SlackColumnSingleton) -> [Value<'_>; 10]
+    ensures { map seen result ≡ values (kind.SlackColumnSingleton undo.now) }
 {
     [
-        Value::Id(record.column),
-        Value::Id(record.row),
-        Value::Ratio(record.value.get()),
-        Value::Ratio(record.price.get()),
-        Value::LowerEnd(record.lower_side.get()),
-        Value::UpperEnd(record.upper_side.get()),
-        Value::LowerEnd(record.lower.get()),
-        Value::UpperEnd(record.upper.get()),
-        Value::Fate(record.fate),
-        Value::Entries(record.entries.as_slice()),
+        Value::Id(undo.column),
+        Value::Id(undo.row),
+        Value::Ratio(undo.value.get()),
+        Value::Ratio(undo.price.get()),
+        Value::LowerEnd(undo.lower_side.get()),
+        Value::UpperEnd(undo.upper_side.get()),
+        Value::LowerEnd(undo.lower.get()),
+        Value::UpperEnd(undo.upper.get()),
+        Value::Fate(undo.fate),
+        Value::Entries(undo.entries.as_slice()),
     ]
 }
 
 /// The values of parallel rows.
-pub fn parallel_rows(record: &ParallelRows) -> [Value<'_>; 6]
-    ensures { map seen result ≡ values (kind.ParallelRows record.now) }
+pub fn parallel_rows(undo: &ParallelRows) -> [Value<'_>; 6]
+    ensures { map seen result ≡ values (kind.ParallelRows undo.now) }
 {
     [
-        Value::Id(record.row),
-        Value::Id(record.kept),
-        Value::Ratio(record.factor.get()),
-        Value::LowerEnd(record.lower.get()),
-        Value::UpperEnd(record.upper.get()),
-        Value::Entries(record.entries.as_slice()),
+        Value::Id(undo.row),
+        Value::Id(undo.kept),
+        Value::Ratio(undo.factor.get()),
+        Value::LowerEnd(undo.lower.get()),
+        Value::UpperEnd(undo.upper.get()),
+        Value::Entries(undo.entries.as_slice()),
     ]
 }
 
 /// The values of parallel columns.
-pub fn parallel_columns(record: &ParallelColumns) -> [Value<'_>; 7]
-    ensures { map seen result ≡ values (kind.ParallelColumns record.now) }
+pub fn parallel_columns(undo: &ParallelColumns) -> [Value<'_>; 7]
+    ensures { map seen result ≡ values (kind.ParallelColumns undo.now) }
 {
     [
-        Value::Id(record.column),
-        Value::Id(record.kept),
-        Value::Ratio(record.factor.get()),
-        Value::LowerEnd(record.lower.get()),
-        Value::UpperEnd(record.upper.get()),
-        Value::LowerEnd(record.kept_lower.get()),
-        Value::UpperEnd(record.kept_upper.get()),
+        Value::Id(undo.column),
+        Value::Id(undo.kept),
+        Value::Ratio(undo.factor.get()),
+        Value::LowerEnd(undo.lower.get()),
+        Value::UpperEnd(undo.upper.get()),
+        Value::LowerEnd(undo.kept_lower.get()),
+        Value::UpperEnd(undo.kept_upper.get()),
     ]
 }
