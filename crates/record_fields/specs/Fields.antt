@@ -2,8 +2,8 @@
 use Rattle.std.specs.Prelude.{ℕ, List, [], ◌∷◌, Option, None, is_some, unwrap_or, if◌then◌else◌}
 use Rattle.undo_records.specs.declared.side.Side.TheVariants.{Lower}
 use Rattle.undo_records.specs.declared.side.RowFate.TheVariants.{Kept}
-use Rattle.record_values.specs.Value as value
-use Rattle.record_values.specs.Value.{Value}
+use Rattle.record_values.specs.declared.value.Value.TheVariants as value
+use Rattle.record_values.specs.declared.value.Value.{Value}
 use Rattle.record_fields.specs.Words.{first, others, is_empty, id_of, id_fault}
 use Rattle.record_fields.specs.Faults.{unless, lower}
 use Rattle.record_fields.specs.Ratios.{ratio_read, ratio_of, number_fault, entry_fault}

@@ -3,7 +3,7 @@ use Rattle.std.proofs.Common.{◌≡◌, ℕ, List, [], ◌∷◌, ◌++◌, ref
 use Rattle.std.proofs.lemmas.List.{append-nil}
 use Rattle.std.specs.Prelude.{codes}
 use Rattle.undo_records.specs.Postsolve.{Postsolve}
-use Rattle.record_values.specs.Value.{Value}
+use Rattle.record_values.specs.declared.value.Value.{Value}
 use Rattle.record_file.specs.Fields.{value_words, words_of_values}
 use Rattle.record_file.specs.RecordText.{Line, spaced, line_text, lines_text, header_lines, label_lines, offset_line, undo_lines, end_line, record_text}
 use Rattle.record_file.specs.Onto.{words_onto}

@@ -1,7 +1,6 @@
 //! The words of each record.
 
-ghost use Rattle.std.specs.Prelude.{◌≡◌, OnOk, map};
-ghost use Rattle.record_values.specs.Value.{seen};
+ghost use Rattle.std.specs.Prelude.{◌≡◌, OnOk};
 ghost use Rattle.record_values.specs.Values.{rule_undone};
 ghost use Rattle.record_file.specs.Fields.{rule_word, value_words, words_of_values, field_words};
 ghost use Rattle.record_file.specs.Onto.{words_onto};
@@ -11,6 +10,7 @@ use crate::words::{
 };
 use record_values::{Hearer, Value, tell};
 use std::alloc::AllocError;
+use std::convert::AsSlice;
 use undo_records::Undo;
 
 /// The rule of the reduction that a record undoes.
@@ -40,7 +40,7 @@ pub fn rule_name(undo: &Undo) -> &'static [u8]
 
 /// Appends the words of a value.
 fn push_value(out: &mut Vec<u8>, value: &Value<'_>) -> Result<(), AllocError>
-    ensures { OnOk result (out.new.items ≡ words_onto out.old.items (value_words (seen value.now))) }
+    ensures { OnOk result (out.new.items ≡ words_onto out.old.items (value_words value.now)) }
 {
     match value {
         Value::Id(id) => push_id(out, *id),
@@ -50,14 +50,14 @@ fn push_value(out: &mut Vec<u8>, value: &Value<'_>) -> Result<(), AllocError>
         Value::Letter(side) => push_side(out, *side),
         Value::Bound(side, end) => push_bound(out, *side, *end),
         Value::Fate(fate) => push_fate(out, *fate),
-        Value::Entries(terms) => push_terms(out, terms),
+        Value::Entries(terms) => push_terms(out, terms.as_slice()),
     }
 }
 
 /// Appends the words of values.
 #[tactic(auto, using(crate::proofs::OntoLaws::values_onto_is))]
 fn push_values(out: &mut Vec<u8>, values: &[Value<'_>]) -> Result<(), AllocError>
-    ensures { OnOk result (out.new.items ≡ words_onto out.old.items (words_of_values (map seen values.now))) }
+    ensures { OnOk result (out.new.items ≡ words_onto out.old.items (words_of_values values.now)) }
 {
     let mut rest = values;
     while let [value, after @ ..] = rest {

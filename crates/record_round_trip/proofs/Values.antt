@@ -6,7 +6,8 @@ use Rattle.std.specs.List.{AllByRecursion}
 use Rattle.std.proofs.lemmas.List.{append-nil}
 use Rattle.rational.specs.Number.{zero_ℚ}
 use Rattle.lp_model.specs.Sparse.{Ascends}
-use Rattle.record_values.specs.Value.{Value, Id, Ratio, LowerEnd, UpperEnd, Letter, Bound, Fate, Entries}
+use Rattle.record_values.specs.declared.value.Value.{Value}
+use Rattle.record_values.specs.declared.value.Value.TheVariants.{Id, Ratio, LowerEnd, UpperEnd, Letter, Bound, Fate, Entries}
 use Rattle.record_file.specs.Words.{list_words}
 use Rattle.record_file.specs.Fields.{value_words, words_of_values}
 use Rattle.record_fields.specs.Lists.{list_fault, list_of}

@@ -5,7 +5,8 @@ use Rattle.rational.specs.Lowest.{Fits}
 use Rattle.lp_model.specs.declared.terms.Term.{Term}
 use Rattle.undo_records.specs.Postsolve.{Postsolve}
 use Rattle.undo_records.specs.declared.undo.Undo.{Undo}
-use Rattle.record_values.specs.Value.{Value, Id, Ratio, LowerEnd, UpperEnd, Bound, Entries}
+use Rattle.record_values.specs.declared.value.Value.{Value}
+use Rattle.record_values.specs.declared.value.Value.TheVariants.{Id, Ratio, LowerEnd, UpperEnd, Bound, Entries}
 use Rattle.record_values.specs.Values.{values}
 
 -- an id of 32 bits

@@ -2,7 +2,6 @@
 
 ghost use Rattle.std.specs.Prelude.{◌≡◌, ◌<◌, ◌^◌, All, None};
 ghost use Rattle.rational.specs.Lowest.{Fits};
-ghost use Rattle.record_values.specs.Value.{seen};
 ghost use Rattle.record_file.specs.RecordText.{record_text};
 ghost use Rattle.record_reader.specs.Reading.{first_fault, records_of};
 ghost use Rattle.record_round_trip.specs.Ranges.{EndFits, HasRange, IsId, ListFits, UndoFits, ValueFits};
@@ -36,7 +35,7 @@ fn list_fits(terms: &[Term])
 
 /// The ids and numbers of a value.
 fn value_fits(value: &Value<'_>)
-    ensures { ValueFits (seen value.now) }
+    ensures { ValueFits value.now }
 {
     match value {
         Value::Id(id) => {
@@ -46,14 +45,14 @@ fn value_fits(value: &Value<'_>)
             let _parts = number.parts();
         }
         Value::LowerEnd(end) | Value::UpperEnd(end) | Value::Bound(_, end) => end_fits(end),
-        Value::Entries(terms) => list_fits(terms),
+        Value::Entries(terms) => list_fits(terms.as_slice()),
         Value::Letter(_) | Value::Fate(_) => {}
     }
 }
 
 /// The ids and numbers of values.
 fn values_fit(values: &[Value<'_>])
-    ensures { All (λ v. ValueFits (seen v)) values.now }
+    ensures { All ValueFits values.now }
 {
     for value in values {
         value_fits(value);

@@ -1,11 +1,10 @@
 //! The values of each kind of record that has more than ids.
 
-ghost use Rattle.std.specs.Prelude.{◌≡◌, map};
+ghost use Rattle.std.specs.Prelude.{◌≡◌};
 ghost use Rattle.undo_records.specs.declared.undo.Undo.TheVariants as kind;
-ghost use Rattle.record_values.specs.Value.{seen};
 ghost use Rattle.record_values.specs.Values.{values};
 
-use crate::value::Value;
+use crate::value::{Listed, Value};
 use undo_records::{
     BoundTightening, DoubletonEquation, FixedColumn, ForcingRow, FreeColumnSingleton,
     ParallelColumns, ParallelRows, SingletonRow, SlackColumnSingleton,
@@ -13,7 +12,7 @@ use undo_records::{
 
 /// The values of a row with one entry.
 pub fn singleton_row(undo: &SingletonRow) -> [Value<'_>; 5]
-    ensures { map seen result ≡ values (kind.SingletonRow undo.now) }
+    ensures { result ≡ values (kind.SingletonRow undo.now) }
 {
     [
         Value::Id(undo.row),
@@ -26,42 +25,42 @@ pub fn singleton_row(undo: &SingletonRow) -> [Value<'_>; 5]
 
 /// The values of a column with equal bounds.
 pub fn fixed_column(undo: &FixedColumn) -> [Value<'_>; 4]
-    ensures { map seen result ≡ values (kind.FixedColumn undo.now) }
+    ensures { result ≡ values (kind.FixedColumn undo.now) }
 {
     [
         Value::Id(undo.column),
         Value::Ratio(undo.value.get()),
         Value::Ratio(undo.cost.get()),
-        Value::Entries(undo.entries.as_slice()),
+        Value::Entries(Listed::new(undo.entries.as_slice())),
     ]
 }
 
 /// The values of a row that fixed its columns.
 pub fn forcing_row(undo: &ForcingRow) -> [Value<'_>; 3]
-    ensures { map seen result ≡ values (kind.ForcingRow undo.now) }
+    ensures { result ≡ values (kind.ForcingRow undo.now) }
 {
     [
         Value::Id(undo.row),
         Value::Letter(undo.side),
-        Value::Entries(undo.entries.as_slice()),
+        Value::Entries(Listed::new(undo.entries.as_slice())),
     ]
 }
 
 /// The values of a bound that was replaced.
 pub fn bound_tightening(undo: &BoundTightening) -> [Value<'_>; 4]
-    ensures { map seen result ≡ values (kind.BoundTightening undo.now) }
+    ensures { result ≡ values (kind.BoundTightening undo.now) }
 {
     [
         Value::Id(undo.row),
         Value::Id(undo.column),
         Value::Bound(undo.side, undo.bound.get()),
-        Value::Entries(undo.entries.as_slice()),
+        Value::Entries(Listed::new(undo.entries.as_slice())),
     ]
 }
 
 /// The values of an equation of two columns.
 pub fn doubleton_equation(undo: &DoubletonEquation) -> [Value<'_>; 10]
-    ensures { map seen result ≡ values (kind.DoubletonEquation undo.now) }
+    ensures { result ≡ values (kind.DoubletonEquation undo.now) }
 {
     [
         Value::Id(undo.row),
@@ -73,13 +72,13 @@ pub fn doubleton_equation(undo: &DoubletonEquation) -> [Value<'_>; 10]
         Value::LowerEnd(undo.lower.get()),
         Value::UpperEnd(undo.upper.get()),
         Value::Ratio(undo.cost.get()),
-        Value::Entries(undo.entries.as_slice()),
+        Value::Entries(Listed::new(undo.entries.as_slice())),
     ]
 }
 
 /// The values of a free column singleton.
 pub fn free_column_singleton(undo: &FreeColumnSingleton) -> [Value<'_>; 6]
-    ensures { map seen result ≡ values (kind.FreeColumnSingleton undo.now) }
+    ensures { result ≡ values (kind.FreeColumnSingleton undo.now) }
 {
     [
         Value::Id(undo.column),
@@ -87,13 +86,13 @@ pub fn free_column_singleton(undo: &FreeColumnSingleton) -> [Value<'_>; 6]
         Value::Ratio(undo.value.get()),
         Value::Ratio(undo.at.get()),
         Value::Ratio(undo.price.get()),
-        Value::Entries(undo.entries.as_slice()),
+        Value::Entries(Listed::new(undo.entries.as_slice())),
     ]
 }
 
 /// The values of a slack column singleton.
 pub fn slack_column_singleton(undo: &SlackColumnSingleton) -> [Value<'_>; 10]
-    ensures { map seen result ≡ values (kind.SlackColumnSingleton undo.now) }
+    ensures { result ≡ values (kind.SlackColumnSingleton undo.now) }
 {
     [
         Value::Id(undo.column),
@@ -105,13 +104,13 @@ pub fn slack_column_singleton(undo: &SlackColumnSingleton) -> [Value<'_>; 10]
         Value::LowerEnd(undo.lower.get()),
         Value::UpperEnd(undo.upper.get()),
         Value::Fate(undo.fate),
-        Value::Entries(undo.entries.as_slice()),
+        Value::Entries(Listed::new(undo.entries.as_slice())),
     ]
 }
 
 /// The values of parallel rows.
 pub fn parallel_rows(undo: &ParallelRows) -> [Value<'_>; 6]
-    ensures { map seen result ≡ values (kind.ParallelRows undo.now) }
+    ensures { result ≡ values (kind.ParallelRows undo.now) }
 {
     [
         Value::Id(undo.row),
@@ -119,13 +118,13 @@ pub fn parallel_rows(undo: &ParallelRows) -> [Value<'_>; 6]
         Value::Ratio(undo.factor.get()),
         Value::LowerEnd(undo.lower.get()),
         Value::UpperEnd(undo.upper.get()),
-        Value::Entries(undo.entries.as_slice()),
+        Value::Entries(Listed::new(undo.entries.as_slice())),
     ]
 }
 
 /// The values of parallel columns.
 pub fn parallel_columns(undo: &ParallelColumns) -> [Value<'_>; 7]
-    ensures { map seen result ≡ values (kind.ParallelColumns undo.now) }
+    ensures { result ≡ values (kind.ParallelColumns undo.now) }
 {
     [
         Value::Id(undo.column),

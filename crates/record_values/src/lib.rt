@@ -1,7 +1,7 @@
 //! The fields of each kind of record as values, in the order in which its text has them.
 //!
-//! `specs/` has the values of a record, and the record that they make: a line a kind each. In code a record tells its values at once,
-//! and keeps no list of them.
+//! `specs/` has the values of a record, and the record that they make: a line a kind each. In code a record tells its values at
+//! once, in an array, to what hears them.
 #![tactic(auto)]
 
 ghost use Rattle.std.specs.Prelude.{◌≡◌};
@@ -15,7 +15,7 @@ mod value;
 
 pub use rule::Rule;
 pub use telling::{Hearer, tell};
-pub use value::Value;
+pub use value::{Listed, Value};
 
 /// A record is made of its values. Says so, and does nothing.
 pub fn values_make_records()

@@ -1,7 +1,7 @@
 //! A record tells its values.
 
-ghost use Rattle.std.specs.Prelude.{List, map};
-ghost use Rattle.record_values.specs.Value.{Value, seen};
+ghost use Rattle.std.specs.Prelude.{List};
+ghost use Rattle.record_values.specs.declared.value.Value.{Value};
 ghost use Rattle.record_values.specs.Values.{values};
 
 use crate::kinds;
@@ -10,18 +10,18 @@ use undo_records::Undo;
 
 /// What hears the values of a record.
 pub trait Hearer {
-    /// What keeps something of them.
+    /// What is kept of what was heard.
     type Kept;
 
-    /// What is answered.
+    /// What is answered to values.
     type Answer;
 
-    /// Whether these values lead from what was kept to an answer and to what is kept.
+    /// Whether these values lead from what was kept before to an answer and to what is kept after.
     ghost hears: { Self.Kept → List Value → Self.Answer → Self.Kept → Type 0 };
 
     /// Hears values.
     fn hear(kept: &mut Self::Kept, values: &[Value<'_>]) -> Self::Answer
-        ensures { hears kept.old (map seen values.now) result kept.new };
+        ensures { hears kept.old values.now result kept.new };
 }
 
 /// Tells a record's values, all at once.
