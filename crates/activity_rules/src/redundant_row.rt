@@ -17,7 +17,7 @@ use problem_model::{Edit, Refusal};
 use rule_words::Change;
 use sparse_problem::Problem;
 use std::alloc::{AllocError, Global};
-use undo_records::{RedundantRow, Undo};
+use undo_records::{RowRecord, Undo};
 
 /// Whether a row's least activity has room, and keeps a lower side.
 fn keeps_below(problem: &Problem, row: u32, lower: &Ext) -> bool
@@ -78,6 +78,6 @@ pub fn change(alloc: Global, problem: &Problem, row: u32) -> Result<Change, Refu
         .map_err(AllocError::from)?;
     Ok(Change {
         edits,
-        undo: Undo::RedundantRow(RedundantRow { row }),
+        undo: Undo::RedundantRow(RowRecord { row }),
     })
 }

@@ -14,7 +14,7 @@ use problem_model::{Edit, Refusal};
 use rule_words::Change;
 use sparse_problem::Problem;
 use std::alloc::{AllocError, Global};
-use undo_records::{RedundantSide, Undo};
+use undo_records::{RowRecord, Undo};
 
 /// Whether both sides of a row are finite.
 fn has_both_sides(problem: &Problem, row: u32) -> bool
@@ -101,6 +101,6 @@ pub fn change(alloc: Global, problem: &Problem, row: u32) -> Result<Change, Refu
         .map_err(AllocError::from)?;
     Ok(Change {
         edits,
-        undo: Undo::RedundantSide(RedundantSide { row }),
+        undo: Undo::RedundantSide(RowRecord { row }),
     })
 }

@@ -13,7 +13,7 @@ use problem_model::{Edit, Refusal};
 use rule_words::Change;
 use sparse_problem::Problem;
 use std::alloc::{AllocError, Global};
-use undo_records::{DualFixing, Undo};
+use undo_records::{ColumnRecord, Undo};
 
 /// Whether a column goes down to its lower bound: it is finite, whole if the column is, the cost not below 0, and each row takes it.
 fn goes_down(problem: &Problem, column: u32) -> bool
@@ -80,6 +80,6 @@ pub fn change(alloc: Global, problem: &Problem, column: u32) -> Result<Change, R
         .map_err(AllocError::from)?;
     Ok(Change {
         edits,
-        undo: Undo::DualFixing(DualFixing { column }),
+        undo: Undo::DualFixing(ColumnRecord { column }),
     })
 }

@@ -10,21 +10,20 @@ use Rattle.lp_rows.specs.BoundTightening.{undo_lower_bound_tightened, undo_upper
 use Rattle.lp_rows.specs.ParallelRows.{undo_parallel_rows}
 use Rattle.undo_records.specs.declared.side.Side.{Side}
 use Rattle.undo_records.specs.declared.side.Side.TheVariants.{Lower, Upper}
-use Rattle.undo_records.specs.declared.kinds.empty_row.EmptyRow.{EmptyRow}
+use Rattle.undo_records.specs.declared.kinds.row_record.RowRecord.{RowRecord}
 use Rattle.undo_records.specs.declared.kinds.singleton_row.SingletonRow.{SingletonRow}
-use Rattle.undo_records.specs.declared.kinds.redundant_row.RedundantRow.{RedundantRow}
 use Rattle.undo_records.specs.declared.kinds.bound_tightening.BoundTightening.{BoundTightening}
 use Rattle.undo_records.specs.declared.kinds.parallel_rows.ParallelRows.{ParallelRows}
 use Rattle.undo_records.specs.declared.undo.Undo.TheVariants as kind
 use Rattle.undo_pairs.specs.LiftPair.{undone_pair, undo_bound, undo_multiple}
 
-pub empty : (r : EmptyRow) (p : Priced) → undone_pair (kind.EmptyRow r) p ≡ undo_empty_row r.row p
+pub empty : (r : RowRecord) (p : Priced) → undone_pair (kind.EmptyRow r) p ≡ undo_empty_row r.row p
 empty r p = refl
 
 pub singleton : (r : SingletonRow) (p : Priced) → undone_pair (kind.SingletonRow r) p ≡ undo_singleton_row r.row r.column r.value r.lower r.upper p
 singleton r p = refl
 
-pub redundant : (r : RedundantRow) (p : Priced) → undone_pair (kind.RedundantRow r) p ≡ undo_redundant_row r.row p
+pub redundant : (r : RowRecord) (p : Priced) → undone_pair (kind.RedundantRow r) p ≡ undo_redundant_row r.row p
 redundant r p = refl
 
 pub tightened_lower : (r : BoundTightening) (p : Priced) → r.side ≡ Lower → undone_pair (kind.BoundTightening r) p ≡ undo_lower_bound_tightened r.row r.column r.bound (dense r.entries) p

@@ -31,23 +31,19 @@ ghost use Rattle.lp_substitutions.specs.FreeColumnSingleton.{undo_free_column_si
 ghost use Rattle.lp_substitutions.specs.SlackColumnSingleton.{undo_slack_column_singleton_kept, undo_slack_column_singleton_dropped};
 ghost use Rattle.undo_records.specs.declared.side.Side.TheVariants.{Lower, Upper};
 ghost use Rattle.undo_records.specs.declared.side.RowFate.TheVariants.{Kept, Dropped};
-ghost use Rattle.undo_records.specs.declared.kinds.empty_row.EmptyRow.{EmptyRow};
+ghost use Rattle.undo_records.specs.declared.kinds.row_record.RowRecord.{RowRecord};
 ghost use Rattle.undo_records.specs.declared.kinds.singleton_row.SingletonRow.{SingletonRow};
 ghost use Rattle.undo_records.specs.declared.kinds.fixed_column.FixedColumn.{FixedColumn};
-ghost use Rattle.undo_records.specs.declared.kinds.rounded_bounds.RoundedBounds.{RoundedBounds};
-ghost use Rattle.undo_records.specs.declared.kinds.redundant_row.RedundantRow.{RedundantRow};
-ghost use Rattle.undo_records.specs.declared.kinds.redundant_side.RedundantSide.{RedundantSide};
+ghost use Rattle.undo_records.specs.declared.kinds.column_record.ColumnRecord.{ColumnRecord};
 ghost use Rattle.undo_records.specs.declared.kinds.forcing_row.ForcingRow.{ForcingRow};
 ghost use Rattle.undo_records.specs.declared.kinds.bound_tightening.BoundTightening.{BoundTightening};
 ghost use Rattle.undo_records.specs.declared.kinds.coefficient_tightening.CoefficientTightening.{CoefficientTightening};
-ghost use Rattle.undo_records.specs.declared.kinds.dual_fixing.DualFixing.{DualFixing};
 ghost use Rattle.undo_records.specs.declared.kinds.dominated_column.DominatedColumn.{DominatedColumn};
 ghost use Rattle.undo_records.specs.declared.kinds.doubleton_equation.DoubletonEquation.{DoubletonEquation};
 ghost use Rattle.undo_records.specs.declared.kinds.free_column_singleton.FreeColumnSingleton.{FreeColumnSingleton};
 ghost use Rattle.undo_records.specs.declared.kinds.slack_column_singleton.SlackColumnSingleton.{SlackColumnSingleton};
 ghost use Rattle.undo_records.specs.declared.kinds.parallel_rows.ParallelRows.{ParallelRows};
 ghost use Rattle.undo_records.specs.declared.kinds.parallel_columns.ParallelColumns.{ParallelColumns};
-ghost use Rattle.undo_records.specs.declared.kinds.empty_column.EmptyColumn.{EmptyColumn};
 ghost use Rattle.undo_records.specs.declared.undo.Undo.TheVariants as kind;
 ghost use Rattle.lp_model.specs.ProgramData.{ProgramData};
 ghost use Rattle.lp_model.specs.Turning.{in_sense};
@@ -58,9 +54,9 @@ ghost use Rattle.undo_pairs.specs.LiftPair.{lift_pair, undone_pair};
 /// K1, K2, K5: rows that were deleted.
 #[tactic(auto, using(crate::proofs::RowLaws::row_laws))]
 pub fn deleted_rows_are_undone()
-    ensures empty { (r : EmptyRow) (p : Priced) → undone_pair (kind.EmptyRow r) p ≡ undo_empty_row r.row p }
+    ensures empty { (r : RowRecord) (p : Priced) → undone_pair (kind.EmptyRow r) p ≡ undo_empty_row r.row p }
     ensures singleton { (r : SingletonRow) (p : Priced) → undone_pair (kind.SingletonRow r) p ≡ undo_singleton_row r.row r.column r.value r.lower r.upper p }
-    ensures redundant { (r : RedundantRow) (p : Priced) → undone_pair (kind.RedundantRow r) p ≡ undo_redundant_row r.row p }
+    ensures redundant { (r : RowRecord) (p : Priced) → undone_pair (kind.RedundantRow r) p ≡ undo_redundant_row r.row p }
 {}
 
 /// K7: a forcing row of n columns, whose entries the record has.
@@ -111,12 +107,12 @@ pub fn parallel_columns_are_undone()
 
 /// K4, K6, K9, K10, K11, K17: nothing is to be undone.
 pub fn other_records_leave_pairs()
-    ensures bounds { (r : RoundedBounds) (p : Priced) → undone_pair (kind.RoundedBounds r) p ≡ p }
-    ensures side { (r : RedundantSide) (p : Priced) → undone_pair (kind.RedundantSide r) p ≡ p }
+    ensures bounds { (r : ColumnRecord) (p : Priced) → undone_pair (kind.RoundedBounds r) p ≡ p }
+    ensures side { (r : RowRecord) (p : Priced) → undone_pair (kind.RedundantSide r) p ≡ p }
     ensures coefficient { (r : CoefficientTightening) (p : Priced) → undone_pair (kind.CoefficientTightening r) p ≡ p }
-    ensures dual { (r : DualFixing) (p : Priced) → undone_pair (kind.DualFixing r) p ≡ p }
+    ensures dual { (r : ColumnRecord) (p : Priced) → undone_pair (kind.DualFixing r) p ≡ p }
     ensures dominated { (r : DominatedColumn) (p : Priced) → undone_pair (kind.DominatedColumn r) p ≡ p }
-    ensures empty { (r : EmptyColumn) (p : Priced) → undone_pair (kind.EmptyColumn r) p ≡ p }
+    ensures empty { (r : ColumnRecord) (p : Priced) → undone_pair (kind.EmptyColumn r) p ≡ p }
 {}
 
 /// A pair that is started, lifted and turned back is the placed one, lifted in the sense of the file.

@@ -83,6 +83,7 @@ concluded dual workers program b told e ascends writes o s h t named runs =
       reduces = walked_reduces b.numbers program (written_program program b.problem) told ascends (walked dual program b told o s t);
       pairs = walked_pairs b.numbers program (written_program program b.problem) told (walked dual program b told o s t) t.sense;
       dual = t.duals;
+      untold = t.untold;
       end = end_told dual e b told.undos (replay b.start b.history) t.undos (ap length (t.undos ∙ s.records) ∙ records_long b.start b.history) (open_same b.tally b.records s.tally) (sym s.problem) h;
       names = record {
         sense = t.sense;

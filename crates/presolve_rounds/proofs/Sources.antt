@@ -56,6 +56,7 @@ told_kept dual program kept b told e h =
       sense = k.sense;
       duals = k.duals;
       undos = k.undos;
+      untold = k.untold;
       offset = k.offset;
       row_names = k.row_names;
       column_names = k.column_names ∙ names_kept program.columns;

@@ -14,7 +14,7 @@ use lp_model::{ColumnDef, RowDef};
 use problem_data::in_sense;
 use std::alloc::{AllocError, Global};
 use txn_book::Book;
-use undo_records::{Label, Records};
+use undo_records::{Label, Records, Transactions};
 
 /// The names of the rows, and which are live.
 fn row_labels(alloc: Global, rows: &[RowDef], lines: &Lines) -> Result<Vec<Label>, AllocError>
@@ -70,5 +70,14 @@ pub fn records_of(
     let columns = column_labels(alloc, program.columns(), &book.problem().columns())?;
     let offset = in_sense(program.sense(), &book.problem().offset());
     let ended = book.close();
-    Ok(Records::new(program.sense(), dual, columns, rows, offset, ended.records))
+    let transactions = Transactions::unknown(alloc, ended.records.as_slice().len())?;
+    Ok(Records::new(
+        program.sense(),
+        dual,
+        columns,
+        rows,
+        offset,
+        ended.records,
+        transactions,
+    ))
 }

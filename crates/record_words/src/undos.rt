@@ -17,11 +17,10 @@ use record_fields::words::{Words, next_word};
 use record_values::Rule;
 use std::alloc::{AllocError, Global};
 use undo_records::{
-    BoundTightening, CoefficientTightening, DominatedColumn, DoubletonEquation, DualFixing,
-    EmptyColumn, EmptyRow, EndApart, FixedColumn, ForcingRow, FreeColumnSingleton, KeptEnd,
-    KeptNumber, NumberApart, ParallelColumns, ParallelRows, RedundantRow, RedundantSide,
-    RoundedBounds, RowFate, SharedTerms, Side, SingletonRow, SlackColumnSingleton, TermsApart,
-    Undo,
+    BoundTightening, CoefficientTightening, ColumnRecord, DominatedColumn, DoubletonEquation,
+    EndApart, FixedColumn, ForcingRow, FreeColumnSingleton, KeptEnd, KeptNumber, NumberApart,
+    ParallelColumns, ParallelRows, RowFate, RowRecord, SharedTerms, Side, SingletonRow,
+    SlackColumnSingleton, TermsApart, Undo,
 };
 
 /// The next word as an id.
@@ -227,21 +226,21 @@ fn ids_alone(rule: Rule, words: Words<'_>) -> Undo
     let second = next_id(&mut rest);
     let third = next_id(&mut rest);
     match rule {
-        Rule::K1 => Undo::EmptyRow(EmptyRow { row: first }),
-        Rule::K4 => Undo::RoundedBounds(RoundedBounds { column: first }),
-        Rule::K5 => Undo::RedundantRow(RedundantRow { row: first }),
-        Rule::K6 => Undo::RedundantSide(RedundantSide { row: first }),
+        Rule::K1 => Undo::EmptyRow(RowRecord { row: first }),
+        Rule::K4 => Undo::RoundedBounds(ColumnRecord { column: first }),
+        Rule::K5 => Undo::RedundantRow(RowRecord { row: first }),
+        Rule::K6 => Undo::RedundantSide(RowRecord { row: first }),
         Rule::K9 => Undo::CoefficientTightening(CoefficientTightening {
             row: first,
             column: second,
         }),
-        Rule::K10 => Undo::DualFixing(DualFixing { column: first }),
+        Rule::K10 => Undo::DualFixing(ColumnRecord { column: first }),
         Rule::K11 => Undo::DominatedColumn(DominatedColumn {
             row: first,
             better: second,
             column: third,
         }),
-        _ => Undo::EmptyColumn(EmptyColumn { column: first }),
+        _ => Undo::EmptyColumn(ColumnRecord { column: first }),
     }
 }
 

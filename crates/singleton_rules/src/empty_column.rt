@@ -12,7 +12,7 @@ use problem_model::{Edit, Refusal};
 use rule_words::Change;
 use sparse_problem::Problem;
 use std::alloc::{AllocError, Global};
-use undo_records::{EmptyColumn, Undo};
+use undo_records::{ColumnRecord, Undo};
 
 /// Where a column without entries costs least between its bounds; none if that end is none.
 fn cheapest(cost: &Frac, lower: &Ext, upper: &Ext) -> Ext
@@ -63,6 +63,6 @@ pub fn change(alloc: Global, problem: &Problem, column: u32) -> Result<Change, R
         .map_err(AllocError::from)?;
     Ok(Change {
         edits,
-        undo: Undo::EmptyColumn(EmptyColumn { column }),
+        undo: Undo::EmptyColumn(ColumnRecord { column }),
     })
 }

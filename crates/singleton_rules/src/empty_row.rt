@@ -9,7 +9,7 @@ use problem_model::{Edit, Refusal};
 use rule_words::Change;
 use sparse_problem::Problem;
 use std::alloc::{AllocError, Global};
-use undo_records::{EmptyRow, Undo};
+use undo_records::{RowRecord, Undo};
 
 /// Whether a row has no entries, and sides that hold 0.
 pub fn is_enabled(problem: &Problem, row: u32) -> bool
@@ -34,6 +34,6 @@ pub fn change(alloc: Global, problem: &Problem, row: u32) -> Result<Change, Refu
         .map_err(AllocError::from)?;
     Ok(Change {
         edits,
-        undo: Undo::EmptyRow(EmptyRow { row }),
+        undo: Undo::EmptyRow(RowRecord { row }),
     })
 }

@@ -11,7 +11,7 @@ use problem_model::{Edit, Refusal};
 use rule_words::Change;
 use sparse_problem::Problem;
 use std::alloc::{AllocError, Global};
-use undo_records::{RoundedBounds, Undo};
+use undo_records::{ColumnRecord, Undo};
 
 /// Whether a column is whole and a finite bound of it isn't, and the bounds aren't crossed.
 pub fn is_enabled(problem: &Problem, column: u32) -> bool
@@ -62,6 +62,6 @@ pub fn change(alloc: Global, problem: &Problem, column: u32) -> Result<Change, R
         .map_err(AllocError::from)?;
     Ok(Change {
         edits,
-        undo: Undo::RoundedBounds(RoundedBounds { column }),
+        undo: Undo::RoundedBounds(ColumnRecord { column }),
     })
 }

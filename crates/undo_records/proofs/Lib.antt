@@ -1,3 +1,4 @@
+pub mod Cuts
 pub mod NearLaws
 pub mod SoundRecords
 pub mod UndoneRows

@@ -8,6 +8,7 @@ use Rattle.lp_model.specs.declared.program.Sense.{Sense}
 use Rattle.undo_records.specs.declared.label.Label.{Label}
 use Rattle.lp_model.specs.Flags.{Flags}
 use Rattle.undo_records.specs.Ids.{is_on}
+use Rattle.undo_records.specs.Transactions.{Transaction}
 use Rattle.undo_records.specs.Walk.{rows_named, columns_named, AreSound, NamesLive, Walks, after}
 
 -- past the last there is nothing to set
@@ -51,10 +52,10 @@ walks_on f g [] u w n = (subst (λ h. NamesLive h u) w n, ap (after u) w)
 walks_on f g (v ∷ us) u w n = (w.0, walks_on (after v f) g us u w.1 n)
 
 -- a test of parts is a test of the same parts
-pub judged : (s : Sense) (d : Bool) (o : Number) (cs rs ds qs : List Label) (us vs : List Undo) (b : Bool) → ds ≡ cs → qs ≡ rs → vs ≡ us
-    → ((t : Sense) (e : Bool) (p : Number) → IsTrue b ↔ AreSound (record { sense = t; duals = e; columns = ds; rows = qs; offset = p; undos = vs }))
-    → IsTrue b ↔ AreSound (record { sense = s; duals = d; columns = cs; rows = rs; offset = o; undos = us })
-judged s d o cs rs ds qs us vs b ec er eu h =
-    subst (λ ws. IsTrue b ↔ AreSound (record { sense = s; duals = d; columns = cs; rows = rs; offset = o; undos = ws })) eu
-    (subst (λ ps. IsTrue b ↔ AreSound (record { sense = s; duals = d; columns = cs; rows = ps; offset = o; undos = vs })) er
-    (subst (λ ps. IsTrue b ↔ AreSound (record { sense = s; duals = d; columns = ps; rows = qs; offset = o; undos = vs })) ec (h s d o)))
+pub judged : (s : Sense) (d : Bool) (o : Number) (ts : List Transaction) (cs rs ds qs : List Label) (us vs : List Undo) (b : Bool) → ds ≡ cs → qs ≡ rs → vs ≡ us
+    → ((t : Sense) (e : Bool) (p : Number) (hs : List Transaction) → IsTrue b ↔ AreSound (record { sense = t; duals = e; columns = ds; rows = qs; offset = p; undos = vs; transactions = hs }))
+    → IsTrue b ↔ AreSound (record { sense = s; duals = d; columns = cs; rows = rs; offset = o; undos = us; transactions = ts })
+judged s d o ts cs rs ds qs us vs b ec er eu h =
+    subst (λ ws. IsTrue b ↔ AreSound (record { sense = s; duals = d; columns = cs; rows = rs; offset = o; undos = ws; transactions = ts })) eu
+    (subst (λ ps. IsTrue b ↔ AreSound (record { sense = s; duals = d; columns = cs; rows = ps; offset = o; undos = vs; transactions = ts })) er
+    (subst (λ ps. IsTrue b ↔ AreSound (record { sense = s; duals = d; columns = ps; rows = qs; offset = o; undos = vs; transactions = ts })) ec (h s d o ts)))

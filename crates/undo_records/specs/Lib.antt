@@ -1,10 +1,8 @@
 pub mod BoundTightening
 pub mod CoefficientTightening
+pub mod ColumnRecord
 pub mod DominatedColumn
 pub mod DoubletonEquation
-pub mod DualFixing
-pub mod EmptyColumn
-pub mod EmptyRow
 pub mod Fitting
 pub mod FixedColumn
 pub mod ForcingRow
@@ -16,11 +14,10 @@ pub mod Near
 pub mod ParallelColumns
 pub mod ParallelRows
 pub mod Postsolve
-pub mod RedundantRow
-pub mod RedundantSide
 pub mod Room
-pub mod RoundedBounds
+pub mod RowRecord
 pub mod SingletonRow
 pub mod SlackColumnSingleton
 pub mod Sound
+pub mod Transactions
 pub mod Walk

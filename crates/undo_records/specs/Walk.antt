@@ -5,33 +5,29 @@ use Rattle.undo_records.specs.declared.label.Label.{Label}
 use Rattle.undo_records.specs.declared.undo.Undo.{Undo}
 use Rattle.undo_records.specs.declared.undo.Undo.TheVariants.{EmptyRow, SingletonRow, FixedColumn, RoundedBounds, RedundantRow, RedundantSide, ForcingRow, BoundTightening, CoefficientTightening, DualFixing, DominatedColumn, DoubletonEquation, FreeColumnSingleton, SlackColumnSingleton, ParallelRows, ParallelColumns, EmptyColumn}
 use Rattle.undo_records.specs.Ids.{is_on}
-use Rattle.undo_records.specs.EmptyRow as empty_row
+use Rattle.undo_records.specs.RowRecord as row_record
 use Rattle.undo_records.specs.SingletonRow as singleton_row
 use Rattle.undo_records.specs.FixedColumn as fixed_column
-use Rattle.undo_records.specs.RoundedBounds as rounded_bounds
-use Rattle.undo_records.specs.RedundantRow as redundant_row
-use Rattle.undo_records.specs.RedundantSide as redundant_side
+use Rattle.undo_records.specs.ColumnRecord as column_record
 use Rattle.undo_records.specs.ForcingRow as forcing_row
 use Rattle.undo_records.specs.BoundTightening as bound_tightening
 use Rattle.undo_records.specs.CoefficientTightening as coefficient_tightening
-use Rattle.undo_records.specs.DualFixing as dual_fixing
 use Rattle.undo_records.specs.DominatedColumn as dominated_column
 use Rattle.undo_records.specs.DoubletonEquation as doubleton_equation
 use Rattle.undo_records.specs.FreeColumnSingleton as free_column_singleton
 use Rattle.undo_records.specs.SlackColumnSingleton as slack_column_singleton
 use Rattle.undo_records.specs.ParallelRows as parallel_rows
 use Rattle.undo_records.specs.ParallelColumns as parallel_columns
-use Rattle.undo_records.specs.EmptyColumn as empty_column
 use Rattle.undo_records.specs.Postsolve.{Postsolve}
 use Rattle.undo_records.specs.Sound.{IsSound}
 
 -- the rows that a record names, those of its list too
 abbrev pub rows_named : Undo → List ℕ
-rows_named (EmptyRow r) = empty_row.rows_named r
+rows_named (EmptyRow r) = row_record.rows_named r
 rows_named (SingletonRow r) = singleton_row.rows_named r
 rows_named (FixedColumn r) = fixed_column.rows_named r
-rows_named (RedundantRow r) = redundant_row.rows_named r
-rows_named (RedundantSide r) = redundant_side.rows_named r
+rows_named (RedundantRow r) = row_record.rows_named r
+rows_named (RedundantSide r) = row_record.rows_named r
 rows_named (ForcingRow r) = forcing_row.rows_named r
 rows_named (BoundTightening r) = bound_tightening.rows_named r
 rows_named (CoefficientTightening r) = coefficient_tightening.rows_named r
@@ -46,25 +42,25 @@ rows_named other = []
 abbrev pub columns_named : Undo → List ℕ
 columns_named (SingletonRow r) = singleton_row.columns_named r
 columns_named (FixedColumn r) = fixed_column.columns_named r
-columns_named (RoundedBounds r) = rounded_bounds.columns_named r
+columns_named (RoundedBounds r) = column_record.columns_named r
 columns_named (ForcingRow r) = forcing_row.columns_named r
 columns_named (BoundTightening r) = bound_tightening.columns_named r
 columns_named (CoefficientTightening r) = coefficient_tightening.columns_named r
-columns_named (DualFixing r) = dual_fixing.columns_named r
+columns_named (DualFixing r) = column_record.columns_named r
 columns_named (DominatedColumn r) = dominated_column.columns_named r
 columns_named (DoubletonEquation r) = doubleton_equation.columns_named r
 columns_named (FreeColumnSingleton r) = free_column_singleton.columns_named r
 columns_named (SlackColumnSingleton r) = slack_column_singleton.columns_named r
 columns_named (ParallelRows r) = parallel_rows.columns_named r
 columns_named (ParallelColumns r) = parallel_columns.columns_named r
-columns_named (EmptyColumn r) = empty_column.columns_named r
+columns_named (EmptyColumn r) = column_record.columns_named r
 columns_named other = []
 
 -- the rows that a reduction deletes
 abbrev pub rows_deleted : Undo → List ℕ
-rows_deleted (EmptyRow r) = empty_row.rows_deleted r
+rows_deleted (EmptyRow r) = row_record.rows_deleted r
 rows_deleted (SingletonRow r) = singleton_row.rows_deleted r
-rows_deleted (RedundantRow r) = redundant_row.rows_deleted r
+rows_deleted (RedundantRow r) = row_record.rows_deleted r
 rows_deleted (ForcingRow r) = forcing_row.rows_deleted r
 rows_deleted (DoubletonEquation r) = doubleton_equation.rows_deleted r
 rows_deleted (FreeColumnSingleton r) = free_column_singleton.rows_deleted r

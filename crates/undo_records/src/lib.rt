@@ -11,19 +11,21 @@ pub mod laws;
 mod records;
 mod side;
 mod sound;
+mod transactions;
 mod undo;
 mod walk;
 mod whole_run;
 
 pub use kept_numbers::{EndApart, KeptEnd, KeptNumber, NumberApart, SharedTerms, TermsApart};
 pub use kinds::{
-    BoundTightening, CoefficientTightening, DominatedColumn, DoubletonEquation, DualFixing,
-    EmptyColumn, EmptyRow, FixedColumn, ForcingRow, FreeColumnSingleton, ParallelColumns,
-    ParallelRows, RedundantRow, RedundantSide, RoundedBounds, SingletonRow, SlackColumnSingleton,
+    BoundTightening, CoefficientTightening, ColumnRecord, DominatedColumn, DoubletonEquation,
+    FixedColumn, ForcingRow, FreeColumnSingleton, ParallelColumns, ParallelRows, RowRecord,
+    SingletonRow, SlackColumnSingleton,
 };
 pub use label::{Label, labels_are_named};
 pub use records::Records;
 pub use side::{RowFate, Side};
+pub use transactions::{PartRead, Transaction, Transactions};
 pub use undo::Undo;
 pub use walk::Walk;
 pub use whole_run::are_sound;

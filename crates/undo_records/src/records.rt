@@ -1,11 +1,13 @@
 //! The records of a whole run.
 
-ghost use Rattle.std.specs.Prelude.{◌≡◌, ◌↔◌, All, IfOk, IfSome, IsSome, length, map};
+ghost use Rattle.std.specs.Prelude.{◌≡◌, ◌↔◌, All, IfOk, IfSome, IsSome, length, map, replicate};
 ghost use Rattle.undo_records.specs.Sound.{CanUndo};
-ghost use Rattle.undo_records.specs.Named.{AreNamed, AreRecords};
+ghost use Rattle.undo_records.specs.Named.{AreNamed, AreRecords, AreTold};
+ghost use Rattle.undo_records.specs.Transactions.{untold};
 ghost use Rattle.undo_records.specs.Walk.{AreSound};
 
 use crate::label::{Label, labels_are_named};
+use crate::transactions::Transactions;
 use crate::undo::Undo;
 use crate::whole_run::are_sound;
 use fractions::frac::Frac;
@@ -13,9 +15,9 @@ use lp_model::{Labels, Name, Sense};
 use std::alloc::{AllocError, Global};
 use std::marker::Model;
 
-/// All that presolve wrote down: the original program's names, whether duals are undone too, the offset, and the record of each reduction, first applied first.
-/// Each record is sound, names only what is live as it is applied, and all of them leave live what the labels say. All names are some bytes
-/// without a space, a tab or a line feed.
+/// All that presolve wrote down: the original program's names, whether duals are undone too, the offset, and the record of each reduction
+/// with its transaction, first applied first. Each record is sound, names only what is live as it is applied, and all of them leave live
+/// what the labels say. All names are some bytes without a space, a tab or a line feed. Each version is below its record's place.
 #[derive(Drop)]
 pub struct Records {
     sense: Sense,
@@ -24,6 +26,7 @@ pub struct Records {
     rows: Vec<Label>,
     offset: Frac,
     undos: Vec<Undo>,
+    transactions: Transactions,
 }
 
 impl Model for Records {
@@ -37,13 +40,13 @@ impl Model for Records {
 
     ghost use Rattle.undo_records.specs.Named.{AreRecords};
 
-    ghost view = { λ r. record { sense = r.sense; duals = r.duals; columns = r.columns.items; rows = r.rows.items; offset = r.offset; undos = r.undos.items } };
+    ghost view = { λ r. record { sense = r.sense; duals = r.duals; columns = r.columns.items; rows = r.rows.items; offset = r.offset; undos = r.undos.items; transactions = r.transactions } };
 
-    ghost invariant = { λ r. AreRecords (record { sense = r.sense; duals = r.duals; columns = r.columns.items; rows = r.rows.items; offset = r.offset; undos = r.undos.items }) };
+    ghost invariant = { λ r. AreRecords (record { sense = r.sense; duals = r.duals; columns = r.columns.items; rows = r.rows.items; offset = r.offset; undos = r.undos.items; transactions = r.transactions }) };
 }
 
 impl Records {
-    /// The records of these parts: whether they undo duals too, columns and rows by original id, the offset in the sense of the file, the reductions in the order they were applied.
+    /// The records of these parts: whether they undo duals too, columns and rows by original id, the offset in the sense of the file, the reductions in the order they were applied, the transaction of each.
     pub fn new(
         sense: Sense,
         duals: bool,
@@ -51,10 +54,12 @@ impl Records {
         rows: Vec<Label>,
         offset: Frac,
         undos: Vec<Undo>,
+        transactions: Transactions,
     ) -> Records
-        requires sound { AreSound (record { sense = sense; duals = duals; columns = columns.items; rows = rows.items; offset = offset; undos = undos.items }) }
-        requires named { AreNamed (record { sense = sense; duals = duals; columns = columns.items; rows = rows.items; offset = offset; undos = undos.items }) }
-        ensures { result ≡ record { sense = sense; duals = duals; columns = columns.items; rows = rows.items; offset = offset; undos = undos.items } }
+        requires sound { AreSound (record { sense = sense; duals = duals; columns = columns.items; rows = rows.items; offset = offset; undos = undos.items; transactions = transactions }) }
+        requires named { AreNamed (record { sense = sense; duals = duals; columns = columns.items; rows = rows.items; offset = offset; undos = undos.items; transactions = transactions }) }
+        requires told { AreTold (record { sense = sense; duals = duals; columns = columns.items; rows = rows.items; offset = offset; undos = undos.items; transactions = transactions }) }
+        ensures { result ≡ record { sense = sense; duals = duals; columns = columns.items; rows = rows.items; offset = offset; undos = undos.items; transactions = transactions } }
     {
         Records {
             sense,
@@ -63,10 +68,11 @@ impl Records {
             rows,
             offset,
             undos,
+            transactions,
         }
     }
 
-    /// The records of these parts, none where they aren't sound.
+    /// The records of these parts, whose transactions aren't known, none where they aren't sound.
     pub fn checked(
         alloc: Global,
         sense: Sense,
@@ -76,15 +82,16 @@ impl Records {
         offset: Frac,
         undos: Vec<Undo>,
     ) -> Result<Option<Records>, AllocError>
-        ensures sound { IfOk result (λ found. IsSome found ↔ AreSound (record { sense = sense; duals = duals; columns = columns.items; rows = rows.items; offset = offset; undos = undos.items })) }
-        ensures parts { IfOk result (λ found. IfSome found (λ records. records ≡ record { sense = sense; duals = duals; columns = columns.items; rows = rows.items; offset = offset; undos = undos.items })) }
+        ensures sound { IfOk result (λ found. IsSome found ↔ AreSound (record { sense = sense; duals = duals; columns = columns.items; rows = rows.items; offset = offset; undos = undos.items; transactions = replicate (length undos.items) untold })) }
+        ensures parts { IfOk result (λ found. IfSome found (λ records. records ≡ record { sense = sense; duals = duals; columns = columns.items; rows = rows.items; offset = offset; undos = undos.items; transactions = replicate (length undos.items) untold })) }
     {
         if !are_sound(alloc, columns.as_slice(), rows.as_slice(), undos.as_slice())? {
             return Ok(None);
         }
         labels_are_named(columns.as_slice());
         labels_are_named(rows.as_slice());
-        Ok(Some(Records::new(sense, duals, columns, rows, offset, undos)))
+        let transactions = Transactions::unknown(alloc, undos.as_slice().len())?;
+        Ok(Some(Records::new(sense, duals, columns, rows, offset, undos, transactions)))
     }
 
     /// Whether the original program is to be minimized or maximized.
@@ -129,6 +136,13 @@ impl Records {
         self.undos.as_slice()
     }
 
+    /// The transaction of each record: what was read for it, and who applied it.
+    pub fn transactions(&self) -> &Transactions
+        ensures { result.now ≡ self.now.transactions }
+    {
+        &self.transactions
+    }
+
     /// Each record is sound by itself, and they lead from all live to what the labels say is live. Says so, and does nothing.
     pub fn is_sound(&self)
         ensures { AreSound self.now }
@@ -139,6 +153,13 @@ impl Records {
     /// The original rows and columns have names. Says so, and does nothing.
     pub fn is_named(&self)
         ensures { AreNamed self.now }
+    {
+        let _undos = self.undos.as_slice();
+    }
+
+    /// Each record has its transaction. Says so, and does nothing.
+    pub fn is_told(&self)
+        ensures { AreTold self.now }
     {
         let _undos = self.undos.as_slice();
     }

@@ -7,9 +7,9 @@ ghost use Rattle.undo_records.specs.Sound.{IsSound};
 ghost use Rattle.undo_records.specs.Walk.{columns_named, rows_named};
 
 use crate::kinds::{
-    BoundTightening, CoefficientTightening, DominatedColumn, DoubletonEquation, DualFixing,
-    EmptyColumn, EmptyRow, FixedColumn, ForcingRow, FreeColumnSingleton, ParallelColumns,
-    ParallelRows, RedundantRow, RedundantSide, RoundedBounds, SingletonRow, SlackColumnSingleton,
+    BoundTightening, CoefficientTightening, ColumnRecord, DominatedColumn, DoubletonEquation,
+    FixedColumn, ForcingRow, FreeColumnSingleton, ParallelColumns, ParallelRows, RowRecord,
+    SingletonRow, SlackColumnSingleton,
 };
 
 /// What is kept of one reduction, with the values as they were when it was made. Ids are those of the original program, from 0 on;
@@ -17,17 +17,17 @@ use crate::kinds::{
 #[derive(Drop)]
 pub enum Undo {
     /// K1.
-    EmptyRow(EmptyRow),
+    EmptyRow(RowRecord),
     /// K2.
     SingletonRow(SingletonRow),
     /// K3.
     FixedColumn(FixedColumn),
     /// K4.
-    RoundedBounds(RoundedBounds),
+    RoundedBounds(ColumnRecord),
     /// K5.
-    RedundantRow(RedundantRow),
+    RedundantRow(RowRecord),
     /// K6.
-    RedundantSide(RedundantSide),
+    RedundantSide(RowRecord),
     /// K7.
     ForcingRow(ForcingRow),
     /// K8.
@@ -35,7 +35,7 @@ pub enum Undo {
     /// K9.
     CoefficientTightening(CoefficientTightening),
     /// K10.
-    DualFixing(DualFixing),
+    DualFixing(ColumnRecord),
     /// K11.
     DominatedColumn(DominatedColumn),
     /// K12.
@@ -49,7 +49,7 @@ pub enum Undo {
     /// K16.
     ParallelColumns(ParallelColumns),
     /// K17.
-    EmptyColumn(EmptyColumn),
+    EmptyColumn(ColumnRecord),
 }
 
 impl Undo {

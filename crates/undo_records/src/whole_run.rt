@@ -1,9 +1,10 @@
 //! Whether the records of a run are sound.
 
-ghost use Rattle.std.specs.Prelude.{◌≡◌, ◌↔◌, Bool, All, IfOk, IsTrue, length};
+ghost use Rattle.std.specs.Prelude.{◌≡◌, ◌↔◌, Bool, List, All, IfOk, IsTrue, length};
 ghost use Rattle.rational.specs.Number.{Number};
 ghost use Rattle.lp_model.specs.declared.program.Sense.{Sense};
 ghost use Rattle.undo_records.specs.Sound.{IsSound};
+ghost use Rattle.undo_records.specs.Transactions.{Transaction};
 ghost use Rattle.undo_records.specs.Walk.{AreSound, Walks, all_live, lives};
 
 use crate::label::Label;
@@ -52,7 +53,7 @@ pub fn are_sound(
     rows: &[Label],
     undos: &[Undo],
 ) -> Result<bool, AllocError>
-    ensures { IfOk result (λ sound. (s : Sense) (d : Bool) (o : Number) → (IsTrue sound ↔ AreSound (record { sense = s; duals = d; columns = columns.now; rows = rows.now; offset = o; undos = undos.now }))) }
+    ensures { IfOk result (λ sound. (s : Sense) (d : Bool) (o : Number) (ts : List Transaction) → (IsTrue sound ↔ AreSound (record { sense = s; duals = d; columns = columns.now; rows = rows.now; offset = o; undos = undos.now; transactions = ts }))) }
 {
     if !are_each_sound(undos, rows.len(), columns.len()) {
         return Ok(false);

@@ -1,4 +1,4 @@
-use Rattle.std.proofs.Common.{subst, length, refl, sym, ap, ap₂, ◌∙◌}
+use Rattle.std.proofs.Common.{subst, List, length, replicate, refl, sym, ap, ap₂, ◌∙◌}
 use Rattle.std.specs.List.{All}
 use Rattle.std.proofs.lemmas.List.{length-map}
 use Rattle.std.proofs.lemmas.List.Elements.{All-tail}
@@ -7,6 +7,9 @@ use Rattle.lp_model.specs.Names.{names_of_columns, names_of_rows}
 use Rattle.lp_model.specs.ProgramData.{ProgramData}
 use Rattle.lp_model.specs.Turning.{signed}
 use Rattle.undo_records.specs.Postsolve.{Postsolve}
+use Rattle.undo_records.specs.Transactions.{untold}
+use Rattle.undo_records.specs.declared.undo.Undo.{Undo}
+use Rattle.undo_records.proofs.Cuts.{unknown_told}
 use Rattle.problem_model.specs.Sparse.{Sparse}
 use Rattle.presolve_model.specs.Telling.{are_live, IsToldOf}
 use Rattle.run_laws.proofs.Telling.{problem_is_of, told_sound}
@@ -29,11 +32,12 @@ column_labels-requires c =
 pub new-requires-clause-sound : goal.new-requires-clause-sound
 new-requires-clause-sound c =
     let program : ProgramData = given c.args.source.now in
-    let told : Postsolve = record { sense = c.sense-2.result; duals = c.args.dual; columns = c.in_ok-columns.columns.items; rows = c.in_ok-rows.rows.items; offset = c.in_sense-offset.result; undos = c.close-ended.result.records.items } in
+    let told : Postsolve = record { sense = c.sense-2.result; duals = c.args.dual; columns = c.in_ok-columns.columns.items; rows = c.in_ok-rows.rows.items; offset = c.in_sense-offset.result; undos = c.close-ended.result.records.items; transactions = c.in_ok-transactions.transactions } in
     let is : IsToldOf c.args.dual c.args.source.now.kept c.args.book told = record {
       sense = c.sense-2.ensures;
       duals = refl;
       undos = c.close-ended.ensures.records;
+      untold = c.in_ok-transactions.ensures ∙ ap (λ (us : List Undo). replicate (length us) untold) c.as_slice.ensures.value;
       offset = c.in_sense-offset.ensures ∙ ap₂ (λ s q. signed s q) c.sense.ensures (c.offset.ensures ∙ ap (λ (p : Sparse). p.offset) c.problem-3.ensures);
       row_names = c.in_ok-rows.ensures.names ∙ ap names_of_rows c.rows.ensures;
       column_names = c.in_ok-columns.ensures.names ∙ ap names_of_columns c.columns.ensures;
@@ -45,11 +49,12 @@ new-requires-clause-sound c =
 pub returns : goal.returns
 returns c =
     let program : ProgramData = given c.args.source.now in
-    let told : Postsolve = record { sense = c.sense-2.result; duals = c.args.dual; columns = c.in_ok-columns.columns.items; rows = c.in_ok-rows.rows.items; offset = c.in_sense-offset.result; undos = c.close-ended.result.records.items } in
+    let told : Postsolve = record { sense = c.sense-2.result; duals = c.args.dual; columns = c.in_ok-columns.columns.items; rows = c.in_ok-rows.rows.items; offset = c.in_sense-offset.result; undos = c.close-ended.result.records.items; transactions = c.in_ok-transactions.transactions } in
     let is : IsToldOf c.args.dual c.args.source.now.kept c.args.book told = record {
       sense = c.sense-2.ensures;
       duals = refl;
       undos = c.close-ended.ensures.records;
+      untold = c.in_ok-transactions.ensures ∙ ap (λ (us : List Undo). replicate (length us) untold) c.as_slice.ensures.value;
       offset = c.in_sense-offset.ensures ∙ ap₂ (λ s q. signed s q) c.sense.ensures (c.offset.ensures ∙ ap (λ (p : Sparse). p.offset) c.problem-3.ensures);
       row_names = c.in_ok-rows.ensures.names ∙ ap names_of_rows c.rows.ensures;
       column_names = c.in_ok-columns.ensures.names ∙ ap names_of_columns c.columns.ensures;
@@ -64,3 +69,7 @@ new-requires-clause-named c = record {
       (All-tail IsName c.args.source.now.kept.objective (names_of_rows c.args.source.now.kept.rows) c.objective-name.ensures.named.row_names);
   columns = subst (All IsName) (sym (c.in_ok-columns.ensures.names ∙ ap names_of_columns c.columns.ensures)) c.objective-name.ensures.named.column_names;
 }
+
+pub new-requires-clause-told : goal.new-requires-clause-told
+new-requires-clause-told c =
+    unknown_told c.sense-2.result c.args.dual c.in_ok-columns.columns.items c.in_ok-rows.rows.items c.in_sense-offset.result c.close-ended.result.records.items _ _ c.as_slice.ensures.value c.in_ok-transactions.ensures

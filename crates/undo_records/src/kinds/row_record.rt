@@ -1,21 +1,22 @@
-//! The record of K5.
+//! K1, K5 and K6: a record of a row by itself.
 
 ghost use Rattle.std.specs.Prelude.{◌≡◌, ◌↔◌, IsTrue};
 ghost use Rattle.std.specs.List.{list_all};
 ghost use Rattle.undo_records.specs.Ids.{is_on};
-ghost use Rattle.undo_records.specs.RedundantRow.{IsSound, rows_named};
+ghost use Rattle.undo_records.specs.RowRecord.{IsSound, rows_named};
 
 use crate::flags::are_on;
 use crate::sound::is_among;
 
-/// K5: a row that each point within the bounds meets was deleted.
+/// A row by itself. K1: it had no entries and was deleted. K5: each point within the bounds meets it, and it was deleted. K6: each point
+/// within the bounds meets one of its sides, which became infinite.
 #[derive(Drop)]
-pub struct RedundantRow {
+pub struct RowRecord {
     /// The row.
     pub row: u32,
 }
 
-impl RedundantRow {
+impl RowRecord {
     /// Whether it is sound in a program of so many rows.
     pub fn is_sound(&self, rows: usize) -> bool
         ensures { IsTrue result ↔ IsSound rows self.now }

@@ -1,21 +1,22 @@
-//! The record of K4.
+//! K4, K10 and K17: a record of a column by itself.
 
 ghost use Rattle.std.specs.Prelude.{◌≡◌, ◌↔◌, IsTrue};
 ghost use Rattle.std.specs.List.{list_all};
 ghost use Rattle.undo_records.specs.Ids.{is_on};
-ghost use Rattle.undo_records.specs.RoundedBounds.{IsSound, columns_named};
+ghost use Rattle.undo_records.specs.ColumnRecord.{IsSound, columns_named};
 
 use crate::flags::are_on;
 use crate::sound::is_among;
 
-/// K4: the bounds of a whole column were rounded inwards.
+/// A column by itself. K4: its bounds were rounded inwards, as it is whole. K10: it does no good in any row and was fixed where it costs
+/// least. K17: it has no entries and was fixed where it costs least.
 #[derive(Drop)]
-pub struct RoundedBounds {
+pub struct ColumnRecord {
     /// The column.
     pub column: u32,
 }
 
-impl RoundedBounds {
+impl ColumnRecord {
     /// Whether it is sound in a program of so many columns.
     pub fn is_sound(&self, columns: usize) -> bool
         ensures { IsTrue result ↔ IsSound columns self.now }

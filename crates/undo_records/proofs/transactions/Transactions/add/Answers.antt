@@ -1,0 +1,14 @@
+use Rattle.std.proofs.Common.{◌<◌, List, length, ap, ◌∙◌, refl, subst, arith}
+use Rattle.undo_records.specs.Transactions.{with_read}
+use Rattle.undo_records.specs.declared.transactions.Heading.{Heading}
+use Rattle.undo_records.proofs.Cuts.{added_all, added_all_ends}
+use Rattle.undo_records.proofs.transactions.Transactions.add.Goals as goal
+
+pub invariant_of-self-2 : goal.invariant_of-self-2
+invariant_of-self-2 c = added_all_ends _ _ _ _ _ _ _ c.end_last.ensures refl c.as_slice-2.ensures.value c.in_ok-push.ensures.items c.self.invariant
+    (subst (λ (hs : List Heading). 0 < length hs) c.as_slice.ensures.value (omega (arith, c.if-as_slice-eq0.false)))
+
+pub returns : goal.returns
+returns c =
+    added_all _ _ _ _ _ _ _ c.end_last.ensures refl c.as_slice-2.ensures.value c.in_ok-push.ensures.items c.self.invariant
+    ∙ ap (λ ts. with_read ts c.args.read) c.self.view_is
