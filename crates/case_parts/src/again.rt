@@ -9,6 +9,7 @@ use mps_reader::{MpsError, read_mps};
 use mps_writer::write_mps;
 use record_file::write_records;
 use record_reader::{RecordError, read_records};
+use record_values::TextVersion;
 use std::str;
 
 /// A format and numbers by their words.
@@ -53,11 +54,14 @@ pub fn look(rt: &HostRuntime, bytes: &[u8], dialect: Dialect) -> Result<()> {
     Ok(())
 }
 
-/// Reads the records of a text and writes them, or prints the text's first fault.
+/// Reads the records of a text and writes them in the second version, or prints the text's first fault.
 pub fn records(rt: &HostRuntime, bytes: &[u8]) -> Result<()> {
     ensure!(bytes.len() < 1 << 40, "a text that is too long");
     match read_records(rt.alloc(), bytes) {
-        Ok(records) => shown::text(rt, &write_records(rt.alloc(), &records)?),
+        Ok(records) => shown::text(
+            rt,
+            &write_records(rt.alloc(), &records, TextVersion::Second)?,
+        ),
         Err(RecordError::Fault(fault)) => {
             let number = fault.kind.number();
             let line = fault.line;

@@ -3,6 +3,7 @@
 #![tactic(auto)]
 
 pub mod again;
+pub mod long_files;
 pub mod rule;
 pub mod scans;
 pub mod shown;

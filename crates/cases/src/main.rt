@@ -5,14 +5,14 @@
 //! - `case TITLE`: a new case; no file, no fault and no word of the one before stays
 //! - `file NAME`: a file that may not be written; the lines that follow are its text
 //! - `folder NAME PATH`: the same, with the bytes of a file of the folder that the program runs in
-//! - `stars NAME N`: the same, with N bytes `*`
+//! - `long N`: all files have N bytes, which are more than memory takes; nothing is told of them, and none can be written
 //! - `room NAME N`: a file that is missing and takes up to N bytes
 //! - `fail reads N`, `fail writes N`, `fail puts N`: the Nth call fails
 //! - `run WORD ..`: runs the presolver with these words
 //! - `explain WORD ..`: looks inside a presolve, with these words of `papilo-explain`
 //! - `program NAME FORMAT NUMBERS`: reads the program of a file's text, and writes it
 //! - `look NAME FORMAT NUMBERS`: shows the first fault of a file's text, with its field marked
-//! - `records NAME`: reads the records of a file's text, and writes them
+//! - `records NAME`: reads the records of a file's text, and writes them in the second version
 //! - `rule NAME WORD ..`: applies the reduction that the words name, as a record names it, to the program of a file's text, by itself
 //! - `scan NAME [J SIDE N]`: tells what is enabled on the problem of a file's text, rule by rule, where that bound was tightened N times
 //! - `sums NAME EDIT; ..`: makes edits, one after the other, of the problem of a file's text, and tells its rows' sums before the first and

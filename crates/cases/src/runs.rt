@@ -1,6 +1,7 @@
 //! The files, faults and words of a case, and what runs of it print.
 
 use anyhow::{Context, Result, ensure};
+use case_parts::long_files::LongFiles;
 use case_parts::shown;
 use explain_command::answer;
 use file_ports::{Held, MemFiles, MemSink, names_differ};
@@ -18,6 +19,8 @@ pub struct Case {
     pub reads: Vec<u64>,
     pub writes: Vec<u64>,
     pub puts: Vec<u64>,
+    /// Where all files are of one length, and nothing is told of them.
+    pub long: Option<u64>,
     words: Vec<String>,
 }
 
@@ -28,6 +31,7 @@ impl Case {
             reads: Vec::new(alloc),
             writes: Vec::new(alloc),
             puts: Vec::new(alloc),
+            long: None,
             words: Vec::new(alloc),
         }
     }
@@ -91,8 +95,21 @@ impl Case {
         Ok(())
     }
 
+    /// Runs the presolver on files that are too long to hold, and prints its status and its text.
+    fn run_long(&self, rt: &HostRuntime, length: u64) -> Result<()> {
+        let alloc = rt.alloc();
+        let mut files = LongFiles::new(length);
+        let mut out = MemSink::new(alloc, PRINTED, &self.puts)?;
+        let status = run(rt, alloc, &self.words, &mut files, &mut out, &OpenGate);
+        println!(rt; "status {status}")?;
+        shown::text(rt, out.taken())
+    }
+
     /// Runs the presolver, and prints its status, its text and the files that may be written.
     pub fn run(&self, rt: &HostRuntime) -> Result<()> {
+        if let Some(length) = self.long {
+            return self.run_long(rt, length);
+        }
         let alloc = rt.alloc();
         ensure!(names_differ(&self.held), "a file named twice");
         let mut files = MemFiles::new(alloc, &self.held, &self.reads, &self.writes)?;
@@ -113,8 +130,20 @@ impl Case {
         Ok(())
     }
 
+    /// Looks inside a presolve of files that are too long to hold, and prints the status and the text.
+    fn explain_long(&self, rt: &HostRuntime, length: u64) -> Result<()> {
+        let mut files = LongFiles::new(length);
+        let told = answer(rt, rt.alloc(), &self.words, &mut files, false);
+        let status = told.status;
+        println!(rt; "status {status}")?;
+        shown::text(rt, &told.text)
+    }
+
     /// Looks inside a presolve, and prints the status and the text.
     pub fn explain(&self, rt: &HostRuntime) -> Result<()> {
+        if let Some(length) = self.long {
+            return self.explain_long(rt, length);
+        }
         let alloc = rt.alloc();
         ensure!(names_differ(&self.held), "a file named twice");
         let mut files = MemFiles::new(alloc, &self.held, &self.reads, &self.writes)?;

@@ -64,7 +64,7 @@ impl Script {
             "case" => self.begin_case(rt, rest),
             "file" => self.file(rest),
             "folder" => self.folder(rt, rest),
-            "stars" => self.stars(rest),
+            "long" => self.long(rest),
             "room" => self.room(rest),
             "fail" => self.fail(rest),
             "run" => self.run(rt, "papilo", rest, Request::Run),
@@ -106,11 +106,8 @@ impl Script {
         Ok(())
     }
 
-    fn stars(&mut self, rest: &str) -> Result<()> {
-        let (name, count) = rest.split_once(' ').context("a name and a number")?;
-        let count = count.parse::<u32>()?;
-        let bytes = vec![in self.alloc; b'*'; count as usize]?;
-        self.case.put(self.alloc, name, Some(bytes), None)?;
+    fn long(&mut self, rest: &str) -> Result<()> {
+        self.case.long = Some(rest.parse::<u64>()?);
         Ok(())
     }
 

@@ -8,7 +8,7 @@ use file_ports::{Files, ReadErr};
 use std::alloc::Global;
 
 /// The longest program that is read, in bytes.
-pub const INPUT_LIMIT: u64 = 67_108_864;
+pub const INPUT_LIMIT: u64 = 1_073_741_824;
 
 /// The longest solution that is read, in bytes.
 pub const SOLUTION_LIMIT: u64 = 1_073_741_824;

@@ -19,6 +19,7 @@ use presolve_model::{Options, Workers};
 use presolve_rounds::{Presolved, ReducedProgram, presolve};
 use record_file::write_records;
 use record_round_trip::records_have_range;
+use record_values::TextVersion;
 use std::alloc::{AllocError, Global};
 use text_lines::Fault;
 use whole_way::laws::texts_come_back;
@@ -134,7 +135,7 @@ fn texts_of(alloc: Global, made: &ReducedProgram, report: &Report) -> Result<Tex
         texts.program.items texts.records.items texts.report.items) }
 {
     let program = program_text(alloc, &made.program)?;
-    let records = write_records(alloc, &made.records)?;
+    let records = write_records(alloc, &made.records, TextVersion::First)?;
     let report = report_of(alloc, report)?;
     Ok(Texts {
         program,

@@ -1,1 +1,2 @@
 pub mod OntoLaws
+pub mod ToldLines

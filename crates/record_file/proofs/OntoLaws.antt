@@ -4,6 +4,7 @@ use Rattle.std.proofs.lemmas.List.{append-nil}
 use Rattle.std.specs.Prelude.{codes}
 use Rattle.undo_records.specs.Postsolve.{Postsolve}
 use Rattle.record_values.specs.declared.value.Value.{Value}
+use Rattle.record_values.specs.declared.version.TextVersion.{TextVersion}
 use Rattle.record_file.specs.Fields.{value_words, words_of_values}
 use Rattle.record_file.specs.RecordText.{Line, spaced, line_text, lines_text, header_lines, label_lines, offset_line, undo_lines, end_line, record_text}
 use Rattle.record_file.specs.Onto.{words_onto}
@@ -38,10 +39,10 @@ lines_text_append (l ∷ ls) ms =
     ap (λ x. line_text l ++ x) (lines_text_append ls ms) ∙ sym (append_assoc (line_text l) (lines_text ls) (lines_text ms))
 
 -- the sections one after another are the record text
-pub sections_are : (p : Postsolve) → ((((lines_text (header_lines p.sense p.duals) ++ lines_text (label_lines (codes "columns") p.columns)) ++ lines_text (label_lines (codes "rows") p.rows)) ++ line_text (offset_line p.offset)) ++ lines_text (undo_lines p.undos)) ++ codes "end\n" ≡ record_text p
+pub sections_are : (v : TextVersion) (p : Postsolve) → ((((lines_text (header_lines v p.sense p.duals) ++ lines_text (label_lines (codes "columns") p.columns)) ++ lines_text (label_lines (codes "rows") p.rows)) ++ line_text (offset_line p.offset)) ++ lines_text (undo_lines v p.undos p.transactions)) ++ codes "end\n" ≡ record_text v p
 unfolding record_text
-sections_are p = joined
-    (header_lines p.sense p.duals) (label_lines (codes "columns") p.columns) (label_lines (codes "rows") p.rows) (offset_line p.offset) (undo_lines p.undos) end_line
+sections_are v p = joined
+    (header_lines v p.sense p.duals) (label_lines (codes "columns") p.columns) (label_lines (codes "rows") p.rows) (offset_line p.offset) (undo_lines v p.undos p.transactions) end_line
   where
     joined : (hs bs cs : List Line) (d : Line) (es : List Line) (f : Line) → ((((lines_text hs ++ lines_text bs) ++ lines_text cs) ++ line_text d) ++ lines_text es) ++ line_text f ≡ lines_text (hs ++ (bs ++ (cs ++ d ∷ (es ++ f ∷ []))))
     joined hs bs cs d es f = simp (lines_text_append, append_assoc, append-nil)

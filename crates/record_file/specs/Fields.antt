@@ -1,13 +1,15 @@
--- The words of each record: its rule, and the fields behind it.
-use Rattle.std.specs.Prelude.{ℕ, List, [], ◌∷◌, ◌++◌, codes}
+-- The words of each record: its rule, and the fields behind it; and those of its transaction.
+use Rattle.std.specs.Prelude.{ℕ, List, [], ◌∷◌, ◌++◌, length, codes}
 use Rattle.std.specs.Fmt.{decimal}
+use Rattle.undo_records.specs.declared.transactions.PartRead.{PartRead}
 use Rattle.undo_records.specs.declared.undo.Undo.{Undo}
+use Rattle.undo_records.specs.Transactions.{Transaction}
 use Rattle.record_values.specs.declared.value.Value.{Value}
 use Rattle.record_values.specs.declared.value.Value.TheVariants.{Id, Ratio, LowerEnd, UpperEnd, Letter, Bound, Fate, Entries}
 use Rattle.record_values.specs.Values.{values}
 use Rattle.record_values.specs.declared.rule.Rule.{Rule}
 use Rattle.record_values.specs.declared.rule.Rule.TheVariants.{K1, K2, K3, K4, K5, K6, K7, K8, K9, K10, K11, K12, K13, K14, K15, K16, K17}
-use Rattle.record_file.specs.Words.{ratio_word, lower_word, upper_word, letter_word, side_word, bound_word, fate_word, list_words}
+use Rattle.record_file.specs.Words.{ratio_word, lower_word, upper_word, letter_word, side_word, bound_word, fate_word, list_words, part_words}
 
 -- the name of a rule
 abbrev pub rule_word : Rule → List ℕ
@@ -47,3 +49,11 @@ words_of_values (v ∷ vs) = value_words v ++ words_of_values vs
 -- what a record holds: the words of its values
 abbrev pub field_words : Undo → List (List ℕ)
 field_words u = words_of_values (values u)
+
+-- what is told of a transaction: its place, the worker, its version, and how many parts it read
+abbrev pub transaction_words : ℕ → Transaction → List (List ℕ)
+transaction_words place t = decimal place ∷ decimal t.by ∷ decimal t.version ∷ decimal (length t.reads) ∷ []
+
+-- a part that it read, and how often that had changed
+abbrev pub read_words : PartRead → List (List ℕ)
+read_words r = part_words r.part ++ decimal r.changes ∷ []

@@ -6,10 +6,14 @@ use Rattle.rational.specs.Lowest.{over_of, under_of}
 use Rattle.lp_model.specs.declared.program.Sense.{Sense}
 use Rattle.lp_model.specs.declared.program.Sense.TheVariants.{Min, Max}
 use Rattle.lp_model.specs.declared.terms.Term.{Term}
+use Rattle.problem_model.specs.declared.part.Part.{Part}
+use Rattle.problem_model.specs.declared.part.Part.TheVariants.{Row, Sides, Col, Bounds}
 use Rattle.undo_records.specs.declared.side.Side.{Side}
 use Rattle.undo_records.specs.declared.side.Side.TheVariants.{Lower, Upper}
 use Rattle.undo_records.specs.declared.side.RowFate.{RowFate}
 use Rattle.undo_records.specs.declared.side.RowFate.TheVariants.{Kept, Dropped}
+use Rattle.record_values.specs.declared.version.TextVersion.{TextVersion}
+use Rattle.record_values.specs.declared.version.TextVersion.TheVariants.{First, Second}
 
 -- n, or n/d in lowest terms
 abbrev pub ratio_word : Number → List ℕ
@@ -64,3 +68,15 @@ pair_words (t ∷ ts) = decimal t.id ∷ ratio_word t.value ∷ pair_words ts
 -- how many pairs there are, and the pairs
 abbrev pub list_words : List Term → List (List ℕ)
 list_words ts = decimal (length ts) ∷ pair_words ts
+
+-- a version of the text
+abbrev pub version_word : TextVersion → List ℕ
+version_word First = codes "1"
+version_word Second = codes "2"
+
+-- a part: its kind, and the id of its row or column
+abbrev pub part_words : Part → List (List ℕ)
+part_words (Row i) = codes "row" ∷ decimal i ∷ []
+part_words (Sides i) = codes "sides" ∷ decimal i ∷ []
+part_words (Col j) = codes "col" ∷ decimal j ∷ []
+part_words (Bounds j) = codes "bounds" ∷ decimal j ∷ []

@@ -1,7 +1,8 @@
-//! The text of presolve's records, version 1.
+//! The text of presolve's records, in both versions.
 #![tactic(auto)]
 
 mod fields;
+mod records;
 mod sections;
 mod words;
 mod writing;

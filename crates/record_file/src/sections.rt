@@ -1,26 +1,49 @@
 //! The sections of the record text.
 
 ghost use Rattle.std.specs.Prelude.{◌≡◌, ◌++◌, OnOk};
-ghost use Rattle.record_file.specs.RecordText.{line_text, lines_text, header_lines, label_line, label_lines, offset_line, undo_line, undo_lines};
+ghost use Rattle.record_file.specs.RecordText.{line_text, lines_text, header_lines, label_line, label_lines, offset_line, setting_lines, undo_line, version_line};
 
 use crate::fields::{push_fields, rule_name};
 use crate::words::push_count;
 use fractions::frac::Frac;
 use lp_model::Sense;
+use record_values::TextVersion;
 use std::alloc::AllocError;
 use undo_records::{Label, Undo};
 
-/// Appends the lines in front of the columns: the header, the sense, and whether the records undo duals too.
-pub fn push_header(out: &mut Vec<u8>, sense: Sense, duals: bool) -> Result<(), AllocError>
-    ensures { OnOk result (out.new.items ≡ out.old.items ++ lines_text (header_lines sense duals)) }
+/// The header of a version.
+fn version_text(version: TextVersion) -> &'static [u8]
+    ensures { result.now ≡ line_text (version_line version) }
 {
-    let lines = match (sense, duals) {
-        (Sense::Min, false) => b"papilo-records 1\nsense min\nduals no\n".as_slice(),
-        (Sense::Min, true) => b"papilo-records 1\nsense min\nduals yes\n".as_slice(),
-        (Sense::Max, false) => b"papilo-records 1\nsense max\nduals no\n".as_slice(),
-        (Sense::Max, true) => b"papilo-records 1\nsense max\nduals yes\n".as_slice(),
-    };
-    out.extend_from_slice(lines)
+    match version {
+        TextVersion::First => b"papilo-records 1\n",
+        TextVersion::Second => b"papilo-records 2\n",
+    }
+}
+
+/// The lines of the sense, and of whether the records undo duals too.
+fn setting_text(sense: Sense, duals: bool) -> &'static [u8]
+    ensures { result.now ≡ lines_text (setting_lines sense duals) }
+{
+    match (sense, duals) {
+        (Sense::Min, false) => b"sense min\nduals no\n",
+        (Sense::Min, true) => b"sense min\nduals yes\n",
+        (Sense::Max, false) => b"sense max\nduals no\n",
+        (Sense::Max, true) => b"sense max\nduals yes\n",
+    }
+}
+
+/// Appends the lines in front of the columns: the header, the sense, and whether the records undo duals too.
+pub fn push_header(
+    out: &mut Vec<u8>,
+    version: TextVersion,
+    sense: Sense,
+    duals: bool,
+) -> Result<(), AllocError>
+    ensures { OnOk result (out.new.items ≡ out.old.items ++ lines_text (header_lines version sense duals)) }
+{
+    out.extend_from_slice(version_text(version))?;
+    out.extend_from_slice(setting_text(sense, duals))
 }
 
 /// Appends whether a row or a column is live, and its name.
@@ -62,25 +85,10 @@ pub fn push_offset(out: &mut Vec<u8>, offset: &Frac) -> Result<(), AllocError>
 
 /// Appends a record's line.
 #[tactic(auto, using(crate::proofs::OntoLaws::line_onto_is))]
-fn push_undo(out: &mut Vec<u8>, undo: &Undo) -> Result<(), AllocError>
+pub fn push_undo(out: &mut Vec<u8>, undo: &Undo) -> Result<(), AllocError>
     ensures { OnOk result (out.new.items ≡ out.old.items ++ line_text (undo_line undo.now)) }
 {
     out.extend_from_slice(rule_name(undo))?;
     push_fields(out, undo)?;
     out.extend_from_slice(b"\n")
-}
-
-/// Appends the number of records, and a line for each of them.
-pub fn push_undos(out: &mut Vec<u8>, undos: &[Undo]) -> Result<(), AllocError>
-    ensures { OnOk result (out.new.items ≡ out.old.items ++ lines_text (undo_lines undos.now)) }
-{
-    out.extend_from_slice(b"records")?;
-    push_count(out, undos.len())?;
-    out.push(b'\n')?;
-    let mut rest = undos;
-    while let [undo, after @ ..] = rest {
-        push_undo(out, undo)?;
-        rest = after;
-    }
-    Ok(())
 }

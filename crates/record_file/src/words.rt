@@ -2,13 +2,14 @@
 
 ghost use Rattle.std.specs.Prelude.{◌≡◌, ◌++◌, ◌∷◌, [], map, OnOk};
 ghost use Rattle.std.specs.Fmt.{decimal};
-ghost use Rattle.record_file.specs.Words.{ratio_word, lower_word, upper_word, letter_word, side_word, bound_word, fate_word, list_words};
+ghost use Rattle.record_file.specs.Words.{ratio_word, lower_word, upper_word, letter_word, side_word, bound_word, fate_word, list_words, part_words};
 ghost use Rattle.record_file.specs.Onto.{words_onto};
 
 use fractions::ext::Ext;
 use fractions::frac::Frac;
 use itoa::Buffer;
 use lp_model::Term;
+use problem_model::Part;
 use std::alloc::AllocError;
 use undo_records::{RowFate, Side};
 
@@ -30,6 +31,14 @@ pub fn push_count(out: &mut Vec<u8>, count: usize) -> Result<(), AllocError>
 {
     out.push(b' ')?;
     push_natural(out, count as u128)
+}
+
+/// Appends a number of 64 bits.
+pub fn push_number(out: &mut Vec<u8>, number: u64) -> Result<(), AllocError>
+    ensures { OnOk result (out.new.items ≡ out.old.items ++ 32 ∷ decimal number) }
+{
+    out.push(b' ')?;
+    push_natural(out, number as u128)
 }
 
 /// Appends the id of a row or a column.
@@ -125,4 +134,28 @@ pub fn push_terms(out: &mut Vec<u8>, terms: &[Term]) -> Result<(), AllocError>
         rest = after;
     }
     Ok(())
+}
+
+/// Appends the kind of a part, and the id of its row or column.
+pub fn push_part(out: &mut Vec<u8>, part: Part) -> Result<(), AllocError>
+    ensures { OnOk result (out.new.items ≡ words_onto out.old.items (part_words part)) }
+{
+    match part {
+        Part::Row(row) => {
+            out.extend_from_slice(b" row")?;
+            push_id(out, row)
+        }
+        Part::Sides(row) => {
+            out.extend_from_slice(b" sides")?;
+            push_id(out, row)
+        }
+        Part::Col(column) => {
+            out.extend_from_slice(b" col")?;
+            push_id(out, column)
+        }
+        Part::Bounds(column) => {
+            out.extend_from_slice(b" bounds")?;
+            push_id(out, column)
+        }
+    }
 }

@@ -13,10 +13,16 @@ use Rattle.lp_model.specs.declared.program.Sense.TheVariants.{Min, Max}
 use Rattle.record_fields.specs.Words.{is_plain}
 use Rattle.record_fields.specs.Ratios.{unsigned_part, is_least}
 use Rattle.record_fields.specs.declared.faults.LineFault.{LineFault}
+use Rattle.record_values.specs.declared.version.TextVersion.{TextVersion}
+use Rattle.record_values.specs.declared.version.TextVersion.TheVariants.{First, Second}
 use Rattle.record_fields.specs.declared.faults.LineFault.TheVariants as faults
 
-abbrev pub is_header : List ℕ → Bool
-is_header line = bytes_eq line (codes "papilo-records 1")
+-- the version that a header names
+abbrev pub version_of : List ℕ → Option TextVersion
+version_of line =
+    if bytes_eq line (codes "papilo-records 1") then Some First
+    else if bytes_eq line (codes "papilo-records 2") then Some Second
+    else None
 
 abbrev pub sense_of : List ℕ → Option Sense
 sense_of line = if bytes_eq line (codes "sense min") then Some Min else if bytes_eq line (codes "sense max") then Some Max else None

@@ -1,5 +1,6 @@
 pub mod Labels
 pub mod Headings
+pub mod Transactions
 pub mod Progress
 pub mod Faults
 pub mod Reading

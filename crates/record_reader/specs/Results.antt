@@ -14,10 +14,22 @@ use Rattle.record_reader.specs.declared.faults.RecordError.TheVariants as record
 use Rattle.record_reader.specs.declared.faults.TakeError.{TakeError}
 use Rattle.record_reader.specs.declared.faults.TakeError.TheVariants as take
 use Rattle.record_reader.specs.declared.stages.Stage.{Stage}
+use Rattle.record_reader.specs.declared.transactions.Heading.{Heading}
+use Rattle.record_reader.specs.declared.faults.RecordFaultKind.{RecordFaultKind}
+use Rattle.record_reader.specs.Transactions.{transaction_fault, read_fault, read_in}
+use Rattle.record_reader.specs.Headings.{counted}
+use Rattle.number_texts.specs.Form.{number}
+use Rattle.undo_records.specs.declared.transactions.PartRead.{PartRead}
+use Rattle.record_words.specs.Undos.{word}
 
 -- the progress that a draft shows
 abbrev pub seen : Draft → Progress
-seen d = record { stage = d.stage; given = record { sense = d.sense; duals = d.duals; columns = d.columns.items; rows = d.rows.items; offset = d.offset; undos = d.undos.items }; live = d.walk }
+seen d = record {
+  stage = d.stage;
+  version = d.version;
+  given = record { sense = d.sense; duals = d.duals; columns = d.columns.items; rows = d.rows.items; offset = d.offset; undos = d.undos.items; transactions = d.transactions };
+  live = d.walk;
+}
 
 -- a number, or a fault, as it is to be
 abbrev pub IsNumber : Result Number LineFault → Result Number LineError → Type 0
@@ -47,3 +59,13 @@ abbrev pub IsDraft : List ℕ → Result Draft RecordError → Type 0
 IsDraft text (Ok d) = (first_fault text ≡ None) × ((seen d).given ≡ records_of text)
 IsDraft text (Err (record_error.Fault fault)) = first_fault text ≡ Some (fault.kind, fault.line)
 IsDraft text (Err record_error.NoMemory) = Unit {0}
+
+-- what the line of a transaction at a place tells, or its fault
+abbrev pub IsHeading : ℕ → List (List ℕ) → Result Heading RecordFaultKind → Type 0
+IsHeading place ws (Ok h) = (transaction_fault place ws ≡ None) × (h.by ≡ number (word 2 ws)) × (h.version ≡ number (word 3 ws)) × (h.reads ≡ counted (word 4 ws))
+IsHeading place ws (Err kind) = transaction_fault place ws ≡ Some kind
+
+-- the part that a line says was read in a program of m rows and n columns, or its fault
+abbrev pub IsPartRead : ℕ → ℕ → List (List ℕ) → Result PartRead RecordFaultKind → Type 0
+IsPartRead m n ws (Ok r) = (read_fault m n ws ≡ None) × (r ≡ read_in ws)
+IsPartRead m n ws (Err kind) = read_fault m n ws ≡ Some kind

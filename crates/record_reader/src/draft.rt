@@ -2,31 +2,36 @@
 
 ghost use Rattle.std.specs.Prelude.{◌≡◌, IfOk, OnOk, ◌++◌, ◌∷◌, [], pred};
 ghost use Rattle.undo_records.specs.Walk.{after};
-ghost use Rattle.record_reader.specs.Progress.{start, columns_left, rows_left, undos_left};
+ghost use Rattle.record_reader.specs.Progress.{start, columns_left, reads_left, records_left, rows_left, without_transaction};
 ghost use Rattle.record_reader.specs.Faults.{ends_at};
 ghost use Rattle.record_reader.specs.Results.{seen, TakesAt, Takes};
-ghost use Rattle.record_reader.specs.declared.stages.Stage.TheVariants.{Header, SenseLine, DualsLine, ColumnCount, Columns, RowCount, Rows, Offset, RecordCount, Undos, End, Over};
+ghost use Rattle.record_reader.specs.declared.stages.Stage.TheVariants.{Header, SenseLine, DualsLine, ColumnCount, Columns, RowCount, Rows, Offset, RecordCount, Reads, Undos, End, Over};
+ghost use Rattle.record_reader.specs.declared.stages.Stage.TheVariants as stage;
 
 use crate::faults::{RecordFaultKind, TakeError, kind_of};
-use crate::headings::{count_of, duals_of, is_end, is_header, offset_of, sense_of};
+use crate::headings::{count_of, duals_of, is_end, offset_of, sense_of, version_of};
 use crate::labels::label_of;
-use crate::stages::{Stage, columns_left, rows_left, undos_left};
+use crate::stages::{Stage, columns_left, reads_left, records_left, rows_left};
+use crate::transactions::{heading_of, part_read_of};
 use fractions::frac::Frac;
 use lp_model::Sense;
+use record_values::TextVersion;
 use record_words::{LineError, read_undo};
 use std::alloc::{AllocError, Global};
-use undo_records::{Label, Undo, Walk};
+use undo_records::{Label, Transactions, Undo, Walk};
 
 /// What the lines so far have given, what the next one has to be, and what is live behind them.
 #[derive(Drop)]
 pub struct Draft {
     pub stage: Stage,
+    pub version: TextVersion,
     pub sense: Sense,
     pub duals: bool,
     pub columns: Vec<Label>,
     pub rows: Vec<Label>,
     pub offset: Frac,
     pub undos: Vec<Undo>,
+    pub transactions: Transactions,
     pub walk: Walk,
 }
 
@@ -65,12 +70,14 @@ impl Draft {
     {
         Ok(Draft {
             stage: Stage::Header,
+            version: TextVersion::First,
             sense: Sense::Min,
             duals: false,
             columns: Vec::new(alloc),
             rows: Vec::new(alloc),
             offset: Frac::zero(),
             undos: Vec::new(alloc),
+            transactions: Transactions::new(alloc),
             walk: Walk::new(alloc, 0, 0)?,
         })
     }
@@ -78,9 +85,10 @@ impl Draft {
     fn take_header(&mut self, line: &[u8]) -> Result<(), TakeError>
         ensures { TakesAt Header (seen self.old) line.now result (seen self.new) }
     {
-        if !is_header(line) {
+        let Some(version) = version_of(line) else {
             return Err(TakeError::Fault(RecordFaultKind::BadHeader));
-        }
+        };
+        self.version = version;
         self.stage = Stage::SenseLine;
         Ok(())
     }
@@ -178,8 +186,44 @@ impl Draft {
         };
         self.walk = Walk::new(alloc, self.rows.len(), self.columns.len())?;
         make_room(&mut self.undos, count, left);
-        self.stage = undos_left(count);
+        self.stage = records_left(self.version, count);
         Ok(())
+    }
+
+    fn take_transaction(&mut self, left: u64, line: &[u8]) -> Result<(), TakeError>
+        ensures { TakesAt (stage.Transactions left) (seen self.old) line.now result (seen self.new) }
+    {
+        match heading_of(self.undos.len() as u64 + 1, line) {
+            Ok(heading) => {
+                self.transactions.open(heading.by, heading.version)?;
+                self.stage = reads_left(left, heading.reads);
+                Ok(())
+            }
+            Err(kind) => Err(TakeError::Fault(kind)),
+        }
+    }
+
+    fn take_read(&mut self, records: u64, left: u64, line: &[u8]) -> Result<(), TakeError>
+        ensures { TakesAt (Reads records left) (seen self.old) line.now result (seen self.new) }
+    {
+        match part_read_of(self.rows.len(), self.columns.len(), line) {
+            Ok(read) => {
+                self.transactions.add(read)?;
+                self.stage = reads_left(records, left.saturating_sub(1));
+                Ok(())
+            }
+            Err(kind) => Err(TakeError::Fault(kind)),
+        }
+    }
+
+    /// In the first version nothing is known of a record's transaction.
+    fn tell_nothing(&mut self) -> Result<(), AllocError>
+        ensures { OnOk result (seen self.new ≡ without_transaction (seen self.old)) }
+    {
+        match self.version {
+            TextVersion::First => self.transactions.open(0, 0),
+            TextVersion::Second => Ok(()),
+        }
     }
 
     fn take_undo(&mut self, alloc: Global, left: u64, line: &[u8]) -> Result<(), TakeError>
@@ -189,7 +233,8 @@ impl Draft {
             Ok(undo) => {
                 self.walk.step(&undo);
                 push_undo(&mut self.undos, undo)?;
-                self.stage = undos_left(left.saturating_sub(1));
+                self.tell_nothing()?;
+                self.stage = records_left(self.version, left.saturating_sub(1));
                 Ok(())
             }
             Err(LineError::Fault(fault)) => Err(TakeError::Fault(kind_of(fault))),
@@ -233,6 +278,8 @@ impl Draft {
             Stage::Rows(count) => self.take_row(alloc, count, line),
             Stage::Offset => self.take_offset(alloc, line),
             Stage::RecordCount => self.take_record_count(alloc, line, left),
+            Stage::Transactions(count) => self.take_transaction(count, line),
+            Stage::Reads(records, count) => self.take_read(records, count, line),
             Stage::Undos(count) => self.take_undo(alloc, count, line),
             Stage::End => self.take_end(line),
             Stage::Over => Err(TakeError::Fault(RecordFaultKind::BadLine)),

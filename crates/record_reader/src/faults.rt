@@ -10,10 +10,10 @@ use std::alloc::AllocError;
 use text_lines::Fault;
 use thiserror::Error;
 
-/// What is wrong with a record text, by ascending number: F1 to F4 and F6.
+/// What is wrong with a record text, by ascending number: F1 to F4, F6 and F9.
 #[derive(Clone, Copy, Debug, PartialEq, Eq)]
 pub enum RecordFaultKind {
-    /// F1: the first line is not the header of this version.
+    /// F1: the first line is not the header of a version that is read.
     BadHeader,
     /// F2: a line is not of its form, or stands behind the end.
     BadLine,
@@ -23,6 +23,8 @@ pub enum RecordFaultKind {
     Cut,
     /// F6: a number past the range.
     NumberPast,
+    /// F9: a transaction with another place than its record's, or whose version is not below that.
+    BadTransaction,
 }
 
 impl RecordFaultKind {
@@ -36,6 +38,7 @@ impl RecordFaultKind {
             RecordFaultKind::BadId => 3,
             RecordFaultKind::Cut => 4,
             RecordFaultKind::NumberPast => 6,
+            RecordFaultKind::BadTransaction => 9,
         }
     }
 }

@@ -1,12 +1,13 @@
 //! The lines that are neither labels nor records.
 
-ghost use Rattle.std.specs.Prelude.{◌≡◌, ◌^◌, ◌<◌, ◌≤◌, ◌-◌, ◌==◌, not, length, IfOk, Ok, Err, Some, None, take, drop, slice_index_or};
+ghost use Rattle.std.specs.Prelude.{◌≡◌, ◌^◌, ◌<◌, ◌≤◌, ◌-◌, ◌==◌, not, length, IfOk, IsTrue, Ok, Err, Some, None, take, drop, slice_index_or};
 ghost use Rattle.std.specs.Option.{option_map};
 ghost use Rattle.fractions.specs.declared.Numbers.TheVariants.{Fractions};
 ghost use Rattle.number_texts.specs.Form.{cut, is_slash, is_point};
 ghost use Rattle.number_texts.specs.Read.{read_of};
 ghost use Rattle.record_fields.specs.Ratios.{is_least, unsigned_part};
-ghost use Rattle.record_reader.specs.Headings.{is_header, sense_of, duals_of, counted, count_of, are_decimals, point_form, slash_form, has_written_form, offset_by, offset_of, is_end};
+ghost use Rattle.record_fields.specs.Words.{is_plain};
+ghost use Rattle.record_reader.specs.Headings.{version_of, sense_of, duals_of, counted, count_of, are_decimals, point_form, slash_form, has_written_form, offset_by, offset_of, is_end};
 ghost use Rattle.record_reader.specs.Results.{IsNumber};
 
 use crate::line_parts::{behind, front};
@@ -16,14 +17,21 @@ use number_texts::form::{cut_point, cut_slash, is_digits, number};
 use number_texts::{Numbers, ReadNumber, read, write};
 use record_fields::faults::LineFault;
 use record_fields::ids::is_plain;
+use record_values::TextVersion;
 use record_words::LineError;
 use std::alloc::Global;
 
-/// Whether a line is the header of this version.
-pub fn is_header(line: &[u8]) -> bool
-    ensures { result ≡ is_header line.now }
+/// The version that a header names.
+pub fn version_of(line: &[u8]) -> Option<TextVersion>
+    ensures { result ≡ version_of line.now }
 {
-    line == b"papilo-records 1".as_slice()
+    if line == b"papilo-records 1".as_slice() {
+        return Some(TextVersion::First);
+    }
+    if line == b"papilo-records 2".as_slice() {
+        return Some(TextVersion::Second);
+    }
+    None
 }
 
 /// The sense that a line tells.
@@ -59,6 +67,17 @@ pub fn is_end(line: &[u8]) -> bool
     line == b"end".as_slice()
 }
 
+/// How many lines digits announce.
+pub fn counted(digits: &[u8]) -> u64
+    requires { IsTrue (is_plain digits.now) }
+    ensures { result ≡ counted digits.now }
+{
+    match number(digits, 1 << 64) {
+        Some(count) => count as u64,
+        None => u64::MAX,
+    }
+}
+
 /// The number behind a heading and its space.
 pub fn count_of(heading: &[u8], line: &[u8]) -> Option<u64>
     ensures { result ≡ count_of heading.now line.now }
@@ -67,10 +86,7 @@ pub fn count_of(heading: &[u8], line: &[u8]) -> Option<u64>
     if front(line, heading.len()) != heading || !is_plain(digits) {
         return None;
     }
-    match number(digits, 1 << 64) {
-        Some(count) => Some(count as u64),
-        None => Some(u64::MAX),
-    }
+    Some(counted(digits))
 }
 
 /// Whether digits end with one that is not 0.

@@ -1,4 +1,4 @@
-//! Reading the text of presolve's records, version 1.
+//! Reading the text of presolve's records, of either version.
 //!
 //! The text is read line by line, in place. What a line has to be follows from the lines before it.
 #![tactic(auto)]
@@ -11,6 +11,7 @@ mod line_parts;
 mod matching;
 mod reading;
 mod stages;
+mod transactions;
 
 pub use faults::{RecordError, RecordFaultKind};
 pub use matching::matches;

@@ -1,7 +1,7 @@
 //! The reading of a record text.
 
 ghost use Rattle.std.specs.Prelude.{◌≡◌, ◌<◌, ◌^◌, ℕ, List, None, length, All};
-ghost use Rattle.undo_records.specs.Named.{AreNamed};
+ghost use Rattle.undo_records.specs.Named.{AreNamed, AreTold};
 ghost use Rattle.undo_records.specs.Walk.{AreSound};
 ghost use Rattle.record_reader.specs.Reading.{first_fault, records_of, IsRead};
 ghost use Rattle.record_reader.specs.Results.{seen, TakesAll, IsDraft};
@@ -13,10 +13,11 @@ use std::alloc::Global;
 use text_lines::{Fault, first_raw_line};
 use undo_records::Records;
 
-/// A text of records without a fault gives sound records, whose labels have names.
+/// A text of records without a fault gives sound records, whose labels have names, each with its transaction.
 pub fn read_texts_are_sound()
     ensures sound { (text : List ℕ) → first_fault text ≡ None → AreSound (records_of text) }
     ensures named { (text : List ℕ) → first_fault text ≡ None → AreNamed (records_of text) }
+    ensures told { (text : List ℕ) → first_fault text ≡ None → AreTold (records_of text) }
 {}
 
 /// Takes in the lines of a text.
@@ -68,6 +69,7 @@ fn read_draft(alloc: Global, text: &[u8]) -> Result<Draft, RecordError>
 fn records_in(draft: Draft) -> Records
     requires sound { AreSound (seen draft).given }
     requires named { AreNamed (seen draft).given }
+    requires told { AreTold (seen draft).given }
     ensures { result ≡ (seen draft).given }
 {
     Records::new(
@@ -77,10 +79,11 @@ fn records_in(draft: Draft) -> Records
         draft.rows,
         draft.offset,
         draft.undos,
+        draft.transactions,
     )
 }
 
-/// The records that a text tells.
+/// The records that a text of either version tells. Where it is of the first, nothing is known of their transactions.
 ///
 /// # Errors
 /// [`RecordError::Fault`] exactly where a line has a fault, or the text ends before its end line: the first such line, and its fault with

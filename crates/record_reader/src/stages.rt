@@ -1,8 +1,10 @@
 //! The stages of a record text.
 
 ghost use Rattle.std.specs.Prelude.{◌≡◌};
-ghost use Rattle.record_reader.specs.Progress.{columns_left, rows_left, undos_left};
+ghost use Rattle.record_reader.specs.Progress.{columns_left, reads_left, records_left, rows_left};
 ghost use Rattle.record_reader.specs.Reading.{is_over};
+
+use record_values::TextVersion;
 
 /// What the next line has to be.
 #[derive(Clone, Copy, Debug, PartialEq, Eq)]
@@ -25,7 +27,11 @@ pub enum Stage {
     Offset,
     /// The number of records.
     RecordCount,
-    /// So many records.
+    /// So many records, the first one's transaction in front.
+    Transactions(u64),
+    /// For the first of so many records, so many parts that were read.
+    Reads(u64, u64),
+    /// So many records, of which the first one's transaction was read where the text has them.
     Undos(u64),
     /// The end.
     End,
@@ -56,13 +62,26 @@ pub fn rows_left(count: u64) -> Stage
 }
 
 /// The stage where so many records are left.
-pub fn undos_left(count: u64) -> Stage
-    ensures { result ≡ undos_left count }
+pub fn records_left(version: TextVersion, count: u64) -> Stage
+    ensures { result ≡ records_left version count }
 {
     if count == 0 {
-        Stage::End
+        return Stage::End;
+    }
+    match version {
+        TextVersion::First => Stage::Undos(count),
+        TextVersion::Second => Stage::Transactions(count),
+    }
+}
+
+/// The stage where so many parts are left that were read for the first of so many records.
+pub fn reads_left(records: u64, reads: u64) -> Stage
+    ensures { result ≡ reads_left records reads }
+{
+    if reads == 0 {
+        Stage::Undos(records)
     } else {
-        Stage::Undos(count)
+        Stage::Reads(records, reads)
     }
 }
 

@@ -7,5 +7,7 @@ pub mod Passing
 pub mod Records
 pub mod Round
 pub mod Sections
+pub mod Told
+pub mod Transactions
 pub mod Values
 pub mod Words

@@ -46,7 +46,7 @@ pub number_decimal : (n : ℕ) → n < 10 ^ 64 → number (decimal n) ≡ n
 number_decimal n h = (decimal-digits n h).2
 
 -- ---- ids
-near_id : (n : ℕ) → n < 2 ^ 32 → is_far (decimal n) ≡ false
+pub near_id : (n : ℕ) → n < 2 ^ 32 → is_far (decimal n) ≡ false
 near_id n h = ap (λ (k : ℕ). not (ltb k (2 ^ 32))) (number_decimal n (omega arith)) ∙ ap not (lt-ltb _ _ h)
 
 pub id_again : (n : ℕ) → n < 2 ^ 32 → id_of (decimal n) ≡ n

@@ -3,6 +3,7 @@ use Rattle.std.proofs.Common.{◌≡◌, ℕ, ◌+◌, Bool, true, cond, List, [
 use Rattle.text_lines.specs.Faults.{or_later}
 use Rattle.undo_records.specs.Postsolve.{Postsolve}
 use Rattle.lp_model.specs.Flags.{Flags}
+use Rattle.record_values.specs.declared.version.TextVersion.{TextVersion}
 use Rattle.record_reader.specs.Progress.{Progress, moved, moved_at}
 use Rattle.record_reader.specs.Faults.{line_fault, fault_at}
 use Rattle.record_reader.specs.Reading.{is_over, fault_from, progress_from}
@@ -15,8 +16,8 @@ abbrev pub Passes : Progress → List (List ℕ) → Progress → Type 0
 Passes p [] q = q ≡ p
 Passes p (l ∷ ls) q = (line_fault p l ≡ None) × Passes (moved p l) ls q
 
-abbrev pub state : Stage → Postsolve → Flags → Progress
-state s g f = record { stage = s; given = g; live = f }
+abbrev pub state : TextVersion → Stage → Postsolve → Flags → Progress
+state v s g f = record { stage = s; version = v; given = g; live = f }
 
 pub passes_line : (p q r : Progress) (l : List ℕ) (ls : List (List ℕ)) → fault_at p.stage p l ≡ None → moved_at p.stage p l ≡ q → Passes q ls r → Passes p (l ∷ ls) r
 unfolding line_fault moved

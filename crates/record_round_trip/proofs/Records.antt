@@ -1,10 +1,11 @@
 -- The line of each record is read as the record.
 use Rattle.std.proofs.Common.{◌≡◌, ◌≢◌, ℕ, true, false, not, eqb, List, ◌∷◌, [], ◌++◌, Some, None, refl, ap, ◌∙◌}
+use Rattle.std.specs.Prelude.{All}
 use Rattle.std.specs.Fmt.{decimal}
 use Rattle.std.specs.List.{AllByRecursion}
 use Rattle.std.proofs.lemmas.Bool.{and_from, eqb-true, false_from_ne_true}
 use Rattle.std.proofs.lemmas.List.{append-nil}
-use Rattle.std.proofs.lemmas.List.Elements.{recursion_from_All}
+use Rattle.std.proofs.lemmas.List.Elements.{All-head, All-tail, recursion_from_All}
 use Rattle.lp_model.specs.declared.terms.Term.{Term}
 use Rattle.lp_model.specs.Sparse.{has}
 use Rattle.undo_records.specs.Sound.{IsSound}
@@ -118,6 +119,11 @@ record_again m n u s f =
       same = ap (made (rule_undone u)) read.again ∙ made_again u;
       whole = (named.whole, read.whole);
     }
+
+pub all_again : (m n : ℕ) (us : List Undo) → All (IsSound m n) us → All UndoFits us → AllByRecursion IsReadAgain us
+all_again m n [] s r = tt
+all_again m n (u ∷ us) s r =
+    (record_again m n u (All-head (IsSound m n) u us s) (All-head UndoFits u us r), all_again m n us (All-tail (IsSound m n) u us s) (All-tail UndoFits u us r))
 
 -- ---- the line
 pub undo_words : (u : Undo) → IsReadAgain u → words_of (bytes_of (undo_line u)) ≡ rule_word (rule_undone u) ∷ field_words u

@@ -82,3 +82,7 @@ spaced_unbroken (w ∷ ws) h = None_pass-append (λ b. b == 10) w (spaced ws) (u
 
 pub line_unbroken : (l : Line) → IsWhole l → Unbroken (bytes_of l)
 line_unbroken l h = None_pass-append (λ b. b == 10) l.first (spaced l.others) (unbroken l.first h.0) (spaced_unbroken l.others h.1)
+
+pub all_on : (xs ys : List Line) → AllByRecursion IsWhole xs → AllByRecursion IsWhole ys → AllByRecursion IsWhole (xs ++ ys)
+all_on [] ys h k = k
+all_on (x ∷ xs) ys h k = (h.0, all_on xs ys h.1 k)

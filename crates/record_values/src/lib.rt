@@ -12,10 +12,12 @@ mod kinds;
 mod rule;
 mod telling;
 mod value;
+mod version;
 
 pub use rule::Rule;
 pub use telling::{Hearer, tell};
 pub use value::{Listed, Value};
+pub use version::TextVersion;
 
 /// A record is made of its values. Says so, and does nothing.
 pub fn values_make_records()

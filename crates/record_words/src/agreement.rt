@@ -25,7 +25,7 @@ fn skip(count: usize, words: Words<'_>) -> Words<'_>
 }
 
 /// The word behind so many.
-fn word<'a>(count: usize, words: Words<'a>) -> &'a [u8]
+pub fn word<'a>(count: usize, words: Words<'a>) -> &'a [u8]
     ensures { result.now ≡ word count (words_left words.entry) }
 {
     let mut rest = skip(count, words);

@@ -8,4 +8,5 @@ mod lines;
 mod rules;
 mod undos;
 
+pub use agreement::word;
 pub use lines::{LineError, read_records_are_sound, read_undo};
