@@ -34,6 +34,11 @@ FailsToWrite name before now = Rose (before.writes name) (now.writes name)
 abbrev pub IsOverlong : ℕ → List ℕ → Moment → Moment → Type 0
 IsOverlong limit name before now = IsLonger (before.told name) limit × Rose (before.overlong limit name) (now.overlong limit name)
 
+-- bytes were found, and have this property
+abbrev pub IfFound : Option (List ℕ) → (List ℕ → Type 0) → Type 0
+IfFound None P = ⊥
+IfFound (Some text) P = P text
+
 -- what a read of a name finds: the bytes, no more than a limit; or none, where they are more
 abbrev pub Finds : ℕ → List ℕ → Moment → Moment → Option (List ℕ) → Type 0
 Finds limit name before now None = IsOverlong limit name before now

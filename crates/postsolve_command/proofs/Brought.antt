@@ -5,28 +5,25 @@ use Rattle.rational.specs.Number.{Number}
 use Rattle.file_ports.specs.Ports.{Moment}
 use Rattle.command_words.specs.Names.{PostsolveNames}
 use Rattle.lp_model.specs.ProgramData.{ProgramData}
-use Rattle.record_reader.specs.Reading as record_texts
 use Rattle.undo_records.specs.Postsolve.{Postsolve}
-use Rattle.endings.specs.Moments.{Finds, IsThere, Reads}
+use Rattle.endings.specs.Moments.{Finds, IfFound, IsThere}
 use Rattle.endings.specs.ProgramTexts.{IsFaultOf, IsProgramOf}
 use Rattle.endings.specs.SolutionTexts.{IsPairOf, SaysPairFault, fault_of}
 use Rattle.endings.specs.declared.reads.TheConstants.{SOLUTION_LIMIT}
-use Rattle.endings.proofs.Earlier.{finds_there, given_reads}
-use Rattle.postsolve_command.specs.RecordTexts.{AreRecordsOf, SaysRecordFault}
+use Rattle.endings.proofs.Earlier.{finds_there, found_reads, given_reads}
+use Rattle.record_texts.specs.RecordTexts.{AreRecordsOf, GivesRecords}
+use Rattle.record_texts.specs.declared.reading.TheConstants.{RECORDS_LIMIT}
+use Rattle.record_texts.specs.declared.no_records.NoRecords.{NoRecords}
+use Rattle.record_texts.specs.declared.no_records.NoRecords.TheVariants as no_records
+use Rattle.record_texts.proofs.Found.{fault_told, records_told}
 use Rattle.postsolve_command.specs.Lifted.{GivesTexts}
-use Rattle.postsolve_command.specs.Given.{FaultsDuals, FaultsMatch, FaultsProgram, FaultsRecords, FaultsSolution, GivesPair, GivesProgram, GivesRecords, IfFound, reduced_form}
+use Rattle.postsolve_command.specs.Given.{FaultsDuals, FaultsMatch, FaultsProgram, FaultsSolution, GivesPair, GivesProgram, records_refusal, reduced_form}
 use Rattle.postsolve_command.specs.Postsolved.{AreFound, AreGiven, AreMatched, AreRead, AreRecordsIn, IsBrought, IsPairIn, IsProgramIn, RefusesProgram}
-use Rattle.postsolve_command.specs.declared.given.TheConstants.{PROGRAM_LIMIT, RECORDS_LIMIT}
+use Rattle.postsolve_command.specs.declared.given.TheConstants.{PROGRAM_LIMIT}
 use Rattle.postsolve_command.specs.declared.given.Found.{Found}
 use Rattle.postsolve_command.specs.declared.lifted.Texts.{Texts}
 use Rattle.postsolve_command.specs.declared.refusal.Refusal.{Refusal}
 use Rattle.postsolve_command.specs.declared.refusal.Refusal.TheVariants.{Program, Records, Solution, Stopped, NoMemory}
-
--- what was found has a property: so has what is told
-found_reads : (limit : ℕ) (name : List ℕ) (before now : Moment) (found : Option (List ℕ)) (P : List ℕ → Type 0)
-    → Finds limit name before now found → IfFound found P → Reads limit (before.told name) P
-found_reads limit name before now None P finds has = absurd has
-found_reads limit name before now (Some text) P finds has = given_reads limit (before.told name) text P finds.0 finds.1 has
 
 pub program_given : (names : PostsolveNames) (before now : Moment) (found : Option (List ℕ)) (program : ProgramData)
     → Finds PROGRAM_LIMIT names.program before now found → IfFound found (λ text. IsProgramOf reduced_form text program) → IsProgramIn names before program
@@ -34,7 +31,7 @@ program_given names before now found program finds has = found_reads PROGRAM_LIM
 
 pub records_given : (names : PostsolveNames) (before now : Moment) (found : Option (List ℕ)) (records : Postsolve)
     → Finds RECORDS_LIMIT names.records before now found → IfFound found (λ text. AreRecordsOf text records) → AreRecordsIn names before records
-records_given names before now found records finds has = found_reads RECORDS_LIMIT names.records before now found (λ text. AreRecordsOf text records) finds has
+records_given names before now found records finds has = records_told names.records before now found records finds has
 
 pub pair_given : (names : PostsolveNames) (before now : Moment) (found : Option (List ℕ)) (program : ProgramData) (point : List Number) (duals : Option (List Number))
     → Finds SOLUTION_LIMIT names.solution before now found → IfFound found (λ text. IsPairOf program text point duals) → IsPairIn names before program point duals
@@ -56,22 +53,11 @@ program_refused names before now found (Solution line) finds gives = absurd give
 program_refused names before now found (Stopped line) finds gives = absurd gives
 program_refused names before now found NoMemory finds gives = tt
 
-records_line : (names : PostsolveNames) (before now : Moment) (found : Option (List ℕ)) (said : List ℕ)
+pub records_refused : (names : PostsolveNames) (before now : Moment) (found : Option (List ℕ)) (program : ProgramData) (none : NoRecords)
     → Finds RECORDS_LIMIT names.records before now found
-    → FaultsRecords found said → SaysRecordFault names.records said before now
-records_line names before now None said finds says = inr (finds, says)
-records_line names before now (Some text) said finds says =
-    let fault = says.0 in
-    inl (fault, given_reads RECORDS_LIMIT (before.told names.records) text (λ t. record_texts.first_fault t ≡ Some (fault.kind, fault.line)) finds.0 finds.1 says.1, says.2)
-
-pub records_refused : (names : PostsolveNames) (before now : Moment) (found : Option (List ℕ)) (program : ProgramData) (refusal : Refusal)
-    → Finds RECORDS_LIMIT names.records before now found
-    → IsProgramIn names before program → GivesRecords found (Err refusal) → IsBrought names (Err refusal) before now
-records_refused names before now found program (Program line) finds read gives = absurd gives
-records_refused names before now found program (Records line) finds read gives = inl (program, read, inl (records_line names before now found line.items finds gives))
-records_refused names before now found program (Solution line) finds read gives = absurd gives
-records_refused names before now found program (Stopped line) finds read gives = absurd gives
-records_refused names before now found program NoMemory finds read gives = tt
+    → IsProgramIn names before program → GivesRecords found (Err none) → IsBrought names (Err (records_refusal none)) before now
+records_refused names before now found program (no_records.Refused line) finds read gives = inl (program, read, inl (fault_told names.records before now found line.items finds gives))
+records_refused names before now found program no_records.NoMemory finds read gives = tt
 
 pub match_refused : (names : PostsolveNames) (before now : Moment) (program : ProgramData) (records : Postsolve) (refusal : Refusal)
     → IsProgramIn names before program → AreRecordsIn names before records

@@ -1,3 +1,2 @@
-mod Before
 mod Columns
 mod Brought

@@ -5,27 +5,22 @@ use Rattle.lp_model.specs.ProgramData.{ProgramData}
 use Rattle.lp_model.specs.declared.point.Pair.{Pair}
 use Rattle.text_lines.specs.declared.fault.Fault.{Fault}
 use Rattle.point_text.specs.declared.faults.SolFaultKind.{SolFaultKind}
-use Rattle.record_reader.specs.Reading as record_texts
-use Rattle.record_reader.specs.declared.faults.RecordFaultKind.{RecordFaultKind}
 use Rattle.record_reader.specs.Matching.{Matches}
 use Rattle.undo_records.specs.Postsolve.{Postsolve}
 use Rattle.endings.specs.declared.forms.Form.{Form}
 use Rattle.endings.specs.declared.forms.ProgramFault.{ProgramFault}
 use Rattle.endings.specs.Forms.{fractions_form}
+use Rattle.endings.specs.Moments.{IfFound}
 use Rattle.endings.specs.ProgramTexts.{IsFaultOf, IsProgramOf, fault_text}
 use Rattle.endings.specs.SolutionTexts.{IsPairOf, fault_of, solution_fault_text}
-use Rattle.postsolve_command.specs.RecordTexts.{AreRecordsOf, record_fault_text}
+use Rattle.record_texts.specs.declared.no_records.NoRecords.{NoRecords}
+use Rattle.record_texts.specs.declared.no_records.NoRecords.TheVariants as no_records
 use Rattle.postsolve_command.specs.declared.refusal.Refusal.{Refusal}
 use Rattle.postsolve_command.specs.declared.refusal.Refusal.TheVariants.{Program, Records, Solution, NoMemory}
 
 -- how OUT is read: in the free format, with fractions
 abbrev pub reduced_form : Form
 reduced_form = fractions_form false
-
--- bytes were found, and have this property
-abbrev pub IfFound : Option (List ℕ) → (List ℕ → Type 0) → Type 0
-IfFound None P = ⊥
-IfFound (Some text) P = P text
 
 abbrev pub FaultsProgram : Option (List ℕ) → List ℕ → Type 0
 FaultsProgram None said = said ≡ codes "error M17" ++ 10 ∷ []
@@ -38,16 +33,10 @@ GivesProgram found (Err (Program line)) = FaultsProgram found line.items
 GivesProgram found (Err NoMemory) = Unit {0}
 GivesProgram found (Err other) = ⊥
 
-abbrev pub FaultsRecords : Option (List ℕ) → List ℕ → Type 0
-FaultsRecords None said = said ≡ codes "error F8" ++ 10 ∷ []
-FaultsRecords (Some text) said = (fault : Fault RecordFaultKind) × (record_texts.first_fault text ≡ Some (fault.kind, fault.line)) × (said ≡ record_fault_text fault)
-
--- the records, or the line that refuses them
-abbrev pub GivesRecords : Option (List ℕ) → Result Postsolve Refusal → Type 0
-GivesRecords found (Ok records) = IfFound found (λ text. AreRecordsOf text records)
-GivesRecords found (Err (Records line)) = FaultsRecords found line.items
-GivesRecords found (Err NoMemory) = Unit {0}
-GivesRecords found (Err other) = ⊥
+-- why there are no records, as a refusal
+abbrev pub records_refusal : NoRecords → Refusal
+records_refusal (no_records.Refused line) = Records line
+records_refusal no_records.NoMemory = NoMemory
 
 -- the line that refuses records that are not those of a program
 abbrev pub FaultsMatch : Postsolve → ProgramData → Refusal → Type 0

@@ -1,4 +1,3 @@
-pub mod RecordTexts
 pub mod Lifted
 pub mod Given
 pub mod Postsolved

@@ -11,10 +11,11 @@ use Rattle.endings.specs.Moments.{FailsToRead, FailsToWrite, Finds, IsQuiet, IsT
 use Rattle.endings.specs.ProgramTexts.{IsProgramOf, SaysFaultOf}
 use Rattle.endings.specs.SolutionTexts.{IsPairOf, SaysPairFault}
 use Rattle.endings.specs.declared.reads.TheConstants.{SOLUTION_LIMIT}
-use Rattle.postsolve_command.specs.RecordTexts.{AreRecordsOf, SaysRecordFault}
+use Rattle.record_texts.specs.RecordTexts.{AreRecordsOf, SaysRecordFault}
+use Rattle.record_texts.specs.declared.reading.TheConstants.{RECORDS_LIMIT}
 use Rattle.postsolve_command.specs.Lifted.{AreTexts, Stops}
 use Rattle.postsolve_command.specs.Given.{LeavesThem, UndoesThem, reduced_form}
-use Rattle.postsolve_command.specs.declared.given.TheConstants.{PROGRAM_LIMIT, RECORDS_LIMIT}
+use Rattle.postsolve_command.specs.declared.given.TheConstants.{PROGRAM_LIMIT}
 use Rattle.postsolve_command.specs.declared.given.Found.{Found}
 use Rattle.postsolve_command.specs.declared.lifted.Texts.{Texts}
 use Rattle.postsolve_command.specs.declared.refusal.Refusal.{Refusal}

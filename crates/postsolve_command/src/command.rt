@@ -7,17 +7,17 @@ ghost use Rattle.command_words.specs.Seen.{postsolve_names_of};
 ghost use Rattle.endings.specs.Ending.{status_of, text_of};
 ghost use Rattle.endings.specs.Moments.{Finds, IsQuiet};
 ghost use Rattle.endings.specs.declared.reads.TheConstants.{SOLUTION_LIMIT};
-ghost use Rattle.postsolve_command.specs.declared.given.TheConstants.{PROGRAM_LIMIT, RECORDS_LIMIT};
+ghost use Rattle.record_texts.specs.declared.reading.TheConstants.{RECORDS_LIMIT};
+ghost use Rattle.postsolve_command.specs.declared.given.TheConstants.{PROGRAM_LIMIT};
 ghost use Rattle.postsolve_command.specs.Postsolved.{AreFound, EndsPostsolve, IsBrought, IsUnread};
 
-use crate::given::{
-    Found, PROGRAM_LIMIT, RECORDS_LIMIT, pair_of, program_of, records_of, see_duals, see_match,
-};
+use crate::given::{Found, PROGRAM_LIMIT, pair_of, program_of, see_duals, see_match};
 use crate::lifted::{Texts, lifted_texts};
 use crate::refusal::Refusal;
 use command_words::PostsolveWords;
 use endings::{Ending, SOLUTION_LIMIT, Unread, read_within};
 use file_ports::{Failed, Files};
+use record_texts::{RECORDS_LIMIT, records_of};
 use std::alloc::{AllocError, Global};
 
 /// Reads OUT, then REC, then SOL.

@@ -2,23 +2,18 @@
 
 ghost use Rattle.std.specs.Prelude.{◌≡◌, ◌≤◌, length, option_map, IfOk, IfSome};
 ghost use Rattle.lp_model.specs.Writable.{EntriesAscend};
-ghost use Rattle.postsolve_command.specs.Given.{Fitting, GivesPair, GivesProgram, GivesRecords, Undoing};
-ghost use Rattle.postsolve_command.specs.RecordTexts.{record_fault_text};
+ghost use Rattle.postsolve_command.specs.Given.{Fitting, GivesPair, GivesProgram, Undoing};
 
 use crate::refusal::Refusal;
 use endings::{ProgramError, fault_line, fractions_form, read_program, solution_fault_line};
 use lp_model::{Pair, Program};
 use point_text::{SolError, read_pair};
-use record_reader::{RecordError, RecordFaultKind, matches, read_records};
-use std::alloc::{AllocError, Global};
-use text_lines::Fault;
+use record_reader::matches;
+use std::alloc::Global;
 use undo_records::Records;
 
 /// The longest reduced program that is read, in bytes.
 pub const PROGRAM_LIMIT: u64 = 1_073_741_824;
-
-/// The longest text of records that is read, in bytes.
-pub const RECORDS_LIMIT: u64 = 1_073_741_824;
 
 /// The bytes of OUT, REC and SOL; none of a name that holds more than is read.
 #[derive(Drop)]
@@ -41,31 +36,6 @@ pub fn program_of(alloc: Global, found: Option<Vec<u8>>) -> Result<Program, Refu
         Ok(program) => Ok(program),
         Err(ProgramError::Fault(fault)) => Err(Refusal::Program(fault_line(alloc, fault)?)),
         Err(ProgramError::NoMemory) => Err(Refusal::NoMemory),
-    }
-}
-
-/// The line that names a fault of a text of records.
-fn record_fault_line(alloc: Global, fault: Fault<RecordFaultKind>) -> Result<Vec<u8>, AllocError>
-    ensures { IfOk result (λ text. text.items ≡ record_fault_text fault) }
-{
-    let number = fault.kind.number();
-    let line = fault.line;
-    let text = format!(in alloc; "error F{number} line {line}\n")?;
-    Vec::from_slice(alloc, text.as_bytes())
-}
-
-/// The records of REC's text.
-pub fn records_of(alloc: Global, found: Option<Vec<u8>>) -> Result<Records, Refusal>
-    requires { IfSome found (λ text. length text.items ≤ RECORDS_LIMIT) }
-    ensures { GivesRecords (option_map (λ text. text.items) found) result }
-{
-    let Some(text) = found else {
-        return Err(Refusal::Records(Vec::from_slice(alloc, b"error F8\n")?));
-    };
-    match read_records(alloc, &text) {
-        Ok(records) => Ok(records),
-        Err(RecordError::Fault(fault)) => Err(Refusal::Records(record_fault_line(alloc, fault)?)),
-        Err(RecordError::NoMemory) => Err(Refusal::NoMemory),
     }
 }
 

@@ -1,8 +1,10 @@
 //! Why a solution is not brought back.
 
 ghost use Rattle.std.specs.Prelude.{◌≡◌};
+ghost use Rattle.postsolve_command.specs.Given.{records_refusal};
 ghost use Rattle.postsolve_command.specs.declared.refusal.Refusal.TheVariants.{NoMemory};
 
+use record_texts::NoRecords;
 use std::alloc::AllocError;
 
 /// Why a solution is not brought back, with the line that says it.
@@ -25,5 +27,16 @@ impl From<AllocError> for Refusal {
 
     fn from(_e: AllocError) -> Refusal {
         Refusal::NoMemory
+    }
+}
+
+impl From<NoRecords> for Refusal {
+    ghost from_gives = { λ none e. e ≡ records_refusal none };
+
+    fn from(none: NoRecords) -> Refusal {
+        match none {
+            NoRecords::Refused(line) => Refusal::Records(line),
+            NoRecords::NoMemory => Refusal::NoMemory,
+        }
     }
 }

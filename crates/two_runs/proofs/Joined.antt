@@ -26,8 +26,9 @@ use Rattle.presolve_command.specs.Texts.{IsConcluded, options_for, workers_for}
 use Rattle.postsolve_command.specs.Given.{reduced_form, UndoesThem}
 use Rattle.postsolve_command.specs.Lifted.{AreTexts, IsLifted}
 use Rattle.postsolve_command.specs.Postsolved.{AreGiven, AreLifted}
-use Rattle.postsolve_command.specs.RecordTexts.{AreRecordsOf}
-use Rattle.postsolve_command.specs.declared.given.TheConstants.{PROGRAM_LIMIT, RECORDS_LIMIT}
+use Rattle.record_texts.specs.RecordTexts.{AreRecordsOf}
+use Rattle.record_texts.specs.declared.reading.TheConstants.{RECORDS_LIMIT}
+use Rattle.postsolve_command.specs.declared.given.TheConstants.{PROGRAM_LIMIT}
 use Rattle.two_runs.specs.ComingBack.{PrintsOffset}
 use Rattle.two_runs.specs.Runs.{AreRun, CanBeWritten, duals_in, original, point_in, reduced, Way}
 

@@ -18,8 +18,9 @@ use Rattle.endings.specs.declared.reads.TheConstants.{SOLUTION_LIMIT}
 use Rattle.postsolve_command.specs.Given.{LeavesThem, reduced_form, UndoesThem}
 use Rattle.postsolve_command.specs.Lifted.{column_names, counts_text, IsLifted, row_names, Stops}
 use Rattle.postsolve_command.specs.Postsolved.{AreLifted, AreMatched, AreRead, AreRecordsIn, IsPostsolved, IsProgramIn, IsStopped, RefusesDuals, RefusesPoint, RefusesRecords, RefusesTexts, SaysPostsolve}
-use Rattle.postsolve_command.specs.RecordTexts.{AreRecordsOf, record_fault_text, SaysRecordFault}
-use Rattle.postsolve_command.specs.declared.given.TheConstants.{PROGRAM_LIMIT, RECORDS_LIMIT}
+use Rattle.record_texts.specs.RecordTexts.{AreRecordsOf, record_fault_text, SaysRecordFault}
+use Rattle.record_texts.specs.declared.reading.TheConstants.{RECORDS_LIMIT}
+use Rattle.postsolve_command.specs.declared.given.TheConstants.{PROGRAM_LIMIT}
 use Rattle.two_runs.specs.Runs.{duals_in, Holds, point_in}
 use Rattle.two_runs.specs.SameAnswers.{IsOfBytes, LeaveTheSame, PostsolvesAreOne}
 use Rattle.two_runs.proofs.Joined.{held_written, lifted_at, undoes_at}
@@ -27,13 +28,13 @@ use Rattle.two_runs.proofs.Layers.{at_status, either, Layer, layer_same, longer_
 use Rattle.two_runs.proofs.OneCheck.{program_line, program_over, solution_line, solution_over}
 use Rattle.two_runs.proofs.OneLifting.{lifted_or_stopped, lifted_same, stopped_same}
 
-abbrev RecordsFault : Type 0
+abbrev pub RecordsFault : Type 0
 RecordsFault = RecordFaultKind × ℕ
 
-abbrev record_line : RecordsFault → List ℕ
+abbrev pub record_line : RecordsFault → List ℕ
 record_line k = record_fault_text (record { kind = k.0; line = k.1 })
 
-abbrev records_over : List ℕ
+abbrev pub records_over : List ℕ
 records_over = codes "error F8" ++ 10 ∷ []
 
 stops_at : (undoing told : Postsolve) (left reduced : ProgramData) (xs point : List Number) (ys duals : Option (List Number)) (said : List ℕ)

@@ -1,4 +1,5 @@
 use Rattle.std.proofs.lemmas.Result.{err_from_is_err_and}
+use Rattle.postsolve_command.specs.Given.{records_refusal}
 use Rattle.postsolve_command.proofs.Brought.{brought, duals_refused, handed_on, match_refused, pair_given, pair_refused, program_given, records_given, records_refused}
 use Rattle.postsolve_command.proofs.command.bring_back.Goals as goal
 
@@ -6,7 +7,7 @@ pub returns-in_err-records : goal.returns-in_err-records
 returns-in_err-records c = λ names before now found.
     let handed = err_from_is_err_and c.from_residual-in_err-records.result c.from_residual-in_err-records.ensures.1 in
     let program = program_given names before now _ c.in_ok-program.program found.program c.in_ok-program.ensures.program in
-    handed_on names before now c.from_residual-in_err-records.result handed.0 c.in_err-records.field-0.0 handed.1 handed.2
+    handed_on names before now c.from_residual-in_err-records.result handed.0 (records_refusal c.in_err-records.field-0.0) handed.1 handed.2
     (records_refused names before now _ c.in_ok-program.program c.in_err-records.field-0.0 found.records program c.in_err-records.ensures)
 
 pub returns-in_err-see_match : goal.returns-in_err-see_match

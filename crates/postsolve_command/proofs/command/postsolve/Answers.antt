@@ -1,8 +1,8 @@
 use Rattle.std.proofs.Common.{◌≡◌, refl}
 use Rattle.command_words.specs.Seen.{postsolve_names_of}
+use Rattle.endings.proofs.Earlier.{kept_since, rose_since, unsettled_since, written_since}
 use Rattle.postsolve_command.specs.declared.refusal.Refusal.TheVariants.{Program, Records, Solution, Stopped}
 use Rattle.postsolve_command.proofs.Brought.{found_so, found_there, refused_as}
-use Rattle.postsolve_command.proofs.Before.{kept_since, rose_since, unsettled_since, written_since}
 use Rattle.postsolve_command.proofs.command.postsolve.Goals as goal
 
 pub returns-in-Err-Program-clause-ends : goal.returns-in-Err-Program-clause-ends
