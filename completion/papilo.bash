@@ -2,7 +2,7 @@
 _papilo() {
   local word=${COMP_WORDS[COMP_CWORD]} name=${COMP_WORDS[0]##*/} options=
   if [[ $name == papilo && $COMP_CWORD == 1 ]]; then
-    mapfile -t COMPREPLY < <(compgen -W 'presolve postsolve check help build --version' -- "$word")
+    mapfile -t COMPREPLY < <(compgen -W 'presolve postsolve check migrate help build --version' -- "$word")
     return
   fi
   case $name:${COMP_WORDS[1]} in

@@ -46,13 +46,17 @@ postsolve_words = with_rule (with_rule (with_rule (new_app (codes "postsolve")) 
 unfoldable pub postsolve_app : App
 postsolve_app = with_rule postsolve_words (word_rule (codes "result"))
 
+-- migrate REC NEW
+unfoldable pub migrate_app : App
+migrate_app = with_rule (with_rule (new_app (codes "migrate")) (word_rule (codes "rec"))) (word_rule (codes "new"))
+
 -- presolve and check
 unfoldable pub first_app : App
 first_app = with_subcommand (with_subcommand (new_app (codes "papilo")) presolve_app.top) check_app.top
 
 -- the whole: one subcommand for each command
 unfoldable pub line_app : App
-line_app = with_subcommand first_app postsolve_app.top
+line_app = with_subcommand (with_subcommand first_app postsolve_app.top) migrate_app.top
 
 abbrev pub texts : List (String Global) → List Text
 texts words = map (λ word. string_bytes word) words

@@ -2,7 +2,7 @@
 ghost use Rattle.std.specs.Prelude.{◌≡◌, ◌≢◌, [], Err, false, IfOk, OnOk, OnErr};
 ghost use Rattle.clap.specs.Words.{app_of, kind_of, rule_of, subcommand_rows_of};
 ghost use Rattle.clap.specs.declared.builder.command.Command.TheViews.{out-Command};
-ghost use Rattle.command_app.specs.Line.{check_app, dual_app, faults, first_app, flag_rule, found_in, is_taken, limited_app, line_app, number_rule, postsolve_app, postsolve_words, presolve_app, presolve_words, texts, word_rule};
+ghost use Rattle.command_app.specs.Line.{check_app, dual_app, faults, first_app, flag_rule, found_in, is_taken, limited_app, line_app, migrate_app, number_rule, postsolve_app, postsolve_words, presolve_app, presolve_words, texts, word_rule};
 
 use clap::builder::ValueParser;
 use clap::error::ErrorKind;
@@ -103,6 +103,16 @@ fn postsolve<'a>(alloc: Global) -> Result<Command<'a>, AllocError>
     postsolve_words(alloc)?.arg(word(alloc, "result"))
 }
 
+#[tactic(auto, unfolding(crate::specs::Line::migrate_app))]
+fn migrate<'a>(alloc: Global) -> Result<Command<'a>, AllocError>
+    ensures app { IfOk result (λ command. app_of command ≡ migrate_app) }
+    ensures local { IfOk result (λ command. (out-Command command).has_globals ≡ false) }
+{
+    Command::new(alloc, "migrate")
+        .arg(word(alloc, "rec"))?
+        .arg(word(alloc, "new"))
+}
+
 #[tactic(auto, unfolding(crate::specs::Line::first_app))]
 fn first<'a>(alloc: Global) -> Result<Command<'a>, AllocError>
     ensures app { IfOk result (λ command. app_of command ≡ first_app) }
@@ -120,7 +130,8 @@ fn line<'a>(alloc: Global) -> Result<Command<'a>, AllocError>
     ensures app { IfOk result (λ command. app_of command ≡ line_app) }
 {
     let postsolve = postsolve(alloc)?;
-    first(alloc)?.subcommand(postsolve)
+    let migrate = migrate(alloc)?;
+    first(alloc)?.subcommand(postsolve)?.subcommand(migrate)
 }
 
 /// What `clap` makes of the words, of which the first is the program's own name.

@@ -10,16 +10,16 @@ use Rattle.clap.specs.Simple.{Shape, built, built_leaf, help_shape, inherited, l
 use Rattle.clap.specs.Takes.{is_given, value_passes}
 use Rattle.clap.specs.Walk.{Row, Rule, Text, answers_to, arg_by_id, first_of}
 use Rattle.clap.specs.declared.builder.value_parser.ValueParser.TheVariants.{Unsigned}
-use Rattle.command_app.specs.Line.{check_app, dual_app, first_app, limited_app, line_app, postsolve_app, postsolve_words, presolve_app, presolve_words}
+use Rattle.command_app.specs.Line.{check_app, dual_app, first_app, limited_app, line_app, migrate_app, postsolve_app, postsolve_words, presolve_app, presolve_words}
 use Rattle.command_line.specs.Line.{limit_in, limit_of, request_of}
 use Rattle.command_words.specs.declared.words.TheConstants.{MOST_RECORDS}
 use Rattle.command_laws.proofs.Rows.{Each, HasFirst, either, first_passes, given_first}
 use Rattle.command_laws.proofs.Uses.{IsKnown}
-use Rattle.command_laws.specs.Asking.{HasOneOutput}
+use Rattle.command_laws.specs.Asking.{HasOneName}
 
--- the command of this name asks for something, but for presolve with one name for OUT and REC
+-- the command of this name asks for something, but where two names are one that have to differ
 abbrev pub Asks : Text → List Row → Type 0
-Asks name rows = (request_of name rows ≢ None) ⊎ HasOneOutput name rows
+Asks name rows = (request_of name rows ≢ None) ⊎ HasOneName name rows
 
 -- the arguments of a command that is not the one for help are known, and their names, where they are given, ask for something
 abbrev pub AsksWhereGiven : Shape → Type 0
@@ -36,6 +36,9 @@ check_command = built_leaf (inherited line_app.top check_app.top)
 
 postsolve_command : Shape
 postsolve_command = built_leaf (inherited line_app.top postsolve_app.top)
+
+migrate_command : Shape
+migrate_command = built_leaf (inherited line_app.top migrate_app.top)
 
 limit_is : (v : Text) → accepts false (Unsigned 1 MOST_RECORDS) v ≡ true → limit_in v ≡ Some (digits_value 10 (without_leading_plus v))
 unfolding limit_in
@@ -62,7 +65,7 @@ module _ (rules : List Rule) (rows : List Row) (each : Each (HasFirst rules) row
     where
       by : (input : (v : Text) × (first_of (codes "in") rows ≡ Some v)) (output : (v : Text) × (first_of (codes "out") rows ≡ Some v))
           (records : (v : Text) × (first_of (codes "rec") rows ≡ Some v)) (b : Bool) → bytes_eq output.0 records.0 ≡ b → Asks (codes "presolve") rows
-      by input output records true same = inr (refl, output.1 ∙ ap Some ((bytes_eq-Decides output.0 records.0).0 same) ∙ sym records.1)
+      by input output records true same = inr (inl (refl, output.1 ∙ ap Some ((bytes_eq-Decides output.0 records.0).0 same) ∙ sym records.1))
       by input output records false differ = inl (λ none. none-some _ (sym (rw (input.1, output.1, records.1, limit, differ) at none)))
 
   check_given : is_given (codes "in") rows ≡ true → is_given (codes "sol") rows ≡ true → Asks (codes "check") rows
@@ -80,12 +83,23 @@ module _ (rules : List Rule) (rows : List Row) (each : Each (HasFirst rules) row
       let result = given_first rules (codes "result") rows each has_result in
       inl (λ none. none-some _ (sym (rw (program.1, records.1, solution.1, result.1) at none)))
 
+  migrate_given : is_given (codes "rec") rows ≡ true → is_given (codes "new") rows ≡ true → Asks (codes "migrate") rows
+  migrate_given has_records has_written =
+      let records = given_first rules (codes "rec") rows each has_records in
+      let written = given_first rules (codes "new") rows each has_written in
+      by records written (bytes_eq records.0 written.0) refl
+    where
+      by : (records : (v : Text) × (first_of (codes "rec") rows ≡ Some v)) (written : (v : Text) × (first_of (codes "new") rows ≡ Some v)) (b : Bool)
+          → bytes_eq records.0 written.0 ≡ b → Asks (codes "migrate") rows
+      by records written true same = inr (inr (refl, records.1 ∙ ap Some ((bytes_eq-Decides records.0 written.0).0 same) ∙ sym written.1))
+      by records written false differ = inl (λ none. none-some _ (sym (rw (records.1, written.1, differ) at none)))
+
 presolve_known : Each (IsKnown presolve_command.rules) presolve_command.rules
-unfolding presolve_command line_app first_app check_app presolve_app dual_app limited_app presolve_words postsolve_app postsolve_words
+unfolding presolve_command line_app first_app check_app presolve_app dual_app limited_app presolve_words postsolve_app postsolve_words migrate_app
 presolve_known = ((refl, refl), ((refl, refl), ((refl, refl), ((refl, refl), ((refl, refl), ((refl, refl), ((refl, refl), ((refl, refl), tt))))))))
 
 presolve_asks : AsksWhereGiven presolve_command
-unfolding presolve_command line_app first_app check_app presolve_app dual_app limited_app presolve_words postsolve_app postsolve_words
+unfolding presolve_command line_app first_app check_app presolve_app dual_app limited_app presolve_words postsolve_app postsolve_words migrate_app
 presolve_asks word answers differs = (
   presolve_known,
   λ rows each given.
@@ -97,11 +111,11 @@ presolve_asks word answers differs = (
 )
 
 check_known : Each (IsKnown check_command.rules) check_command.rules
-unfolding check_command line_app first_app check_app presolve_app dual_app limited_app presolve_words postsolve_app postsolve_words
+unfolding check_command line_app first_app check_app presolve_app dual_app limited_app presolve_words postsolve_app postsolve_words migrate_app
 check_known = ((refl, refl), ((refl, refl), ((refl, refl), ((refl, refl), tt))))
 
 check_asks : AsksWhereGiven check_command
-unfolding check_command line_app first_app check_app presolve_app dual_app limited_app presolve_words postsolve_app postsolve_words
+unfolding check_command line_app first_app check_app presolve_app dual_app limited_app presolve_words postsolve_app postsolve_words migrate_app
 check_asks word answers differs = (
   check_known,
   λ rows each given.
@@ -111,11 +125,11 @@ check_asks word answers differs = (
 )
 
 postsolve_known : Each (IsKnown postsolve_command.rules) postsolve_command.rules
-unfolding postsolve_command line_app first_app check_app presolve_app dual_app limited_app presolve_words postsolve_app postsolve_words
+unfolding postsolve_command line_app first_app check_app presolve_app dual_app limited_app presolve_words postsolve_app postsolve_words migrate_app
 postsolve_known = ((refl, refl), ((refl, refl), ((refl, refl), ((refl, refl), ((refl, refl), tt)))))
 
 postsolve_asks : AsksWhereGiven postsolve_command
-unfolding postsolve_command line_app first_app check_app presolve_app dual_app limited_app presolve_words postsolve_app postsolve_words
+unfolding postsolve_command line_app first_app check_app presolve_app dual_app limited_app presolve_words postsolve_app postsolve_words migrate_app
 postsolve_asks word answers differs = (
   postsolve_known,
   λ rows each given.
@@ -124,6 +138,20 @@ postsolve_asks word answers differs = (
       let solution = both (is_given (codes "sol") rows) _ records.1 in
       let result = both (is_given (codes "result") rows) _ solution.1 in
       postsolve_given postsolve_command.rules rows each program.0 records.0 solution.0 result.0,
+)
+
+migrate_known : Each (IsKnown migrate_command.rules) migrate_command.rules
+unfolding migrate_command line_app first_app check_app presolve_app dual_app limited_app presolve_words postsolve_app postsolve_words migrate_app
+migrate_known = ((refl, refl), ((refl, refl), ((refl, refl), tt)))
+
+migrate_asks : AsksWhereGiven migrate_command
+unfolding migrate_command line_app first_app check_app presolve_app dual_app limited_app presolve_words postsolve_app postsolve_words migrate_app
+migrate_asks word answers differs = (
+  migrate_known,
+  λ rows each given.
+      let records = both (is_given (codes "rec") rows) _ given in
+      let written = both (is_given (codes "new") rows) _ records.1 in
+      migrate_given migrate_command.rules rows each records.0 written.0,
 )
 
 -- the word that answers to the command for help
@@ -139,10 +167,10 @@ help_asks s label word answers differs =
 
 -- each command of the line asks for something
 pub commands_ask : Each AsksWhereGiven (built line_app).subs
-unfolding presolve_command check_command postsolve_command line_app first_app check_app presolve_app dual_app limited_app presolve_words postsolve_app postsolve_words
-commands_ask = (presolve_asks, (check_asks, (postsolve_asks, (help_asks (built_leaf help_shape) refl, tt))))
+unfolding presolve_command check_command postsolve_command migrate_command line_app first_app check_app presolve_app dual_app limited_app presolve_words postsolve_app postsolve_words migrate_app
+commands_ask = (presolve_asks, (check_asks, (postsolve_asks, (migrate_asks, (help_asks (built_leaf help_shape) refl, tt)))))
 
 -- the line has the command for help
 pub line_has_help : (built line_app).top.disable_help_subcommand ≡ false
-unfolding line_app first_app check_app presolve_app dual_app limited_app presolve_words postsolve_app postsolve_words
+unfolding line_app first_app check_app presolve_app dual_app limited_app presolve_words postsolve_app postsolve_words migrate_app
 line_has_help = refl

@@ -4,11 +4,12 @@ use Rattle.clap.specs.Words.{Row, Text, first_of}
 use Rattle.command_app.specs.Line.{found_in, is_taken}
 use Rattle.command_line.specs.Line.{selected}
 
--- presolve, with one name for OUT and REC
-abbrev pub HasOneOutput : Text → List Row → Type 0
-HasOneOutput name rows = (name ≡ codes "presolve") × (first_of (codes "out") rows ≡ first_of (codes "rec") rows)
+-- presolve with one name for OUT and REC, or migrate with one name for REC and NEW
+abbrev pub HasOneName : Text → List Row → Type 0
+HasOneName name rows = ((name ≡ codes "presolve") × (first_of (codes "out") rows ≡ first_of (codes "rec") rows))
+    ⊎ ((name ≡ codes "migrate") × (first_of (codes "rec") rows ≡ first_of (codes "new") rows))
 
--- where clap takes the words and finds a command in them, they ask for something, but for presolve with one name for OUT and REC
+-- where clap takes the words and finds a command in them, they ask for something, but where two names are one that have to differ
 abbrev pub TakenWordsAsk : Type 0
 TakenWordsAsk = (words : List Text) (name : Text) (rows : List Row) → is_taken words ≡ true → found_in words ≡ Some (name, rows)
-    → (selected words ≢ None) ⊎ HasOneOutput name rows
+    → (selected words ≢ None) ⊎ HasOneName name rows

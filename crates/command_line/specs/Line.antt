@@ -6,7 +6,7 @@ use Rattle.std.specs.Str.Parse.{digits_value, without_leading_plus}
 use Rattle.clap.specs.Words.{Row, Text, first_of, Kinds}
 use Rattle.clap.specs.ValueTests.{accepts}
 use Rattle.clap.specs.declared.builder.value_parser.ValueParser.TheVariants.{Unsigned}
-use Rattle.command_words.specs.Names.{PresolveNames, CheckNames, PostsolveNames, Request, Presolve, Check, Postsolve}
+use Rattle.command_words.specs.Names.{PresolveNames, CheckNames, PostsolveNames, MigrateNames, Request, Presolve, Check, Postsolve, Migrate}
 use Rattle.command_words.specs.declared.words.PresolveOptions.{PresolveOptions}
 use Rattle.command_words.specs.declared.words.TheConstants.{MOST_RECORDS}
 use Rattle.command_app.specs.Line.{faults, found_in}
@@ -59,12 +59,21 @@ postsolve_names program records solution result = None
 abbrev pub postsolve_of : List Row → Option PostsolveNames
 postsolve_of rows = postsolve_names (first_of (codes "out") rows) (first_of (codes "rec") rows) (first_of (codes "sol") rows) (first_of (codes "result") rows)
 
+-- two names, which differ
+abbrev pub migrate_names : Option Text → Option Text → Option MigrateNames
+migrate_names (Some records) (Some written) = if bytes_eq records written then None else Some (record { records = records; written = written })
+migrate_names records written = None
+
+abbrev pub migrate_of : List Row → Option MigrateNames
+migrate_of rows = migrate_names (first_of (codes "rec") rows) (first_of (codes "new") rows)
+
 -- by the name of the subcommand
 abbrev pub request_of : Text → List Row → Option Request
 request_of name rows =
     if bytes_eq name (codes "presolve") then option_map Presolve (presolve_of rows)
     else (if bytes_eq name (codes "check") then option_map Check (check_of rows)
-    else (if bytes_eq name (codes "postsolve") then option_map Postsolve (postsolve_of rows) else None))
+    else (if bytes_eq name (codes "postsolve") then option_map Postsolve (postsolve_of rows)
+    else (if bytes_eq name (codes "migrate") then option_map Migrate (migrate_of rows) else None)))
 
 abbrev pub selected_in : Option (Text × List Row) → Option Request
 selected_in None = None

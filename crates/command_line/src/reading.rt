@@ -2,15 +2,16 @@
 ghost use Rattle.std.specs.Prelude.{◌≡◌, ◌≢◌, ◌≤◌, ◌⊎◌, codes, IfSome, None, [], Some, Err, false, option_map, IfOk, OnOk};
 ghost use Rattle.std.specs.Str.Parse.{digits_value, without_leading_plus};
 ghost use Rattle.clap.specs.Words.{IsUnsignedIn, first_of, found_of, rows_of, subcommand_rows_of};
-ghost use Rattle.command_words.specs.Names.{HasLimit, HasTwoOutputs};
+ghost use Rattle.command_words.specs.Names.{HasLimit, NamesDiffer};
 ghost use Rattle.command_app.specs.Line.{faults, is_taken, texts};
-ghost use Rattle.command_line.specs.Line.{asked, check_of, is_on, limit_in, limit_of, options_of, postsolve_of, presolve_of, request_of, selected, selected_in};
-ghost use Rattle.command_words.specs.Seen.{check_names_of, names_of, postsolve_names_of, seen};
+ghost use Rattle.command_line.specs.Line.{asked, check_of, is_on, limit_in, limit_of, migrate_of, options_of, postsolve_of, presolve_of, request_of, selected, selected_in};
+ghost use Rattle.command_words.specs.Seen.{check_names_of, migrate_names_of, names_of, postsolve_names_of, seen};
 
 use clap::ArgMatches;
 use command_app::matches;
 use command_words::{
-    CheckWords, MOST_RECORDS, PostsolveWords, PresolveOptions, PresolveWords, Refusal, Request,
+    CheckWords, MOST_RECORDS, MigrateWords, PostsolveWords, PresolveOptions, PresolveWords,
+    Refusal, Request,
 };
 use std::alloc::Global;
 
@@ -134,6 +135,19 @@ fn postsolve<'a>(found: &ArgMatches<'a>) -> Option<PostsolveWords<'a>>
     })
 }
 
+// The names for `migrate`. REC and NEW may not be one name.
+fn migrate<'a>(found: &ArgMatches<'a>) -> Option<MigrateWords<'a>>
+    ensures names { option_map migrate_names_of result ≡ migrate_of (rows_of (found_of found.now)) }
+    ensures differ { IfSome result (λ words. words.records.now ≢ words.written.now) }
+{
+    let records = value(found, "rec")?;
+    let written = value(found, "new")?;
+    if records == written {
+        return None;
+    }
+    Some(MigrateWords { records, written })
+}
+
 // The command's name and what it was given.
 fn command<'m, 'a>(found: &'m ArgMatches<'a>) -> Option<(&'a str, &'m ArgMatches<'a>)>
     ensures { option_map (λ p. (p.0.now, rows_of (found_of p.1.now))) result ≡ subcommand_rows_of found.now }
@@ -144,13 +158,14 @@ fn command<'m, 'a>(found: &'m ArgMatches<'a>) -> Option<(&'a str, &'m ArgMatches
 // The command of this name, with its names.
 fn named_request<'a>(name: &str, given: &ArgMatches<'a>) -> Option<Request<'a>>
     ensures named { option_map seen result ≡ request_of name.now (rows_of (found_of given.now)) }
-    ensures differ { IfSome result (λ request. HasTwoOutputs (seen request)) }
+    ensures differ { IfSome result (λ request. NamesDiffer (seen request)) }
     ensures limited { IfSome result (λ request. HasLimit (seen request)) }
 {
     match name {
         "presolve" => Some(Request::Presolve(presolve(given)?)),
         "check" => Some(Request::Check(check(given)?)),
         "postsolve" => Some(Request::Postsolve(postsolve(given)?)),
+        "migrate" => Some(Request::Migrate(migrate(given)?)),
         _ => None,
     }
 }
@@ -158,7 +173,7 @@ fn named_request<'a>(name: &str, given: &ArgMatches<'a>) -> Option<Request<'a>>
 // The command with its names.
 fn selected_request<'a>(found: &ArgMatches<'a>) -> Option<Request<'a>>
     ensures selected { option_map seen result ≡ selected_in (subcommand_rows_of found.now) }
-    ensures differ { IfSome result (λ request. HasTwoOutputs (seen request)) }
+    ensures differ { IfSome result (λ request. NamesDiffer (seen request)) }
     ensures limited { IfSome result (λ request. HasLimit (seen request)) }
 {
     let (name, given) = command(found)?;
@@ -168,11 +183,11 @@ fn selected_request<'a>(found: &ArgMatches<'a>) -> Option<Request<'a>>
 /// The command that the words ask for; the first word is the program's own name.
 ///
 /// # Errors
-/// `Words` where `clap` names a fault in them, as at a limit that is no number from 1 to `MOST_RECORDS`, or OUT and REC are equal words.
-/// `NoMemory`.
+/// `Words` where `clap` names a fault in them, as at a limit that is no number from 1 to `MOST_RECORDS`, or OUT and REC are equal words, or
+/// REC and NEW. `NoMemory`.
 pub fn read<'a>(alloc: Global, words: &'a [String]) -> Result<Request<'a>, Refusal>
     ensures asked { IfOk result (λ request. asked (texts words.entry.now) ≡ Some (seen request)) }
-    ensures differ { IfOk result (λ request. HasTwoOutputs (seen request)) }
+    ensures differ { IfOk result (λ request. NamesDiffer (seen request)) }
     ensures limited { IfOk result (λ request. HasLimit (seen request)) }
     ensures refused { result ≡ Err Refusal.Words → asked (texts words.entry.now) ≡ None }
     ensures taken { OnOk result (faults (texts words.entry.now) ≡ []) }

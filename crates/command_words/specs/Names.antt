@@ -27,20 +27,28 @@ pub record PostsolveNames : Type 0 where
   pub solution : Text
   pub result : Text
 
+-- the names that migrate works on
+pub record MigrateNames : Type 0 where
+  pub records : Text
+  pub written : Text
+
 -- a command with its names
 pub data Request : Type 0 where
   Presolve : PresolveNames → Request
   Check : CheckNames → Request
   Postsolve : PostsolveNames → Request
+  Migrate : MigrateNames → Request
 
--- the texts that a command writes go to names that differ
-abbrev pub HasTwoOutputs : Request → Type 0
-HasTwoOutputs (Presolve names) = names.output ≢ names.records
-HasTwoOutputs (Check names) = Unit {0}
-HasTwoOutputs (Postsolve names) = Unit {0}
+-- OUT and REC of presolve differ, and so do REC and NEW of migrate
+abbrev pub NamesDiffer : Request → Type 0
+NamesDiffer (Presolve names) = names.output ≢ names.records
+NamesDiffer (Check names) = Unit {0}
+NamesDiffer (Postsolve names) = Unit {0}
+NamesDiffer (Migrate names) = names.records ≢ names.written
 
 -- a run may make at least one record, and no more than the most
 abbrev pub HasLimit : Request → Type 0
 HasLimit (Presolve names) = (1 ≤ names.options.limit) × (names.options.limit ≤ MOST_RECORDS)
 HasLimit (Check names) = Unit {0}
 HasLimit (Postsolve names) = Unit {0}
+HasLimit (Migrate names) = Unit {0}

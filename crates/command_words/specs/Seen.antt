@@ -1,8 +1,9 @@
 -- A request as its names.
-use Rattle.command_words.specs.Names.{PresolveNames, CheckNames, PostsolveNames, Request, Presolve, Check, Postsolve}
+use Rattle.command_words.specs.Names.{PresolveNames, CheckNames, PostsolveNames, MigrateNames, Request, Presolve, Check, Postsolve, Migrate}
 use Rattle.command_words.specs.declared.words.PresolveWords.{PresolveWords}
 use Rattle.command_words.specs.declared.words.CheckWords.{CheckWords}
 use Rattle.command_words.specs.declared.words.PostsolveWords.{PostsolveWords}
+use Rattle.command_words.specs.declared.words.MigrateWords.{MigrateWords}
 use Rattle.command_words.specs.declared.words.Request.TheVariants as words
 use Rattle.command_words.specs.declared.words.Request as declared
 
@@ -15,7 +16,11 @@ check_names_of words = record { input = words.input.now; solution = words.soluti
 abbrev pub postsolve_names_of : PostsolveWords → PostsolveNames
 postsolve_names_of words = record { program = words.program.now; records = words.records.now; solution = words.solution.now; result = words.result.now }
 
+abbrev pub migrate_names_of : MigrateWords → MigrateNames
+migrate_names_of words = record { records = words.records.now; written = words.written.now }
+
 abbrev pub seen : declared.Request → Request
 seen (words.Presolve p) = Presolve (names_of p)
 seen (words.Check c) = Check (check_names_of c)
 seen (words.Postsolve p) = Postsolve (postsolve_names_of p)
+seen (words.Migrate m) = Migrate (migrate_names_of m)

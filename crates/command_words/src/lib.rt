@@ -4,5 +4,6 @@
 mod words;
 
 pub use words::{
-    CheckWords, MOST_RECORDS, PostsolveWords, PresolveOptions, PresolveWords, Refusal, Request,
+    CheckWords, MOST_RECORDS, MigrateWords, PostsolveWords, PresolveOptions, PresolveWords,
+    Refusal, Request,
 };

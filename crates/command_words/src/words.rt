@@ -42,18 +42,27 @@ pub struct PostsolveWords<'a> {
     pub result: &'a str,
 }
 
+/// The names that `migrate REC NEW` works on, which differ.
+#[derive(Clone, Copy, Debug)]
+pub struct MigrateWords<'a> {
+    pub records: &'a str,
+    /// NEW.
+    pub written: &'a str,
+}
+
 /// A command with its words.
 #[derive(Clone, Copy, Debug)]
 pub enum Request<'a> {
     Presolve(PresolveWords<'a>),
     Check(CheckWords<'a>),
     Postsolve(PostsolveWords<'a>),
+    Migrate(MigrateWords<'a>),
 }
 
 /// Why there is no request.
 #[derive(Clone, Copy, Debug, PartialEq, Eq)]
 pub enum Refusal {
-    /// `clap` does not take the words, or OUT and REC are equal.
+    /// `clap` does not take the words, or OUT and REC are equal, or REC and NEW.
     Words,
     /// There is no memory to read them.
     NoMemory,

@@ -19,7 +19,7 @@ status_of UnboundedOrInfeasible = 21
 
 -- ---- the lines that hold no number and no name
 abbrev pub usage_line : List ℕ
-usage_line = codes "usage: presolve, postsolve, check or gen" ++ 10 ∷ []
+usage_line = codes "usage: presolve, postsolve, check, gen or migrate" ++ 10 ∷ []
 
 abbrev pub read_fault_line : List ℕ
 read_fault_line = codes "read fault" ++ 10 ∷ []

@@ -60,7 +60,7 @@ impl Ending {
     {
         match self {
             Ending::Done(text) => text.as_slice(),
-            Ending::Usage => b"usage: presolve, postsolve, check or gen\n",
+            Ending::Usage => b"usage: presolve, postsolve, check, gen or migrate\n",
             Ending::Refused(line) => line.as_slice(),
             Ending::ReadFault => b"read fault\n",
             Ending::WriteFault => b"write fault\n",

@@ -1,13 +1,14 @@
 -- Which names tell what they told, by how a run ended.
 use Rattle.std.proofs.Common.{◌≡◌, ℕ, List, inl, inr, Option, Some, None, refl, ap}
 use Rattle.file_ports.specs.Ports.{Moment, Told, KeepsOthers}
-use Rattle.command_words.specs.Names.{PostsolveNames, PresolveNames, Request, Presolve, Check, Postsolve}
+use Rattle.command_words.specs.Names.{MigrateNames, PostsolveNames, PresolveNames, Request, Presolve, Check, Postsolve, Migrate}
 use Rattle.endings.specs.Ending.{status_of, text_of}
 use Rattle.endings.specs.Moments.{IsQuiet, KeepsAllBut}
 use Rattle.endings.specs.declared.ending.Ending.{Ending}
 use Rattle.endings.specs.declared.ending.Ending.TheVariants.{Done, Usage, Refused, ReadFault, WriteFault, NoMemory, NoRoom, RecordsRefused, SolutionRefused, Violated, Infeasible, UnboundedOrInfeasible}
 use Rattle.presolve_command.specs.Presolved.{EndsPresolve, FailsBetween}
 use Rattle.postsolve_command.specs.Postsolved.{EndsPostsolve}
+use Rattle.migrate_command.specs.Migrated.{EndsMigrate}
 use Rattle.papilo.specs.Runs.{Ends, KeepsUnasked}
 
 -- ---- where the status is neither 0 nor 4
@@ -55,12 +56,28 @@ quiet_postsolve names (Violated line) before now ends done unwritten = absurd en
 quiet_postsolve names Infeasible before now ends done unwritten = absurd ends.says
 quiet_postsolve names UnboundedOrInfeasible before now ends done unwritten = absurd ends.says
 
+quiet_migrate : (names : MigrateNames) (ending : Ending) (before now : Moment) → EndsMigrate names (status_of ending) (text_of ending) before now
+    → (status_of ending ≡ 0 → ⊥) → (status_of ending ≡ 4 → ⊥) → IsQuiet before now
+quiet_migrate names (Done text) before now ends done unwritten = absurd (done refl)
+quiet_migrate names Usage before now ends done unwritten = absurd ends.says
+quiet_migrate names (Refused line) before now ends done unwritten = absurd ends.says
+quiet_migrate names ReadFault before now ends done unwritten = ends.says.1
+quiet_migrate names WriteFault before now ends done unwritten = absurd (unwritten refl)
+quiet_migrate names NoMemory before now ends done unwritten = ends.says.0
+quiet_migrate names (NoRoom line) before now ends done unwritten = absurd ends.says
+quiet_migrate names (RecordsRefused line) before now ends done unwritten = ends.says.1
+quiet_migrate names (SolutionRefused line) before now ends done unwritten = absurd ends.says
+quiet_migrate names (Violated line) before now ends done unwritten = absurd ends.says
+quiet_migrate names Infeasible before now ends done unwritten = absurd ends.says
+quiet_migrate names UnboundedOrInfeasible before now ends done unwritten = absurd ends.says
+
 pub quiet : (asked : Option Request) (ending : Ending) (before now : Moment) → Ends asked (status_of ending) (text_of ending) before now
     → (status_of ending ≡ 0 → ⊥) → (status_of ending ≡ 4 → ⊥) → IsQuiet before now
 quiet None ending before now ends done unwritten = quiet_refused ending before now ends
 quiet (Some (Presolve names)) ending before now ends done unwritten = quiet_presolve names ending before now ends done unwritten
 quiet (Some (Check names)) ending before now ends done unwritten = ends.quiet
 quiet (Some (Postsolve names)) ending before now ends done unwritten = quiet_postsolve names ending before now ends done unwritten
+quiet (Some (Migrate names)) ending before now ends done unwritten = quiet_migrate names ending before now ends done unwritten
 
 -- ---- at any status
 told_still : (before now : Moment) → IsQuiet before now → (other : List ℕ) → now.told other ≡ before.told other
@@ -100,8 +117,24 @@ kept_postsolve names (Violated line) before now ends = absurd ends.says
 kept_postsolve names Infeasible before now ends = absurd ends.says
 kept_postsolve names UnboundedOrInfeasible before now ends = absurd ends.says
 
+kept_migrate : (names : MigrateNames) (ending : Ending) (before now : Moment) → EndsMigrate names (status_of ending) (text_of ending) before now
+    → KeepsOthers before.told now.told names.written
+kept_migrate names (Done text) before now ends = ends.says.others
+kept_migrate names Usage before now ends = absurd ends.says
+kept_migrate names (Refused line) before now ends = absurd ends.says
+kept_migrate names ReadFault before now ends = λ other a. told_still before now ends.says.1 other
+kept_migrate names WriteFault before now ends = ends.says.0.others
+kept_migrate names NoMemory before now ends = λ other a. told_still before now ends.says.0 other
+kept_migrate names (NoRoom line) before now ends = absurd ends.says
+kept_migrate names (RecordsRefused line) before now ends = λ other a. told_still before now ends.says.1 other
+kept_migrate names (SolutionRefused line) before now ends = absurd ends.says
+kept_migrate names (Violated line) before now ends = absurd ends.says
+kept_migrate names Infeasible before now ends = absurd ends.says
+kept_migrate names UnboundedOrInfeasible before now ends = absurd ends.says
+
 pub kept : (asked : Option Request) (ending : Ending) (before now : Moment) → Ends asked (status_of ending) (text_of ending) before now → KeepsUnasked asked before now
 kept None ending before now ends = quiet_refused ending before now ends
 kept (Some (Presolve names)) ending before now ends = kept_presolve names ending before now ends
 kept (Some (Check names)) ending before now ends = ends.quiet
 kept (Some (Postsolve names)) ending before now ends = kept_postsolve names ending before now ends
+kept (Some (Migrate names)) ending before now ends = kept_migrate names ending before now ends

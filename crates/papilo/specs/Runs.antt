@@ -1,7 +1,7 @@
 -- How a run ends, by what its words ask for: its status, what it prints, and what it does to files.
 use Rattle.std.specs.Prelude.{◌≡◌, ◌⊎◌, ◌==◌, ℕ, false, List, Option, Some, None}
 use Rattle.file_ports.specs.Ports.{Moment, Rose, Grown, GrownInPart, KeepsOthers}
-use Rattle.command_words.specs.Names.{Request, Presolve, Check, Postsolve}
+use Rattle.command_words.specs.Names.{Request, Presolve, Check, Postsolve, Migrate}
 use Rattle.command_app.specs.Line.{is_taken}
 use Rattle.command_line.specs.Line.{selected}
 use Rattle.endings.specs.Ending.{When, no_memory_line, usage_line}
@@ -9,6 +9,7 @@ use Rattle.endings.specs.Moments.{IsQuiet, IsThere, KeepsAllBut}
 use Rattle.presolve_command.specs.Presolved as presolve
 use Rattle.check_command.specs.Checked as check
 use Rattle.postsolve_command.specs.Postsolved as postsolve
+use Rattle.migrate_command.specs.Migrated as migrate
 
 -- what a run says at a status, with what it prints; the words that ask for nothing are refused
 abbrev pub Ends : Option Request → ℕ → List ℕ → Moment → Moment → Type 0
@@ -19,6 +20,7 @@ Ends None status printed before now =
 Ends (Some (Presolve names)) status printed before now = presolve.EndsPresolve names status printed before now
 Ends (Some (Check names)) status printed before now = check.EndsCheck names status printed before now
 Ends (Some (Postsolve names)) status printed before now = postsolve.EndsPostsolve names status printed before now
+Ends (Some (Migrate names)) status printed before now = migrate.EndsMigrate names status printed before now
 
 -- The sink took all that is printed, and the run answers the status; or the sink failed, having taken a prefix, and the run answers 4.
 abbrev pub Prints : ℕ → ℕ → List ℕ → Option (List ℕ) → Option (List ℕ) → ℕ → ℕ → Type 0
@@ -36,6 +38,7 @@ IsUnwritten None before now = ⊥
 IsUnwritten (Some (Presolve names)) before now = presolve.IsUnwritten names before now
 IsUnwritten (Some (Check names)) before now = ⊥
 IsUnwritten (Some (Postsolve names)) before now = postsolve.IsUnwritten names before now
+IsUnwritten (Some (Migrate names)) before now = migrate.IsUnwritten names before now
 
 -- all names tell what they told but those that the words ask to write
 abbrev pub KeepsUnasked : Option Request → Moment → Moment → Type 0
@@ -43,6 +46,7 @@ KeepsUnasked None before now = IsQuiet before now
 KeepsUnasked (Some (Presolve names)) before now = KeepsAllBut before.told now.told names.output names.records
 KeepsUnasked (Some (Check names)) before now = IsQuiet before now
 KeepsUnasked (Some (Postsolve names)) before now = KeepsOthers before.told now.told names.result
+KeepsUnasked (Some (Migrate names)) before now = KeepsOthers before.told now.told names.written
 
 -- no name that the words ask to read is told as missing
 abbrev pub AreThere : Option Request → Moment → Type 0
@@ -50,7 +54,8 @@ AreThere None before = Unit {0}
 AreThere (Some (Presolve names)) before = IsThere (before.told names.input)
 AreThere (Some (Check names)) before = IsThere (before.told names.input) × IsThere (before.told names.solution)
 AreThere (Some (Postsolve names)) before = IsThere (before.told names.program) × IsThere (before.told names.records) × IsThere (before.told names.solution)
+AreThere (Some (Migrate names)) before = IsThere (before.told names.records)
 
--- clap does not take the words, or there is no command with its names in what it finds in them, or OUT and REC are equal
+-- clap does not take the words, or there is no command with its names in what it finds in them, or two names are one that have to differ
 abbrev pub AreRefused : List (List ℕ) → Type 0
 AreRefused words = (is_taken words ≡ false) ⊎ (selected words ≡ None)

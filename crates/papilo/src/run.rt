@@ -12,6 +12,7 @@ use check_command::check;
 use command_words::{Refusal, Request};
 use endings::Ending;
 use file_ports::{Files, Sink};
+use migrate_command::migrate;
 use postsolve_command::postsolve;
 use presolve_command::presolve;
 use std::alloc::Global;
@@ -30,6 +31,7 @@ fn ending_of<F: Files>(alloc: Global, words: &[String], files: &mut F) -> Ending
         Ok(Request::Postsolve(words)) => {
             postsolve(alloc, &words, files).unwrap_or(Ending::NoMemory)
         }
+        Ok(Request::Migrate(words)) => migrate(alloc, &words, files).unwrap_or(Ending::NoMemory),
         Err(Refusal::Words) => Ending::Usage,
         Err(Refusal::NoMemory) => Ending::NoMemory,
     }

@@ -4,4 +4,5 @@ mod OneLifting
 mod Layers
 mod OneCheck
 mod OnePostsolve
+mod OneMigrate
 mod OnePresolve

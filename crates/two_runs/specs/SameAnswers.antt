@@ -1,10 +1,11 @@
 -- The same words and the same bytes, at two times.
 use Rattle.std.specs.Prelude.{◌≡◌, ◌≢◌, ℕ, List}
 use Rattle.file_ports.specs.Ports.{Moment}
-use Rattle.command_words.specs.Names.{CheckNames, PostsolveNames, PresolveNames}
+use Rattle.command_words.specs.Names.{CheckNames, MigrateNames, PostsolveNames, PresolveNames}
 use Rattle.presolve_command.specs.Presolved.{EndsPresolve}
 use Rattle.check_command.specs.Checked.{EndsCheck}
 use Rattle.postsolve_command.specs.Postsolved.{EndsPostsolve}
+use Rattle.migrate_command.specs.Migrated.{EndsMigrate}
 use Rattle.two_runs.specs.Runs.{Holds}
 
 -- a name holds the same bytes at both moments
@@ -64,3 +65,18 @@ PostsolvesAreOne = (names : PostsolveNames) (s t : ℕ) (said more : List ℕ) (
     → EndsPostsolve names s said before now
     → EndsPostsolve names t more then later
     → PostsolvesAlike names s t said more now later
+
+-- migrate of the same REC ends alike, prints the same, and where it wrote leaves the same NEW
+pub record MigratesAlike (names : MigrateNames) (s t : ℕ) (said more : List ℕ) (now later : Moment) : Type 0 where
+  pub status : s ≡ t
+  pub printed : said ≡ more
+  pub written : s ≡ 0 → LeaveTheSame now later names.written
+
+abbrev pub MigratesAreOne : Type 0
+MigratesAreOne = (names : MigrateNames) (s t : ℕ) (said more : List ℕ) (before now then later : Moment)
+    → HoldsTheSame before then names.records
+    → IsOfBytes s
+    → IsOfBytes t
+    → EndsMigrate names s said before now
+    → EndsMigrate names t more then later
+    → MigratesAlike names s t said more now later

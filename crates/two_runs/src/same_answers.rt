@@ -5,7 +5,7 @@ ghost use Rattle.rational.specs.Number.{Number};
 ghost use Rattle.lp_model.specs.ProgramData.{ProgramData};
 ghost use Rattle.undo_records.specs.Postsolve.{Postsolve};
 ghost use Rattle.postsolve_command.specs.Lifted.{IsLifted, Stops};
-ghost use Rattle.two_runs.specs.SameAnswers.{ChecksAreOne, PostsolvesAreOne, PresolvesAreOne};
+ghost use Rattle.two_runs.specs.SameAnswers.{ChecksAreOne, MigratesAreOne, PostsolvesAreOne, PresolvesAreOne};
 
 use lp_check::laws::{verdicts_are_one, verdicts_with_duals_are_one};
 use run_laws::conclusions_are_one;
@@ -40,4 +40,9 @@ pub fn checks_are_one()
 /// The same of `postsolve`, on the same OUT, REC and SOL: it leaves the same RESULT.
 pub fn postsolves_are_one()
     ensures { PostsolvesAreOne }
+{}
+
+/// The same of `migrate`, on the same REC: it leaves the same NEW.
+pub fn migrates_are_one()
+    ensures { MigratesAreOne }
 {}
