@@ -12,6 +12,7 @@ use std::process::Abort;
 use std::test::Fail;
 use txn_book::Book;
 use txn_world::{Event, World};
+use undo_records::PartRead;
 
 /// x whole in [0, 7/2]; 2x <= 4.
 const PLAIN: Model = Model {
@@ -35,16 +36,27 @@ enum Step {
     Commit(u32, Option<Outcome>),
 }
 
-/// The program of the book, the numbers and the limit, another program, and what the workers do.
+/// The transaction of a reduction that was applied: who committed it, the version, and what was read, with how often it had changed.
+struct Told {
+    by: u32,
+    version: u64,
+    reads: &'static [(Part, u64)],
+}
+
+/// The program of the book, the numbers and the limit, another program, what the workers do, and the transactions that are told then.
 struct Story {
     model: Model,
     numbers: Numbers,
     limit: u64,
     other: Model,
     steps: &'static [Step],
+    told: &'static [Told],
 }
 
-const STORIES: [Story; 9] = [
+/// The version on which proposals on the other problem are said to be found.
+const FOREIGN_VERSION: u64 = 9;
+
+const STORIES: [Story; 10] = [
     // what the other worker read no longer stands; the first proposal is committed first
     Story {
         model: PLAIN,
@@ -73,6 +85,23 @@ const STORIES: [Story; 9] = [
             Step::Commit(1, Some(Outcome::Applied { place: 3 })),
             Step::Commit(1, None),
         ],
+        told: &[
+            Told {
+                by: 0,
+                version: 0,
+                reads: &[(Part::Row(0), 0), (Part::Sides(0), 0)],
+            },
+            Told {
+                by: 1,
+                version: 1,
+                reads: &[(Part::Col(0), 1), (Part::Bounds(0), 1)],
+            },
+            Told {
+                by: 1,
+                version: 2,
+                reads: &[(Part::Col(0), 1), (Part::Bounds(0), 2)],
+            },
+        ],
     },
     // a limit of 1
     Story {
@@ -91,6 +120,11 @@ const STORIES: [Story; 9] = [
             Step::Find(0, Rule::RoundedBounds, 1),
             Step::Commit(0, Some(Outcome::Full)),
         ],
+        told: &[Told {
+            by: 0,
+            version: 0,
+            reads: &[(Part::Row(0), 0), (Part::Sides(0), 0)],
+        }],
     },
     // nothing is applied after a verdict, which needs no room
     Story {
@@ -118,6 +152,11 @@ const STORIES: [Story; 9] = [
                 }),
             ),
         ],
+        told: &[Told {
+            by: 0,
+            version: 0,
+            reads: &[(Part::Row(0), 0), (Part::Sides(0), 0)],
+        }],
     },
     // x <= 1/3 is no decimal number
     Story {
@@ -134,6 +173,7 @@ const STORIES: [Story; 9] = [
             Step::Find(0, Rule::SingletonRow, 1),
             Step::Commit(0, Some(Outcome::NotDecimal)),
         ],
+        told: &[],
     },
     // x >= 10^21 is past the range
     Story {
@@ -150,6 +190,7 @@ const STORIES: [Story; 9] = [
             Step::Find(0, Rule::SingletonRow, 1),
             Step::Commit(0, Some(Outcome::Past)),
         ],
+        told: &[],
     },
     // a new bound whose denominator has no room
     Story {
@@ -166,6 +207,7 @@ const STORIES: [Story; 9] = [
             Step::Find(0, Rule::SingletonRow, 1),
             Step::Commit(0, Some(Outcome::Past)),
         ],
+        told: &[],
     },
     // another program: its bounds differ
     Story {
@@ -180,6 +222,7 @@ const STORIES: [Story; 9] = [
             Step::FindOther(1, Rule::RoundedBounds, 1),
             Step::Commit(1, Some(Outcome::Stale { place: 0 })),
         ],
+        told: &[],
     },
     // another program: its entries are the same, and its sides differ
     Story {
@@ -194,6 +237,7 @@ const STORIES: [Story; 9] = [
             Step::FindOther(1, Rule::SingletonRow, 1),
             Step::Commit(1, Some(Outcome::Stale { place: 1 })),
         ],
+        told: &[],
     },
     // another program: what it has at the first id stands here too, and the second id is past the ids
     Story {
@@ -209,6 +253,49 @@ const STORIES: [Story; 9] = [
             Step::Commit(1, Some(Outcome::Applied { place: 1 })),
             Step::Commit(1, Some(Outcome::Stale { place: 0 })),
         ],
+        told: &[Told {
+            by: 1,
+            version: 0,
+            reads: &[(Part::Bounds(0), 0)],
+        }],
+    },
+    // of each of two proposals that were found elsewhere, on a version that is not below its place, the one before that place is told
+    Story {
+        model: Model {
+            second: true,
+            ..PLAIN
+        },
+        numbers: Numbers::Fractions,
+        limit: 9,
+        other: Model {
+            second: true,
+            ..PLAIN
+        },
+        steps: &[
+            Step::Freeze(0),
+            Step::FindOther(1, Rule::RoundedBounds, 2),
+            Step::Commit(1, Some(Outcome::Applied { place: 1 })),
+            Step::Commit(1, Some(Outcome::Applied { place: 2 })),
+            Step::Find(0, Rule::SingletonRow, 1),
+            Step::Commit(0, Some(Outcome::Applied { place: 3 })),
+        ],
+        told: &[
+            Told {
+                by: 1,
+                version: 0,
+                reads: &[(Part::Bounds(0), 0)],
+            },
+            Told {
+                by: 1,
+                version: 1,
+                reads: &[(Part::Bounds(1), 0)],
+            },
+            Told {
+                by: 0,
+                version: 0,
+                reads: &[(Part::Row(0), 0), (Part::Sides(0), 0)],
+            },
+        ],
     },
 ];
 
@@ -217,7 +304,7 @@ fn found_on(alloc: Global, problem: &Problem, rule: Rule) -> Result<Vec<Proposal
     let problem = problem.copy(alloc)?;
     let groups = Parallels::of(alloc, &problem)?;
     let tally = Tally::new(alloc, 2)?;
-    let version = Version::new(problem, groups, tally, 0);
+    let version = Version::new(problem, groups, tally, FOREIGN_VERSION);
     scan(alloc, &version, rule, Chunk::new(0))
 }
 
@@ -282,6 +369,27 @@ fn take(
     Ok(())
 }
 
+/// The transaction at a place is this one.
+fn is_told(rt: &impl Abort, book: &Book, place: usize, told: &Told) {
+    let Some(transaction) = book.transactions().get(place) else {
+        assert!(rt; false);
+        return;
+    };
+    assert_eq!(rt; transaction.by(), told.by);
+    assert_eq!(rt; transaction.version(), told.version);
+    let reads = transaction.reads();
+    assert_eq!(rt; reads.len(), told.reads.len());
+    for (read, (part, changes)) in reads.iter().zip(told.reads.iter()) {
+        assert_eq!(rt;
+            *read,
+            PartRead {
+                part: *part,
+                changes: *changes
+            }
+        );
+    }
+}
+
 #[test]
 fn two_workers(rt: HostRuntime) -> Result<(), Fail> {
     let alloc = rt.alloc();
@@ -295,6 +403,10 @@ fn two_workers(rt: HostRuntime) -> Result<(), Fail> {
         }
         world.stands();
         assert_eq!(rt; world.book().limit(), story.limit);
+        assert_eq!(rt; world.book().transactions().len(), story.told.len());
+        for (place, told) in story.told.iter().enumerate() {
+            is_told(&rt, world.book(), place, told);
+        }
     }
     Ok(())
 }

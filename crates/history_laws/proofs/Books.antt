@@ -31,15 +31,17 @@ use Rattle.presolve_model.proofs.Tabled.{enabled_by, same_size}
 use Rattle.history_laws.specs.Meanings.{Means}
 use Rattle.history_laws.proofs.Histories.{history_reduces, history_pairs, replay_grows, replays_grow, records_grow}
 use Rattle.history_laws.proofs.Keeping.{verdict_means}
+use Rattle.history_laws.proofs.Telling.{tells_grow}
 
 -- one reduction more
-pub stands_reduction : (b : Ledger) (r : Reduction) → Stands b → b.verdict ≡ None → length b.history < b.limit → CanApply b.numbers b.problem r → Stands (with_instance b (at.Reduction r))
-stands_reduction b r s undecided room can = record {
+pub stands_reduction : (b : Ledger) (w version : ℕ) (r : Reduction) → Stands b → b.verdict ≡ None → length b.history < b.limit → CanApply b.numbers b.problem r → Stands (with_instance b w version (at.Reduction r))
+stands_reduction b w version r s undecided room can = record {
   sound = s.sound;
   writable = s.writable;
   replays = replays_grow b.numbers b.start b.history r s.replays (subst (λ q. CanApply b.numbers q r) s.problem can);
   problem = ap (changed r) s.problem ∙ sym (replay_grows b.start b.history r);
   records = ap₂ (λ us q. us ++ record_of r q ∷ []) s.records s.problem ∙ sym (records_grow b.start b.history r);
+  transactions = tells_grow b w version r s;
   counts = tallied_long r b.tally (length (changed r b.problem).matrix.columns) (subst (λ (n : ℕ). AreCountsOf n b.tally) (sym (same_size b.problem r).columns) s.counts);
   tally = records_tallied b.problem r b.tally b.records can.enabled s.counts s.tally;
   verdict = subst (λ v. IfSome v (λ w. enabled_on (changed r b.problem) (at.Verdict w) ≡ true)) (sym undecided) tt;
@@ -47,22 +49,22 @@ stands_reduction b r s undecided room can = record {
 }
 
 -- a verdict that closes it
-pub stands_verdict : (b : Ledger) (v : Verdict) → Stands b → enabled_on b.problem (at.Verdict v) ≡ true → Stands (with_instance b (at.Verdict v))
-stands_verdict b v s e = record { sound = s.sound; writable = s.writable; replays = s.replays; problem = s.problem; records = s.records; counts = s.counts; tally = s.tally; verdict = e; within = s.within }
+pub stands_verdict : (b : Ledger) (w version : ℕ) (v : Verdict) → Stands b → enabled_on b.problem (at.Verdict v) ≡ true → Stands (with_instance b w version (at.Verdict v))
+stands_verdict b w version v s e = record { sound = s.sound; writable = s.writable; replays = s.replays; problem = s.problem; records = s.records; transactions = s.transactions; counts = s.counts; tally = s.tally; verdict = e; within = s.within }
 
-pub stands_with : (b : Ledger) (e : Instance) (rs : List Read) → Stands b → Enabled e rs → b.verdict ≡ None → HasRoom b e → Agrees b.problem rs → Fits e b.problem → CanWrite b e → Stands (with_instance b e)
-stands_with b (at.Reduction r) rs s on undecided room agrees fits writes =
-    stands_reduction b r s undecided room (record { enabled = enabled_by b.problem (at.Reduction r) rs agrees on; fits = fits; written = writes })
-stands_with b (at.Verdict v) rs s on undecided room agrees fits writes = stands_verdict b v s (enabled_by b.problem (at.Verdict v) rs agrees on)
+pub stands_with : (b : Ledger) (w version : ℕ) (e : Instance) (rs : List Read) → Stands b → Enabled e rs → b.verdict ≡ None → HasRoom b e → Agrees b.problem rs → Fits e b.problem → CanWrite b e → Stands (with_instance b w version e)
+stands_with b w version (at.Reduction r) rs s on undecided room agrees fits writes =
+    stands_reduction b w version r s undecided room (record { enabled = enabled_by b.problem (at.Reduction r) rs agrees on; fits = fits; written = writes })
+stands_with b w version (at.Verdict v) rs s on undecided room agrees fits writes = stands_verdict b w version v s (enabled_by b.problem (at.Verdict v) rs agrees on)
 
-pub stands_left : (b : Ledger) (p : Proposed) (o : Outcome) → Stands b → Enabled p.instance p.reading → Allows b p o → Stands (left_by b p o)
-stands_left b p (Applied k) s on a = stands_with b p.instance p.reading s on a.0.undecided a.0.room a.0.agrees a.1 a.2
-stands_left b p (Closed v) s on a = s
-stands_left b p Full s on a = s
-stands_left b p (Stale k) s on a = s
-stands_left b p Past s on a = s
-stands_left b p NotDecimal s on a = s
-stands_left b p NoMemory s on a = s
+pub stands_left : (b : Ledger) (w : ℕ) (p : Proposed) (o : Outcome) → Stands b → Enabled p.instance p.reading → Allows b p o → Stands (left_by b w p o)
+stands_left b w p (Applied k) s on a = stands_with b w p.version p.instance p.reading s on a.0.undecided a.0.room a.0.agrees a.1 a.2
+stands_left b w p (Closed v) s on a = s
+stands_left b w p Full s on a = s
+stands_left b w p (Stale k) s on a = s
+stands_left b w p Past s on a = s
+stands_left b w p NotDecimal s on a = s
+stands_left b w p NoMemory s on a = s
 
 -- ---- what a book means
 reduces_of : (b : Ledger) → Stands b → Reduces Min (shown b.start) (shown b.problem) (lift b.records) (b.problem.offset -ℚ b.start.offset)

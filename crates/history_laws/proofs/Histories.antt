@@ -10,10 +10,12 @@ use Rattle.pair_laws.proofs.Joining.{none, first}
 use Rattle.undo_records.specs.Lift.{lift, undone}
 use Rattle.problem_model.specs.Sparse.{Sparse}
 use Rattle.problem_model.specs.Showing.{shown}
+use Rattle.presolve_model.specs.declared.instance.Instance.TheVariants as at
 use Rattle.presolve_model.specs.declared.instance.Reduction.{Reduction}
 use Rattle.presolve_model.specs.Changes.{changed, added}
 use Rattle.presolve_model.specs.Tables.{record_of}
 use Rattle.presolve_model.specs.Replay.{replay, records, Replays, CanApply}
+use Rattle.presolve_model.specs.Transactions.{numbers_along, numbers_read}
 use Rattle.presolve_model.specs.Laws.{HistoryReduces, HistoryReducesPairs}
 use Rattle.presolve_model.proofs.Tabled.{reduces_changed, pairs_changed, continuous_changed, adds, sound_changed}
 
@@ -47,3 +49,7 @@ replays_grow numbers p (q ∷ rs) r h c = (h.0, replays_grow numbers (changed q 
 pub records_grow : (p : Sparse) (rs : List Reduction) (r : Reduction) → records p (rs ++ r ∷ []) ≡ records p rs ++ record_of r (replay p rs) ∷ []
 records_grow p [] r = refl
 records_grow p (q ∷ rs) r = ap (λ us. record_of q p ∷ us) (records_grow (changed q p) rs r)
+
+pub numbers_grow : (p : Sparse) (rs : List Reduction) (r : Reduction) → numbers_along p (rs ++ r ∷ []) ≡ numbers_along p rs ++ numbers_read (replay p rs) (at.Reduction r) ∷ []
+numbers_grow p [] r = refl
+numbers_grow p (q ∷ rs) r = ap (λ ns. numbers_read p (at.Reduction q) ∷ ns) (numbers_grow (changed q p) rs r)

@@ -3,7 +3,6 @@ use Rattle.std.proofs.Common.{◌≡◌, ℕ, All, List, [], ◌∷◌, length, 
 use Rattle.std.proofs.lemmas.List.Elements.{All-cons}
 use Rattle.std.proofs.Common.{arith}
 use Rattle.fractions.specs.declared.Numbers.{Numbers}
-use Rattle.lp_model.specs.declared.program.Sense.TheVariants.{Min}
 use Rattle.undo_records.specs.Lift.{lift}
 use Rattle.undo_records.specs.Sound.{IsSound}
 use Rattle.undo_records.specs.Walk.{Walks}

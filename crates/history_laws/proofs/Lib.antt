@@ -1,5 +1,6 @@
 pub mod Histories
 pub mod Sizes
+pub mod Telling
 pub mod Keeping
 pub mod Books
 pub mod Worlds

@@ -10,7 +10,7 @@ use Rattle.problem_model.specs.Sparse.{Sparse}
 use Rattle.presolve_model.specs.Given.{Proposed}
 use Rattle.presolve_model.specs.Enabled.{Enabled}
 use Rattle.presolve_model.specs.Ledger.{Ledger, Stands}
-use Rattle.presolve_model.specs.Commits.{Allows, left_by, with_instance}
+use Rattle.presolve_model.specs.Commits.{left_by, with_instance}
 use Rattle.presolve_model.specs.Worlds.{State, Happening, Freeze, Propose, Commit, Steps, Commits, Runs, IsProposal, AreProposals, opened}
 use Rattle.history_laws.specs.Meanings.{Means}
 use Rattle.history_laws.proofs.Books.{book_means, stands_left}
@@ -37,26 +37,26 @@ put_all f w ps h k v = by (nat_eq v w)
     by true = k
     by false = h v
 
-same_start : (b : Ledger) (p : Proposed) (o : Outcome) → (left_by b p o).start ≡ b.start
-same_start b p (Applied k) = with_start p.instance
+same_start : (b : Ledger) (w : ℕ) (p : Proposed) (o : Outcome) → (left_by b w p o).start ≡ b.start
+same_start b w p (Applied k) = with_start p.instance
   where
-    with_start : (e : Instance) → (with_instance b e).start ≡ b.start
+    with_start : (e : Instance) → (with_instance b w p.version e).start ≡ b.start
     with_start (at.Reduction r) = refl
     with_start (at.Verdict v) = refl
-same_start b p (Closed v) = refl
-same_start b p Full = refl
-same_start b p (Stale k) = refl
-same_start b p Past = refl
-same_start b p NotDecimal = refl
-same_start b p NoMemory = refl
+same_start b w p (Closed v) = refl
+same_start b w p Full = refl
+same_start b w p (Stale k) = refl
+same_start b w p Past = refl
+same_start b w p NotDecimal = refl
+same_start b w p NoMemory = refl
 
 fine_commit : (start : Sparse) (s : State) (w : ℕ) (ps : List Proposed) (o : Option Outcome) (t : State) → Fine start s → AllEnabled ps → Commits s w ps o t → Fine start t
 fine_commit start s w [] None t f on c = subst (Fine start) (sym c) f
 fine_commit start s w [] (Some o) t f on c = absurd c
 fine_commit start s w (p ∷ ps) None t f on c = absurd c
 fine_commit start s w (p ∷ ps) (Some o) t f on c = subst (Fine start) (sym c.1) (record {
-  stands = stands_left s.book p o f.stands on.0 c.0;
-  start = same_start s.book p o ∙ f.start;
+  stands = stands_left s.book w p o f.stands on.0 c.0;
+  start = same_start s.book w p o ∙ f.start;
   pending = put_all s.pending w ps f.pending on.1;
 })
 

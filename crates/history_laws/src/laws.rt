@@ -1,6 +1,6 @@
 //! What histories keep and mean.
 
-ghost use Rattle.std.specs.Prelude.{◌≡◌, List, [], ◌∷◌, ◌++◌, length, All, Option};
+ghost use Rattle.std.specs.Prelude.{◌≡◌, ℕ, List, [], ◌∷◌, ◌++◌, length, All, Option};
 ghost use Rattle.fractions.specs.declared.Numbers.{Numbers};
 ghost use Rattle.lp_model.specs.Meaning.{meaning};
 ghost use Rattle.lp_model.specs.Optimality.{Continuous};
@@ -9,6 +9,7 @@ ghost use Rattle.lp_model.specs.Writable.{EntriesAscend};
 ghost use Rattle.undo_records.specs.Postsolve.{Postsolve};
 ghost use Rattle.undo_records.specs.Sound.{IsSound};
 ghost use Rattle.undo_records.specs.Walk.{AreSound, Walks};
+ghost use Rattle.presolve_model.specs.declared.instance.Instance.TheVariants as at;
 ghost use Rattle.presolve_model.specs.declared.instance.Reduction.{Reduction};
 ghost use Rattle.presolve_model.specs.declared.outcome.Outcome.{Outcome};
 ghost use Rattle.presolve_model.specs.Accounts.{ReducesPairsTo, ReducesTo, Walked};
@@ -23,6 +24,7 @@ ghost use Rattle.problem_model.specs.Problems.{IsSparse};
 ghost use Rattle.presolve_model.specs.Tables.{record_of};
 ghost use Rattle.presolve_model.specs.Replay.{CanApply, records, replay, Replays};
 ghost use Rattle.problem_model.specs.Sparse.{Sparse};
+ghost use Rattle.presolve_model.specs.Transactions.{numbers_along, numbers_read};
 ghost use Rattle.presolve_model.specs.Worlds.{AreProposals, Happening, opened, Runs, State};
 ghost use Rattle.problem_model.specs.Writing.{IsWritable};
 ghost use Rattle.history_laws.specs.Meanings.{Means};
@@ -49,13 +51,14 @@ pub fn histories_keep()
 pub fn histories_grow()
     ensures replay { (p : Sparse) (rs : List Reduction) (r : Reduction) → replay p (rs ++ r ∷ []) ≡ changed r (replay p rs) }
     ensures records { (p : Sparse) (rs : List Reduction) (r : Reduction) → records p (rs ++ r ∷ []) ≡ records p rs ++ record_of r (replay p rs) ∷ [] }
+    ensures numbers { (p : Sparse) (rs : List Reduction) (r : Reduction) → numbers_along p (rs ++ r ∷ []) ≡ numbers_along p rs ++ numbers_read (replay p rs) (at.Reduction r) ∷ [] }
     ensures replays { (numbers : Numbers) (p : Sparse) (rs : List Reduction) (r : Reduction) → Replays numbers p rs → CanApply numbers (replay p rs) r → Replays numbers p (rs ++ r ∷ []) }
 {}
 
 /// What a book that stands means, and that each commit keeps it standing, whatever it answers.
 pub fn books_stand()
     ensures means { (b : Ledger) → Stands b → Means b }
-    ensures commits { (b : Ledger) (p : Proposed) (o : Outcome) → Stands b → Enabled p.instance p.reading → Allows b p o → Stands (left_by b p o) }
+    ensures commits { (b : Ledger) (w : ℕ) (p : Proposed) (o : Outcome) → Stands b → Enabled p.instance p.reading → Allows b p o → Stands (left_by b w p o) }
 {}
 
 /// What was walked reduces the program as the records and the offset say, with duals too where no column has to be whole, and the records are

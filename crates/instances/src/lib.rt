@@ -15,7 +15,7 @@ pub use chunk::Chunk;
 pub use finding::{add_enabled, instance_beside, lines_beside};
 pub use proposal::Proposal;
 pub use reading::{Differs, Reading};
-pub use reads::reading_for;
+pub use reads::{numbers_for, reading_for};
 pub use scans::{scan, scan_at};
 pub use tally::Tally;
 pub use version::Version;

@@ -1,5 +1,6 @@
 pub mod ShortLists
 pub mod Near
+pub mod Parts
 pub mod Alike
 pub mod Places
 pub mod Choosing

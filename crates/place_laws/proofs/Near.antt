@@ -30,11 +30,11 @@ use Rattle.place_laws.specs.Choosing.{columns_with, Leads, LeadsToRow}
 use Rattle.place_laws.proofs.ShortLists.{alone, each_mapped, five_in, four_in, has_of, kept_is, three_in, two_in}
 
 -- ---- a term that is left names a line that is live
-live_of : (lines : List Line) (k : ℕ) (ts : List Term) → has k (live_only lines ts) ≡ true → (line_at lines k).live ≡ true
+pub live_of : (lines : List Line) (k : ℕ) (ts : List Term) → has k (live_only lines ts) ≡ true → (line_at lines k).live ≡ true
 live_of lines k ts h = (and_parts (line_at lines k).live (has k ts) (sym (has-live_only lines k ts) ∙ h)).0
 
 -- a term that has one of two ids, and another that has the other
-both_there : (ts : List Term) (j k : ℕ) → are_at j k ts ≡ true → (has j ts ≡ true) × (has k ts ≡ true)
+pub both_there : (ts : List Term) (j k : ℕ) → are_at j k ts ≡ true → (has j ts ≡ true) × (has k ts ≡ true)
 both_there [] j k h = absurd (true≢false (sym h))
 both_there (t ∷ []) j k h = absurd (true≢false (sym h))
 both_there (t ∷ u ∷ v ∷ ts) j k h = absurd (true≢false (sym h))

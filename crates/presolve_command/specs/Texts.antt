@@ -19,7 +19,7 @@ use Rattle.presolve_model.specs.Meanings.{says_no_point}
 use Rattle.presolve_model.specs.Workers.{one_worker, Workers}
 use Rattle.presolve_model.specs.declared.conclusion.Options.{Options}
 use Rattle.mps_writer.specs.MpsText.{mps_text}
-use Rattle.record_values.specs.declared.version.TextVersion.TheVariants.{First}
+use Rattle.record_values.specs.declared.version.TextVersion.TheVariants.{Second}
 use Rattle.record_file.specs.RecordText.{record_text}
 use Rattle.undo_records.specs.Postsolve.{Postsolve}
 use Rattle.record_round_trip.specs.Ranges.{HasRange}
@@ -59,7 +59,7 @@ pub record Tells (outcome : Outcome) : Type 0 where
 pub record AreTexts (outcome : Outcome) (program records printed : List ℕ) : Type 0 where
   pub tells : Tells outcome
   pub program_text : program ≡ mps_text outcome.program
-  pub records_text : records ≡ record_text First outcome.records
+  pub records_text : records ≡ record_text Second outcome.records
   pub printed_text : printed ≡ report_text outcome.report
 
 -- a text in free format has no fault, and is that of this program

@@ -135,7 +135,7 @@ fn texts_of(alloc: Global, made: &ReducedProgram, report: &Report) -> Result<Tex
         texts.program.items texts.records.items texts.report.items) }
 {
     let program = program_text(alloc, &made.program)?;
-    let records = write_records(alloc, &made.records, TextVersion::First)?;
+    let records = write_records(alloc, &made.records, TextVersion::Second)?;
     let report = report_of(alloc, report)?;
     Ok(Texts {
         program,

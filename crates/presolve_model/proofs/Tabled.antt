@@ -13,7 +13,7 @@ use Rattle.undo_pairs.specs.LiftPair.{undone_pair}
 use Rattle.problem_model.specs.declared.part.Contents.{Contents}
 use Rattle.problem_model.specs.declared.part.Part.{Part}
 use Rattle.problem_model.specs.declared.part.Read.{Read}
-use Rattle.problem_model.specs.Reading.{Agrees}
+use Rattle.problem_model.specs.Reading.{Agrees, read_of}
 use Rattle.problem_model.specs.Flags.{flags_of}
 use Rattle.problem_model.specs.Parts.{contents_of}
 use Rattle.problem_model.specs.Problems.{IsSparse}
@@ -34,6 +34,7 @@ use Rattle.presolve_model.specs.Changes.{changed, added, ChangeFits, ChangeIsWri
 use Rattle.presolve_model.specs.Enabled.{reads, reading_of, enabled_on, Enabled}
 use Rattle.presolve_model.specs.Instances.{rests_on_reading, rule_of}
 use Rattle.presolve_model.specs.Replay.{CanApply}
+use Rattle.presolve_model.specs.Transactions.{numbered, numbers_read, told_of}
 use Rattle.presolve_model.proofs.ByCases.{reductions_owe, refusals_rest}
 use Rattle.presolve_model.proofs.Readings.{enabled_same, heads_taken, reads_told}
 
@@ -76,15 +77,28 @@ module _ (p : Sparse) (r : Reduction) where
     flags_after = flags_committed p (edits r p) ∙ owed.deletes
 
 -- ---- a reading that agrees
-pub enabled_by : (p : Sparse) (e : Instance) (rs : List Read) → Agrees p rs → Enabled e rs → enabled_on p e ≡ true
-enabled_by p e rs a h =
-    let cs : List Contents = map (λ r. r.contents) rs in
-    let ps : List Part = map (λ r. r.part) rs in
-    let read : cs ≡ map (contents_of p) ps = sym (ap (map (λ r. r.contents)) a) ∙ map-map _ _ rs ∙ sym (map-map _ _ rs) in
-    let tail : List Part = more e (take (length (heads e)) cs) in
-    let first : take (length (heads e)) cs ≡ map (contents_of p) (heads e) = ap (take (length (heads e))) (read ∙ ap (map (contents_of p)) h.parts) ∙ heads_taken p (heads e) tail in
-    let parts : ps ≡ reads p e = h.parts ∙ ap (λ hs. heads e ++ more e hs) first in
-    ap (holds e) (ap (map (contents_of p)) (sym parts) ∙ sym read) ∙ h.holds
+module _ (p : Sparse) (e : Instance) (rs : List Read) (a : Agrees p rs) (h : Enabled e rs) where
+  abbrev contents : List Contents
+  contents = map (λ (r : Read). r.contents) rs
+
+  abbrev parts : List Part
+  parts = map (λ (r : Read). r.part) rs
+
+  contents_read : contents ≡ map (contents_of p) parts
+  contents_read = sym (ap (map (λ r. r.contents)) a) ∙ map-map _ _ rs ∙ sym (map-map _ _ rs)
+
+  parts_by : parts ≡ reads p e
+  parts_by =
+      let tail : List Part = more e (take (length (heads e)) contents) in
+      let first : take (length (heads e)) contents ≡ map (contents_of p) (heads e) = ap (take (length (heads e))) (contents_read ∙ ap (map (contents_of p)) h.parts) ∙ heads_taken p (heads e) tail in
+      h.parts ∙ ap (λ hs. heads e ++ more e hs) first
+
+  pub enabled_by : enabled_on p e ≡ true
+  enabled_by = ap (holds e) (ap (map (contents_of p)) (sym parts_by) ∙ sym contents_read) ∙ h.holds
+
+  -- what the instance reads of the problem is what was read, with its numbers
+  pub numbers_by : numbers_read p e ≡ map told_of rs
+  numbers_by = ap (map (numbered p)) (sym parts_by) ∙ map-map (numbered p) (λ (r : Read). r.part) rs ∙ sym (map-map told_of (λ (r : Read). read_of p r.part) rs) ∙ ap (map told_of) a
 
 -- ---- where refusals rest on the reading, what reads the same can be applied alike
 pub applied_alike : (numbers : Numbers) (p q : Sparse) (r : Reduction) → rests_on_reading (rule_of r) ≡ true → reading_of q (at.Reduction r) ≡ reading_of p (at.Reduction r) → CanApply numbers q r → CanApply numbers p r

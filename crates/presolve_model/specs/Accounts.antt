@@ -14,17 +14,20 @@ use Rattle.undo_pairs.specs.LiftPair.{lift_pair}
 use Rattle.presolve_model.specs.declared.instance.Reduction.{Reduction}
 use Rattle.problem_model.specs.Programs.{IsProblemOf, written_program}
 use Rattle.presolve_model.specs.Replay.{replay, records, Replays}
+use Rattle.presolve_model.specs.Transactions.{TellReadings}
 use Rattle.problem_model.specs.Sparse.{Sparse}
 
 -- Walks: the reductions that were recorded can be applied one after the other, from the program's problem p on, with these very records;
 -- what is left is q, of which the reduced program is written; the offset is what was added to the cost, in the file's sense; and the
--- labels say what is live
+-- labels say what is live. Each transaction lists exactly what its reduction reads of the problem then present, with the numbers then
+-- present.
 pub record Walked (numbers : Numbers) (program reduced : ProgramData) (told : Postsolve) : Type 0 where
   pub start : Sparse
   pub history : List Reduction
   pub opened : IsProblemOf program start
   pub replays : Replays numbers start history
   pub undos : told.undos ≡ records start history
+  pub transactions : TellReadings start history told.transactions
   pub written : reduced ≡ written_program program (replay start history)
   pub offset : told.offset ≡ signed program.sense (replay start history).offset
   pub rows : map (λ l. l.live) told.rows ≡ map (λ l. l.live) (replay start history).matrix.rows

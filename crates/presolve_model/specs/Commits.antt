@@ -1,5 +1,6 @@
 -- What a commit may answer, in this order, and what it leaves.
-use Rattle.std.specs.Prelude.{◌≡◌, ℕ, ◌+◌, ◌<◌, ◌≤◌, [], ◌∷◌, ◌++◌, length, Some, None}
+use Rattle.std.specs.Prelude.{◌≡◌, ℕ, ◌+◌, ◌<◌, ◌≤◌, [], ◌∷◌, ◌++◌, length, min, Some, None}
+use Rattle.transactions.specs.Transactions.{Transaction}
 use Rattle.problem_model.specs.Sparse.{Sparse}
 use Rattle.presolve_model.specs.declared.instance.Instance.{Instance}
 use Rattle.presolve_model.specs.declared.instance.Instance.TheVariants.{Reduction, Verdict}
@@ -8,6 +9,7 @@ use Rattle.problem_model.specs.Reading.{Agrees, DiffersAt}
 use Rattle.presolve_model.specs.Changes.{changed}
 use Rattle.presolve_model.specs.Instances.{tallied}
 use Rattle.presolve_model.specs.Tables.{record_of}
+use Rattle.presolve_model.specs.Transactions.{numbers_read}
 use Rattle.presolve_model.specs.Changes.{ChangeFits, ChangeIsWritten}
 use Rattle.presolve_model.specs.Ledger.{Ledger}
 use Rattle.presolve_model.specs.declared.outcome.Outcome.{Outcome}
@@ -49,22 +51,28 @@ Allows b p NotDecimal = IsOpen b p × Fits p.instance b.problem × (CanWrite b p
 Allows b p (Applied k) = IsOpen b p × Fits p.instance b.problem × CanWrite b p.instance × (k ≡ next_place b)
 Allows b p NoMemory = Unit {0}
 
--- the book with one instance more
-abbrev pub with_instance : Ledger → Instance → Ledger
-with_instance b (Reduction r) = record b {
+-- the transaction of an instance that w commits, found on a version: that one, or where it isn't below the instance's place the one before
+-- that; and what the instance reads of the present problem
+abbrev pub transaction_of : Ledger → (w version : ℕ) → Instance → Transaction
+transaction_of b w version e = record { by = w; version = min version (length b.history); reads = numbers_read b.problem e }
+
+-- the book with one instance more, which w commits, found on a version
+abbrev pub with_instance : Ledger → (w version : ℕ) → Instance → Ledger
+with_instance b w version (Reduction r) = record b {
   problem = changed r b.problem;
   history = b.history ++ r ∷ [];
   records = b.records ++ record_of r b.problem ∷ [];
+  transactions = b.transactions ++ transaction_of b w version (Reduction r) ∷ [];
   tally = tallied r b.tally;
 }
-with_instance b (Verdict v) = record b { verdict = Some v }
+with_instance b w version (Verdict v) = record b { verdict = Some v }
 
--- only what is applied changes the book
-abbrev pub left_by : Ledger → Proposed → Outcome → Ledger
-left_by b p (Applied k) = with_instance b p.instance
-left_by b p (Closed v) = b
-left_by b p Full = b
-left_by b p (Stale k) = b
-left_by b p Past = b
-left_by b p NotDecimal = b
-left_by b p NoMemory = b
+-- what a commit of w leaves: only what is applied changes the book
+abbrev pub left_by : Ledger → (w : ℕ) → Proposed → Outcome → Ledger
+left_by b w p (Applied k) = with_instance b w p.version p.instance
+left_by b w p (Closed v) = b
+left_by b w p Full = b
+left_by b w p (Stale k) = b
+left_by b w p Past = b
+left_by b w p NotDecimal = b
+left_by b w p NoMemory = b

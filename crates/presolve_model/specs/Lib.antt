@@ -18,4 +18,5 @@ pub mod Worlds
 pub mod Workers
 pub mod Conclusions
 pub mod Telling
+pub mod Transactions
 pub mod Ordered

@@ -30,10 +30,10 @@ listed_in b rules = listed (open_on b.tally) b.problem (instance_count b) (all_i
 abbrev pub round_list : Ledger → List Proposed
 round_list b = listed_in b verdict_order ++ listed_in b reduction_order
 
--- proposals are committed in their order, and memory does not run out
+-- proposals are committed in their order, by the one worker, which is 0, and memory does not run out
 abbrev pub Committed : Ledger → List Proposed → Ledger → Type 0
 Committed b [] c = c ≡ b
-Committed b (p ∷ ps) c = (o : Outcome) × (o ≢ NoMemory) × Allows b p o × Committed (left_by b p o) ps c
+Committed b (p ∷ ps) c = (o : Outcome) × (o ≢ NoMemory) × Allows b p o × Committed (left_by b 0 p o) ps c
 
 -- a round, in a book with room
 pub record IsRound (b c : Ledger) : Type 0 where
@@ -59,7 +59,7 @@ enabled_verdicts opens p = filter (enabled_on p) (all_of opens p verdict_order)
 -- in a full book the first of these is applied; where there is none, the limit is reached
 abbrev pub Closes : Ledger → List Instance → Option End → Ledger → Type 0
 Closes b [] ended c = (ended ≡ Some LimitReached) × (c ≡ b)
-Closes b (v ∷ vs) ended c = (ended ≡ None) × (c ≡ with_instance b v)
+Closes b (v ∷ vs) ended c = (ended ≡ None) × (c ≡ with_instance b 0 (instance_count b) v)
 
 abbrev pub Stops : Ledger → Option End → Ledger → Type 0
 Stops b ended c = (IsRound b c × EndsIn b ended c) ⊎ ((b.limit ≤ length b.history) × Closes b (enabled_verdicts (open_on b.tally) b.problem) ended c)
@@ -76,7 +76,7 @@ Ordered b ended c = (n : ℕ) × StopsAfter n b ended c
 -- ---- of a program
 -- a book of a problem to which nothing was done
 abbrev pub new_book : Options → Sparse → Ledger
-new_book options p = record { start = p; problem = p; history = []; verdict = None; records = []; tally = no_counts (length p.matrix.columns); numbers = options.numbers; limit = options.limit }
+new_book options p = record { start = p; problem = p; history = []; verdict = None; records = []; transactions = []; tally = no_counts (length p.matrix.columns); numbers = options.numbers; limit = options.limit }
 
 -- the options that a book was opened with, and whether duals are asked for
 abbrev pub options_of : Bool → Ledger → Options

@@ -40,7 +40,7 @@ abbrev pub Commits : State → ℕ → List Proposed → Option Outcome → Stat
 Commits s w [] None t = t ≡ s
 Commits s w [] (Some o) t = ⊥
 Commits s w (p ∷ ps) None t = ⊥
-Commits s w (p ∷ ps) (Some o) t = Allows s.book p o × (t ≡ record s { book = left_by s.book p o; pending = put s.pending w ps })
+Commits s w (p ∷ ps) (Some o) t = Allows s.book p o × (t ≡ record s { book = left_by s.book w p o; pending = put s.pending w ps })
 
 -- an event takes s to t, with the answer to a commit
 abbrev pub Steps : State → Happening → Option Outcome → State → Type 0

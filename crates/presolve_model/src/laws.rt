@@ -43,6 +43,7 @@ ghost use Rattle.presolve_model.specs.Replay.{CanApply, replay, Replays};
 ghost use Rattle.presolve_model.specs.Scans.{all_ids, listed, proposal_of};
 ghost use Rattle.presolve_model.specs.Stuck.{skipped_on};
 ghost use Rattle.presolve_model.specs.Tables.{record_of};
+ghost use Rattle.presolve_model.specs.Transactions.{numbers_read, told_of};
 ghost use Rattle.presolve_model.specs.Tallies.{AreCountsOf, Counts, IsTally, no_counts, Open, open_by, open_on};
 
 /// Each reduction that is enabled reduces the linear program that is shown, undone by its record, and adds to the cost what it says.
@@ -86,9 +87,10 @@ pub fn verdicts_mean()
     ensures in_sense { (v : Verdict) (d : Sense) (M : LinearProgram) → Meant v Min (minimizing d M) → Meant v d M }
 {}
 
-/// What is enabled on a reading is enabled on each problem that agrees with it.
+/// What is enabled on a reading is enabled on each problem that agrees with it, and reads of that problem what was read, with its numbers.
 pub fn agreeing_readings_enable()
-    ensures { (p : Sparse) (e : Instance) (rs : List Read) → Agrees p rs → Enabled e rs → enabled_on p e ≡ true }
+    ensures enabled { (p : Sparse) (e : Instance) (rs : List Read) → Agrees p rs → Enabled e rs → enabled_on p e ≡ true }
+    ensures told { (p : Sparse) (e : Instance) (rs : List Read) → Agrees p rs → Enabled e rs → numbers_read p e ≡ map told_of rs }
 {}
 
 /// Where the refusals of a rule rest on what its instances read: where an enabled one reads the same on two problems, its numbers have room

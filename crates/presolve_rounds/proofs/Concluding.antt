@@ -29,7 +29,7 @@ use Rattle.history_laws.proofs.Walks.{walked_pairs, walked_reduces}
 use Rattle.presolve_model.specs.Telling.{are_live, IsToldOf}
 use Rattle.round_laws.specs.Passing.{IsSameBook}
 use Rattle.round_laws.proofs.Numbers.{never_changed}
-use Rattle.run_laws.proofs.Telling.{problem_is_of, program_ascends, program_written, walked}
+use Rattle.run_laws.proofs.Telling.{are_told, problem_is_of, program_ascends, program_written, walked}
 use Rattle.presolve_model.specs.declared.conclusion.End.{End}
 use Rattle.presolve_model.specs.declared.conclusion.End.TheVariants.{Fixpoint, LimitReached}
 use Rattle.presolve_model.specs.declared.conclusion.Options.{Options}
@@ -83,7 +83,7 @@ concluded dual workers program b told e ascends writes o s h t named runs =
       reduces = walked_reduces b.numbers program (written_program program b.problem) told ascends (walked dual program b told o s t);
       pairs = walked_pairs b.numbers program (written_program program b.problem) told (walked dual program b told o s t) t.sense;
       dual = t.duals;
-      untold = t.untold;
+      transactions = are_told dual program b told o s t;
       end = end_told dual e b told.undos (replay b.start b.history) t.undos (ap length (t.undos ∙ s.records) ∙ records_long b.start b.history) (open_same b.tally b.records s.tally) (sym s.problem) h;
       names = record {
         sense = t.sense;

@@ -130,7 +130,7 @@ stale_left f w v b e a going stale is own = subst (λ (x : Watched). IsPassed f 
 
 -- an instance after its turn: k is what was marked when it was applied, and m with a part of it
 module _ (opens : Open) (f : Sparse) (w : ℕ) (n k m : Marks) (b c : Ledger) (e : Instance) (o : Outcome) (a : Part) (h : Follows opens f b) (fresh : IsFresh f b.problem e) (on : enabled_on b.problem e ≡ true) (answered : o ≢ NoMemory)
-    (allows : Allows b (proposal_of b.problem w e) o) (left : c ≡ left_by b (proposal_of b.problem w e) o) (noted : AreNoted b.problem c.problem n.noted k.noted) (stirred : AreStirred b.problem c.problem n k)
+    (allows : Allows b (proposal_of b.problem w e) o) (left : c ≡ left_by b 0 (proposal_of b.problem w e) o) (noted : AreNoted b.problem c.problem n.noted k.noted) (stirred : AreStirred b.problem c.problem n k)
     (asleep : k.asleep ≡ n.asleep) (own : Contains (heads e) a) where
   sleeps_still : (x : Part) → Contains n.asleep x → Contains k.asleep x
   sleeps_still x d = subst (λ (xs : List Part). Contains xs x) (sym asleep) d
@@ -252,15 +252,15 @@ pub full_enabled : (b : Ledger) (v : Instance) → IsFirst (enabled_verdicts (op
 full_enabled b v h = (first_passes (enabled_on b.problem) (all_of (open_on b.tally) b.problem verdict_order) v h.0 h.1).0
 
 pub full_decided : (b c : Ledger) (w : ℕ) (v : Instance) (o : Outcome) → b.verdict ≡ None → b.limit ≤ length b.history → IsFirst (enabled_verdicts (open_on b.tally) b.problem) (Some v) → o ≢ NoMemory
-    → Allows b (proposal_of b.problem w v) o → c ≡ left_by b (proposal_of b.problem w v) o → Ordered b None c × (c.verdict ≢ None) × IsSameBook b c
+    → Allows b (proposal_of b.problem w v) o → c ≡ left_by b 0 (proposal_of b.problem w v) o → Ordered b None c × (c.verdict ≢ None) × IsSameBook b c
 full_decided b c w v o none full h mem a left = by (verdict_there (open_on b.tally) b.problem v (first_passes (enabled_on b.problem) (all_of (open_on b.tally) b.problem verdict_order) v h.0 h.1).1)
   where
     by : IsVerdict v → Ordered b None c × (c.verdict ≢ None) × IsSameBook b c
     by (x, same) =
-        let opened : left_by b (proposal_of b.problem w (at.Verdict x)) o ≡ with_instance b (at.Verdict x) =
+        let opened : left_by b 0 (proposal_of b.problem w (at.Verdict x)) o ≡ with_instance b 0 w (at.Verdict x) =
         left_open b (proposal_of b.problem w (at.Verdict x)) o mem (subst (λ (e : Instance). Allows b (proposal_of b.problem w e) o) same a) (record { undecided = none; room = tt; agrees = reading_agrees b.problem (at.Verdict x) }) tt tt in
-        let is : c ≡ with_instance b (at.Verdict x) = left ∙ ap (λ (e : Instance). left_by b (proposal_of b.problem w e) o) same ∙ opened in (
-          run_full b c None full (subst (λ (vs : List Instance). Closes b vs None c) (sym h.1) (refl, is ∙ ap (with_instance b) (sym same))),
+        let is : c ≡ with_instance b 0 w (at.Verdict x) = left ∙ ap (λ (e : Instance). left_by b 0 (proposal_of b.problem w e) o) same ∙ opened in (
+          run_full b c None full (subst (λ (vs : List Instance). Closes b vs None c) (sym h.1) (refl, is ∙ ap (with_instance b 0 (instance_count b)) (sym same))),
           subst (λ (y : Ledger). y.verdict ≢ None) (sym is) (λ f. none-some x (sym f)),
           subst (λ (y : Ledger). IsSameBook b y) (sym is) (record { start = refl; numbers = refl; limit = refl }),
         )

@@ -69,7 +69,7 @@ all_stale a w v b e es p going h there stale is own = subst (λ (x : Watched). I
     noted = subst (λ (ps : List Part). Contains ps p) (noted_count (left_over w.marks e p) (reach_of (rule_at e)) ((h.alike e there).by_value e there)) (over_counts (reach_of (rule_at e)) w.marks p)
 
 -- ---- what becomes of the others where one is met
-not_applied : (b c : Ledger) (w : ℕ) (e : Instance) (o : Outcome) → c ≡ left_by b (proposal_of b.problem w e) o → is_applied o ≡ false → c ≡ b
+not_applied : (b c : Ledger) (w : ℕ) (e : Instance) (o : Outcome) → c ≡ left_by b 0 (proposal_of b.problem w e) o → is_applied o ≡ false → c ≡ b
 not_applied b c w e (Closed v) left n = left
 not_applied b c w e Full left n = left
 not_applied b c w e (Stale k) left n = left
@@ -79,18 +79,18 @@ not_applied b c w e (Applied k) left n = absurd (true≢false n)
 not_applied b c w e NoMemory left n = left
 
 module _ (opens : Open) (f : Sparse) (w : ℕ) (n k : Marks) (b c : Ledger) (p : Part) (es : List Instance) (h : Follows opens f b) (noted : AreNoted b.problem c.problem n.noted k.noted) where
-  stopped_at : (e : Instance) (place : ℕ) → IsFresh f b.problem e → enabled_on b.problem e ≡ true → shares_reading (rule_at e) ≡ true → Allows b (proposal_of b.problem w e) (Applied place) → c ≡ left_by b (proposal_of b.problem w e) (Applied place) → ReadAlike e es
+  stopped_at : (e : Instance) (place : ℕ) → IsFresh f b.problem e → enabled_on b.problem e ≡ true → shares_reading (rule_at e) ≡ true → Allows b (proposal_of b.problem w e) (Applied place) → c ≡ left_by b 0 (proposal_of b.problem w e) (Applied place) → ReadAlike e es
       → Passed opens f w es (left_over k e p) c (left_over k e p) c
   stopped_at (at.Reduction r) place fresh on shares ok left alike = row_stopped opens f w n (left_over k (at.Reduction r) p) b c r es h fresh on shares ok.0.room left (over_noted b.problem c.problem n.noted (reach_of (rule_at (at.Reduction r))) k p noted) alike
   stopped_at (at.Verdict v) place fresh on shares ok left alike = absurd (verdicts_share_none v shares)
 
-  stopped : (e : Instance) (o : Outcome) → IsFresh f b.problem e → enabled_on b.problem e ≡ true → Allows b (proposal_of b.problem w e) o → c ≡ left_by b (proposal_of b.problem w e) o → is_applied o ≡ true → shares_reading (rule_at e) ≡ true → ReadAlike e es
+  stopped : (e : Instance) (o : Outcome) → IsFresh f b.problem e → enabled_on b.problem e ≡ true → Allows b (proposal_of b.problem w e) o → c ≡ left_by b 0 (proposal_of b.problem w e) o → is_applied o ≡ true → shares_reading (rule_at e) ≡ true → ReadAlike e es
       → Passed opens f w es (marked k e o p) c (marked k e o p) c
   stopped e (Applied place) fresh on ok left t shares alike = stopped_at e place fresh on shares ok left alike
   stopped e o fresh on ok left t shares alike = absurd (true≢false (sym t))
 
 pub met_alike : (a : Ledger) (w : ℕ) (n k : Marks) (v : Watched) (b c : Ledger) (e : Instance) (o : Outcome) (p : Part) → Follows (open_on a.tally) a.problem b → IsFresh a.problem b.problem e → enabled_on b.problem e ≡ true → Allows b (proposal_of b.problem w e) o
-    → c ≡ left_by b (proposal_of b.problem w e) o → AreNoted b.problem c.problem n.noted k.noted → v.marks ≡ marked k e o p → AreFormsOf v.forms c.problem → w ≡ instance_count a → IsMet a e v b c (is_applied o)
+    → c ≡ left_by b 0 (proposal_of b.problem w e) o → AreNoted b.problem c.problem n.noted k.noted → v.marks ≡ marked k e o p → AreFormsOf v.forms c.problem → w ≡ instance_count a → IsMet a e v b c (is_applied o)
 met_alike a w n k v b c e o p h fresh on ok left noted is forms began = record {
   still = not_applied b c w e o left;
   stopped = λ t es shares alike. record {

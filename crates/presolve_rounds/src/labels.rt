@@ -14,7 +14,7 @@ use lp_model::{ColumnDef, RowDef};
 use problem_data::in_sense;
 use std::alloc::{AllocError, Global};
 use txn_book::Book;
-use undo_records::{Label, Records, Transactions};
+use undo_records::{Label, Records};
 
 /// The names of the rows, and which are live.
 fn row_labels(alloc: Global, rows: &[RowDef], lines: &Lines) -> Result<Vec<Label>, AllocError>
@@ -70,7 +70,6 @@ pub fn records_of(
     let columns = column_labels(alloc, program.columns(), &book.problem().columns())?;
     let offset = in_sense(program.sense(), &book.problem().offset());
     let ended = book.close();
-    let transactions = Transactions::unknown(alloc, ended.records.as_slice().len())?;
     Ok(Records::new(
         program.sense(),
         dual,
@@ -78,6 +77,6 @@ pub fn records_of(
         rows,
         offset,
         ended.records,
-        transactions,
+        ended.transactions,
     ))
 }

@@ -2,7 +2,7 @@
 use Rattle.std.proofs.Common.{◌≡◌, ℕ, zero, suc, ◌+◌, ◌<◌, List, [], ◌∷◌, ◌++◌, length, drop, slice_get, slice_index_or, Option, Some, None, sym, ap, ◌∙◌, arith, append_assoc}
 use Rattle.std.proofs.lemmas.List.{append-nil}
 use Rattle.undo_records.specs.declared.undo.Undo.{Undo}
-use Rattle.undo_records.specs.Transactions.{Transaction}
+use Rattle.transactions.specs.Transactions.{Transaction}
 use Rattle.record_file.specs.RecordText.{Line, line_text, lines_text, told_at, told_lines, transaction_lines, undo_line}
 use Rattle.record_file.proofs.OntoLaws.{lines_text_append}
 

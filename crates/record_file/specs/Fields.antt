@@ -1,9 +1,9 @@
 -- The words of each record: its rule, and the fields behind it; and those of its transaction.
 use Rattle.std.specs.Prelude.{ℕ, List, [], ◌∷◌, ◌++◌, length, codes}
 use Rattle.std.specs.Fmt.{decimal}
-use Rattle.undo_records.specs.declared.transactions.PartRead.{PartRead}
+use Rattle.transactions.specs.declared.transactions.PartRead.{PartRead}
 use Rattle.undo_records.specs.declared.undo.Undo.{Undo}
-use Rattle.undo_records.specs.Transactions.{Transaction}
+use Rattle.transactions.specs.Transactions.{Transaction}
 use Rattle.record_values.specs.declared.value.Value.{Value}
 use Rattle.record_values.specs.declared.value.Value.TheVariants.{Id, Ratio, LowerEnd, UpperEnd, Letter, Bound, Fate, Entries}
 use Rattle.record_values.specs.Values.{values}

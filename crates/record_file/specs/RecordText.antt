@@ -7,7 +7,7 @@ use Rattle.lp_model.specs.declared.program.Sense.{Sense}
 use Rattle.undo_records.specs.Postsolve.{Postsolve}
 use Rattle.undo_records.specs.declared.label.Label.{Label}
 use Rattle.undo_records.specs.declared.undo.Undo.{Undo}
-use Rattle.undo_records.specs.Transactions.{Transaction}
+use Rattle.transactions.specs.Transactions.{Transaction}
 use Rattle.record_values.specs.declared.version.TextVersion.{TextVersion}
 use Rattle.record_values.specs.declared.version.TextVersion.TheVariants.{First, Second}
 use Rattle.record_values.specs.Values.{rule_undone}

@@ -11,8 +11,8 @@ use Rattle.text_lines.proofs.FaultLaws.{later_none}
 use Rattle.undo_records.specs.Named.{AreNamed, AreTold}
 use Rattle.undo_records.specs.Postsolve.{Postsolve}
 use Rattle.undo_records.specs.Sound.{IsSound}
-use Rattle.undo_records.specs.Transactions.{Transaction, IsPartOf, VersionsBelow, untold, with_read}
-use Rattle.undo_records.specs.declared.transactions.PartRead.{PartRead}
+use Rattle.transactions.specs.Transactions.{Transaction, IsPartOf, VersionsBelow, untold, with_read}
+use Rattle.transactions.specs.declared.transactions.PartRead.{PartRead}
 use Rattle.problem_model.specs.declared.part.Part.{Part}
 use Rattle.problem_model.specs.declared.part.Part.TheVariants.{Row, Sides, Col, Bounds}
 use Rattle.number_texts.specs.Form.{number}

@@ -6,7 +6,7 @@ use Rattle.undo_records.specs.Postsolve.{Postsolve}
 use Rattle.lp_model.specs.Flags.{Flags}
 use Rattle.undo_records.specs.Walk.{all_live, after}
 use Rattle.undo_records.specs.declared.undo.Undo.{Undo}
-use Rattle.undo_records.specs.Transactions.{Transaction, untold, with_read}
+use Rattle.transactions.specs.Transactions.{Transaction, untold, with_read}
 use Rattle.record_fields.specs.Words.{words_of}
 use Rattle.record_values.specs.declared.version.TextVersion.{TextVersion}
 use Rattle.record_values.specs.declared.version.TextVersion.TheVariants.{First, Second}

@@ -14,12 +14,12 @@ use Rattle.record_reader.specs.declared.faults.RecordError.TheVariants as record
 use Rattle.record_reader.specs.declared.faults.TakeError.{TakeError}
 use Rattle.record_reader.specs.declared.faults.TakeError.TheVariants as take
 use Rattle.record_reader.specs.declared.stages.Stage.{Stage}
-use Rattle.record_reader.specs.declared.transactions.Heading.{Heading}
+use Rattle.record_reader.specs.declared.transaction_lines.Heading.{Heading}
 use Rattle.record_reader.specs.declared.faults.RecordFaultKind.{RecordFaultKind}
 use Rattle.record_reader.specs.Transactions.{transaction_fault, read_fault, read_in}
 use Rattle.record_reader.specs.Headings.{counted}
 use Rattle.number_texts.specs.Form.{number}
-use Rattle.undo_records.specs.declared.transactions.PartRead.{PartRead}
+use Rattle.transactions.specs.declared.transactions.PartRead.{PartRead}
 use Rattle.record_words.specs.Undos.{word}
 
 -- the progress that a draft shows

@@ -4,8 +4,8 @@ use Rattle.std.specs.Str.{bytes_eq}
 use Rattle.number_texts.specs.Form.{number}
 use Rattle.problem_model.specs.declared.part.Part.{Part}
 use Rattle.problem_model.specs.declared.part.Part.TheVariants.{Row, Sides, Col, Bounds}
-use Rattle.undo_records.specs.declared.transactions.PartRead.{PartRead}
-use Rattle.undo_records.specs.Transactions.{Transaction}
+use Rattle.transactions.specs.declared.transactions.PartRead.{PartRead}
+use Rattle.transactions.specs.Transactions.{Transaction}
 use Rattle.record_fields.specs.Words.{first, others, is_plain, is_far, id_of}
 use Rattle.record_words.specs.Undos.{word}
 use Rattle.record_reader.specs.declared.faults.RecordFaultKind.{RecordFaultKind}

@@ -12,7 +12,7 @@ use crate::faults::{RecordFaultKind, TakeError, kind_of};
 use crate::headings::{count_of, duals_of, is_end, offset_of, sense_of, version_of};
 use crate::labels::label_of;
 use crate::stages::{Stage, columns_left, reads_left, records_left, rows_left};
-use crate::transactions::{heading_of, part_read_of};
+use crate::transaction_lines::{heading_of, part_read_of};
 use fractions::frac::Frac;
 use lp_model::Sense;
 use record_values::TextVersion;

@@ -11,7 +11,7 @@ mod line_parts;
 mod matching;
 mod reading;
 mod stages;
-mod transactions;
+mod transaction_lines;
 
 pub use faults::{RecordError, RecordFaultKind};
 pub use matching::matches;

@@ -20,7 +20,7 @@ use Rattle.lp_model.specs.Flags.{Flags}
 use Rattle.undo_records.specs.Walk.{NamesLive, Walks, after, all_live, flags_of, lives}
 use Rattle.undo_records.specs.declared.label.Label.{Label}
 use Rattle.undo_records.specs.declared.undo.Undo.{Undo}
-use Rattle.undo_records.specs.Transactions.{Transaction, untold}
+use Rattle.transactions.specs.Transactions.{Transaction, untold}
 use Rattle.record_values.specs.declared.version.TextVersion.{TextVersion}
 use Rattle.record_values.specs.declared.version.TextVersion.TheVariants.{First, Second}
 use Rattle.record_file.specs.Words.{live_word}

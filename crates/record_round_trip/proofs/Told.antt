@@ -6,9 +6,9 @@ use Rattle.std.proofs.lemmas.List.{append-nil, length-append, map-append}
 use Rattle.std.proofs.lemmas.List.Elements.{All-head, All-tail}
 use Rattle.lp_model.specs.Flags.{Flags}
 use Rattle.undo_records.specs.Postsolve.{Postsolve}
-use Rattle.undo_records.specs.Transactions.{Transaction, IsPartOf, VersionsBelow, with_read}
+use Rattle.transactions.specs.Transactions.{Transaction, IsPartOf, VersionsBelow, with_read}
 use Rattle.undo_records.specs.Walk.{Walks, after}
-use Rattle.undo_records.specs.declared.transactions.PartRead.{PartRead}
+use Rattle.transactions.specs.declared.transactions.PartRead.{PartRead}
 use Rattle.undo_records.specs.declared.undo.Undo.{Undo}
 use Rattle.record_values.specs.declared.version.TextVersion.TheVariants.{Second}
 use Rattle.record_file.specs.Fields.{transaction_words}

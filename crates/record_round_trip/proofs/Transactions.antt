@@ -6,8 +6,8 @@ use Rattle.std.proofs.lemmas.Bool.{and_from, lt-ltb}
 use Rattle.std.proofs.lemmas.Bool.Decides.{nat_tests}
 use Rattle.problem_model.specs.declared.part.Part.{Part}
 use Rattle.problem_model.specs.declared.part.Part.TheVariants.{Row, Sides, Col, Bounds}
-use Rattle.undo_records.specs.Transactions.{Transaction, IsPartOf}
-use Rattle.undo_records.specs.declared.transactions.PartRead.{PartRead}
+use Rattle.transactions.specs.Transactions.{Transaction, IsPartOf}
+use Rattle.transactions.specs.declared.transactions.PartRead.{PartRead}
 use Rattle.record_file.specs.Words.{part_words}
 use Rattle.record_file.specs.Fields.{transaction_words, read_words}
 use Rattle.record_file.specs.RecordText.{Line, line}

@@ -6,8 +6,8 @@ use Rattle.lp_model.specs.declared.terms.Term.{Term}
 use Rattle.problem_model.specs.declared.part.Part.{Part}
 use Rattle.problem_model.specs.declared.part.Part.TheVariants.{Row, Sides, Col, Bounds}
 use Rattle.undo_records.specs.Postsolve.{Postsolve}
-use Rattle.undo_records.specs.Transactions.{Transaction, untold}
-use Rattle.undo_records.specs.declared.transactions.PartRead.{PartRead}
+use Rattle.transactions.specs.Transactions.{Transaction, untold}
+use Rattle.transactions.specs.declared.transactions.PartRead.{PartRead}
 use Rattle.undo_records.specs.declared.undo.Undo.{Undo}
 use Rattle.record_values.specs.declared.value.Value.{Value}
 use Rattle.record_values.specs.declared.value.Value.TheVariants.{Id, Ratio, LowerEnd, UpperEnd, Bound, Entries}

@@ -29,7 +29,7 @@ use Rattle.place_laws.specs.Standing.{IsFresh, IsLaterAt}
 -- ---- one after the other
 pub committed_append : (b c d : Ledger) (ps qs : List Proposed) → Committed b ps c → Committed c qs d → Committed b (ps ++ qs) d
 committed_append b c d [] qs h k = subst (λ (x : Ledger). Committed x qs d) h k
-committed_append b c d (p ∷ ps) qs (o, n, a, h) k = (o, n, a, committed_append (left_by b p o) c d ps qs h k)
+committed_append b c d (p ∷ ps) qs (o, n, a, h) k = (o, n, a, committed_append (left_by b 0 p o) c d ps qs h k)
 
 -- ---- two answers leave the same book
 differs_from : (p : Sparse) (rs : List Read) (k : ℕ) → k < length rs → ((r : Read) → slice_get rs k ≡ Some r → read_of p r.part ≢ r) → Agrees p rs → ⊥
@@ -45,7 +45,7 @@ full_has_no_room b (at.Reduction r) h f = omega (arith, h, f)
 full_has_no_room b (at.Verdict v) h f = f
 
 -- what is open, has room and can be written is applied
-pub left_open : (b : Ledger) (p : Proposed) (o : Outcome) → o ≢ NoMemory → Allows b p o → IsOpen b p → Fits p.instance b.problem → CanWrite b p.instance → left_by b p o ≡ with_instance b p.instance
+pub left_open : (b : Ledger) (p : Proposed) (o : Outcome) → o ≢ NoMemory → Allows b p o → IsOpen b p → Fits p.instance b.problem → CanWrite b p.instance → left_by b 0 p o ≡ with_instance b 0 p.version p.instance
 left_open b p (Closed v) n a i f w = absurd (none-some v (sym i.undecided ∙ a))
 left_open b p Full n a i f w = absurd (full_has_no_room b p.instance i.room a.1)
 left_open b p (Stale k) n a i f w = absurd (differs b.problem p.reading k a.2 i.agrees)
@@ -55,7 +55,7 @@ left_open b p (Applied k) n a i f w = refl
 left_open b p NoMemory n a i f w = absurd (n refl)
 
 -- an answer leaves the book as it is, or it is open and the change has room and can be written
-pub left_how : (b : Ledger) (p : Proposed) (o : Outcome) → Allows b p o → (left_by b p o ≡ b) ⊎ (IsOpen b p × Fits p.instance b.problem × CanWrite b p.instance)
+pub left_how : (b : Ledger) (p : Proposed) (o : Outcome) → Allows b p o → (left_by b 0 p o ≡ b) ⊎ (IsOpen b p × Fits p.instance b.problem × CanWrite b p.instance)
 left_how b p (Closed v) a = inl refl
 left_how b p Full a = inl refl
 left_how b p (Stale k) a = inl refl
@@ -64,10 +64,10 @@ left_how b p NotDecimal a = inl refl
 left_how b p (Applied k) a = inr (a.0, a.1, a.2)
 left_how b p NoMemory a = inl refl
 
-pub left_same : (b : Ledger) (p : Proposed) (o u : Outcome) → o ≢ NoMemory → u ≢ NoMemory → Allows b p o → Allows b p u → left_by b p o ≡ left_by b p u
+pub left_same : (b : Ledger) (p : Proposed) (o u : Outcome) → o ≢ NoMemory → u ≢ NoMemory → Allows b p o → Allows b p u → left_by b 0 p o ≡ left_by b 0 p u
 left_same b p o u n m a d = by (left_how b p o a) (left_how b p u d)
   where
-    by : (left_by b p o ≡ b) ⊎ (IsOpen b p × Fits p.instance b.problem × CanWrite b p.instance) → (left_by b p u ≡ b) ⊎ (IsOpen b p × Fits p.instance b.problem × CanWrite b p.instance) → left_by b p o ≡ left_by b p u
+    by : (left_by b 0 p o ≡ b) ⊎ (IsOpen b p × Fits p.instance b.problem × CanWrite b p.instance) → (left_by b 0 p u ≡ b) ⊎ (IsOpen b p × Fits p.instance b.problem × CanWrite b p.instance) → left_by b 0 p o ≡ left_by b 0 p u
     by (inr x) k = left_open b p o n a x.0 x.1 x.2 ∙ sym (left_open b p u m d x.0 x.1 x.2)
     by (inl e) (inr y) = left_open b p o n a y.0 y.1 y.2 ∙ sym (left_open b p u m d y.0 y.1 y.2)
     by (inl e) (inl f) = e ∙ sym f
@@ -75,7 +75,7 @@ left_same b p o u n m a d = by (left_how b p o a) (left_how b p u d)
 pub committed_same : (b c d : Ledger) (ps : List Proposed) → Committed b ps c → Committed b ps d → c ≡ d
 committed_same b c d [] h k = h ∙ sym k
 committed_same b c d (p ∷ ps) (o, n, a, h) (u, m, x, k) =
-    committed_same (left_by b p o) c d ps h (subst (λ (y : Ledger). Committed y ps d) (sym (left_same b p o u n m a x)) k)
+    committed_same (left_by b 0 p o) c d ps h (subst (λ (y : Ledger). Committed y ps d) (sym (left_same b p o u n m a x)) k)
 
 -- ---- stale and fresh
 -- what is fresh reads the same, and is enabled where it was
@@ -92,10 +92,10 @@ pub same_reads : (f p : Sparse) (e : Instance) → reading_of p e ≡ reading_of
 same_reads f p e h = map-map (λ (r : Read). read_of p r.part) (read_of f) (reads f e) ∙ reads_told f p e h
 
 -- a stale proposal changes nothing
-pub stale_stays : (b : Ledger) (p : Proposed) (o : Outcome) → (Agrees b.problem p.reading → ⊥) → Allows b p o → left_by b p o ≡ b
+pub stale_stays : (b : Ledger) (p : Proposed) (o : Outcome) → (Agrees b.problem p.reading → ⊥) → Allows b p o → left_by b 0 p o ≡ b
 stale_stays b p o h a = by (left_how b p o a)
   where
-    by : (left_by b p o ≡ b) ⊎ (IsOpen b p × Fits p.instance b.problem × CanWrite b p.instance) → left_by b p o ≡ b
+    by : (left_by b 0 p o ≡ b) ⊎ (IsOpen b p × Fits p.instance b.problem × CanWrite b p.instance) → left_by b 0 p o ≡ b
     by (inl e) = e
     by (inr x) = absurd (h x.0.agrees)
 
@@ -113,14 +113,14 @@ pub fresh_commits : (f : Sparse) (b : Ledger) (e : Instance) (v w : ℕ) (o : Ou
 fresh_commits f b e v w o h a =
     subst (λ (rs : List Read). Allows b (record { instance = e; reading = rs; version = v }) o) (fresh_reads f b.problem e h) (allows_with b e (reading_of b.problem e) w v o a)
 
-left_with : (b : Ledger) (p q : Proposed) (o : Outcome) → p.instance ≡ q.instance → left_by b p o ≡ left_by b q o
-left_with b p q (Closed x) h = refl
-left_with b p q Full h = refl
-left_with b p q (Stale k) h = refl
-left_with b p q Past h = refl
-left_with b p q NotDecimal h = refl
-left_with b p q (Applied k) h = ap (with_instance b) h
-left_with b p q NoMemory h = refl
+left_with : (b : Ledger) (p q : Proposed) (o : Outcome) → p.version ≡ q.version → p.instance ≡ q.instance → left_by b 0 p o ≡ left_by b 0 q o
+left_with b p q (Closed x) k h = refl
+left_with b p q Full k h = refl
+left_with b p q (Stale n) k h = refl
+left_with b p q Past k h = refl
+left_with b p q NotDecimal k h = refl
+left_with b p q (Applied n) k h = ap₂ (with_instance b 0) k h
+left_with b p q NoMemory k h = refl
 
 -- numbers of changes tell which of a frozen reading's parts is the first that stands otherwise, if any does
 read_here : (f p : Sparse) (a : Part) → IsLaterAt f p a → (read_of p a ≡ read_of f a) ⊎ (read_of p a ≢ read_of f a)
@@ -147,14 +147,14 @@ stays_or_differs f p (a ∷ ps) h = by (read_here f p a (h a)) (stays_or_differs
 
 -- ---- an instance at its turn
 -- what is stale, or not enabled where it stands, is passed over: whether it was enabled on f, and its commit refused, or not
-pub refused_how : (b : Ledger) (p : Proposed) → ((k : ℕ) × DiffersAt b.problem p.reading k) → (o : Outcome) × (o ≢ NoMemory) × Allows b p o × (left_by b p o ≡ b)
+pub refused_how : (b : Ledger) (p : Proposed) → ((k : ℕ) × DiffersAt b.problem p.reading k) → (o : Outcome) × (o ≢ NoMemory) × Allows b p o × (left_by b 0 p o ≡ b)
 refused_how b p (k, d) = by b.verdict refl (room p.instance)
   where
     room : (e : Instance) → HasRoom b e ⊎ IsFull b e
     room (at.Verdict v) = inl tt
     room (at.Reduction r) = cases_lt (length b.history) b.limit
 
-    by : (v : Option Verdict) → b.verdict ≡ v → HasRoom b p.instance ⊎ IsFull b p.instance → (o : Outcome) × (o ≢ NoMemory) × Allows b p o × (left_by b p o ≡ b)
+    by : (v : Option Verdict) → b.verdict ≡ v → HasRoom b p.instance ⊎ IsFull b p.instance → (o : Outcome) × (o ≢ NoMemory) × Allows b p o × (left_by b 0 p o ≡ b)
     by (Some v) e r = (Closed v, (λ x. cc), e, refl)
     by None e (inl l) = (Stale k, (λ x. cc), (e, l, d), refl)
     by None e (inr l) = (Full, (λ x. cc), (e, l), refl)
@@ -168,12 +168,12 @@ passed_over f b v e later h = by (enabled_on f e) refl (stays_or_differs f b.pro
     by true x (inr d) = let r = refused_how b (proposal_of f v e) d in (r.0, r.1, r.2, sym r.3)
 
 -- what is fresh and enabled is committed as its reading of the present problem is
-pub passed_at : (f : Sparse) (b : Ledger) (v w : ℕ) (e : Instance) (o : Outcome) → IsFresh f b.problem e → enabled_on b.problem e ≡ true → o ≢ NoMemory → Allows b (proposal_of b.problem w e) o
-    → Committed b (proposals f v (e ∷ [])) (left_by b (proposal_of b.problem w e) o)
-passed_at f b v w e o fresh on n a = by (enabled_on f e) (sym (fresh_enables f b.problem e fresh) ∙ on)
+pub passed_at : (f : Sparse) (b : Ledger) (v : ℕ) (e : Instance) (o : Outcome) → IsFresh f b.problem e → enabled_on b.problem e ≡ true → o ≢ NoMemory → Allows b (proposal_of b.problem v e) o
+    → Committed b (proposals f v (e ∷ [])) (left_by b 0 (proposal_of b.problem v e) o)
+passed_at f b v e o fresh on n a = by (enabled_on f e) (sym (fresh_enables f b.problem e fresh) ∙ on)
   where
-    by : (t : Bool) → t ≡ true → Committed b (map (proposal_of f v) (if t then e ∷ [] else [])) (left_by b (proposal_of b.problem w e) o)
-    by true x = (o, n, fresh_commits f b e v w o fresh a, left_with b (proposal_of b.problem w e) (proposal_of f v e) o refl)
+    by : (t : Bool) → t ≡ true → Committed b (map (proposal_of f v) (if t then e ∷ [] else [])) (left_by b 0 (proposal_of b.problem v e) o)
+    by true x = (o, n, fresh_commits f b e v v o fresh a, left_with b (proposal_of b.problem v e) (proposal_of f v e) o refl refl)
     by false x = absurd (let y = x in cc)
 
 pub proposals_append : (f : Sparse) (v : ℕ) (es fs : List Instance) → proposals f v (es ++ fs) ≡ proposals f v es ++ proposals f v fs

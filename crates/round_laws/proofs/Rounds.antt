@@ -105,61 +105,61 @@ abbrev CanCommit : Ledger → Proposed → Type 0
 CanCommit b p = IsOpen b p × Fits p.instance b.problem × CanWrite b p.instance
 
 -- an instance more is one more in the history, or a verdict
-with_more : (b : Ledger) (e : Instance) → (length b.history < length (with_instance b e).history) ⊎ ((v : Verdict) × ((with_instance b e).verdict ≡ Some v))
-with_more b (at.Reduction r) = let n : length (b.history ++ r ∷ []) ≡ length b.history + 1 = length-append b.history (r ∷ []) in inl (omega (arith, n))
-with_more b (at.Verdict v) = inr (v, refl)
+with_more : (b : Ledger) (v : ℕ) (e : Instance) → (length b.history < length (with_instance b 0 v e).history) ⊎ ((x : Verdict) × ((with_instance b 0 v e).verdict ≡ Some x))
+with_more b v (at.Reduction r) = let n : length (b.history ++ r ∷ []) ≡ length b.history + 1 = length-append b.history (r ∷ []) in inl (omega (arith, n))
+with_more b v (at.Verdict x) = inr (x, refl)
 
-with_grows : (b : Ledger) (e : Instance) → length b.history ≤ length (with_instance b e).history
-with_grows b (at.Reduction r) = let n : length (b.history ++ r ∷ []) ≡ length b.history + 1 = length-append b.history (r ∷ []) in omega (arith, n)
-with_grows b (at.Verdict v) = omega arith
+with_grows : (b : Ledger) (v : ℕ) (e : Instance) → length b.history ≤ length (with_instance b 0 v e).history
+with_grows b v (at.Reduction r) = let n : length (b.history ++ r ∷ []) ≡ length b.history + 1 = length-append b.history (r ∷ []) in omega (arith, n)
+with_grows b v (at.Verdict x) = omega arith
 
 module _ (b : Ledger) (p : Proposed) (o : Outcome) where
-  left_grows : (left_by b p o ≡ b) ⊎ (left_by b p o ≡ with_instance b p.instance) → length b.history ≤ length (left_by b p o).history
-  left_grows (inl e) = let n : length (left_by b p o).history ≡ length b.history = ap (λ (x : Ledger). length x.history) e in omega (arith, n)
-  left_grows (inr e) = let n : length (left_by b p o).history ≡ length (with_instance b p.instance).history = ap (λ (x : Ledger). length x.history) e in omega (arith, n, with_grows b p.instance)
+  left_grows : (left_by b 0 p o ≡ b) ⊎ (left_by b 0 p o ≡ with_instance b 0 p.version p.instance) → length b.history ≤ length (left_by b 0 p o).history
+  left_grows (inl e) = let n : length (left_by b 0 p o).history ≡ length b.history = ap (λ (x : Ledger). length x.history) e in omega (arith, n)
+  left_grows (inr e) = let n : length (left_by b 0 p o).history ≡ length (with_instance b 0 p.version p.instance).history = ap (λ (x : Ledger). length x.history) e in omega (arith, n, with_grows b p.version p.instance)
 
 pub committed_grows : (b c : Ledger) (ps : List Proposed) → Committed b ps c → length b.history ≤ length c.history
 committed_grows b c [] h = let n : length c.history ≡ length b.history = ap (λ (x : Ledger). length x.history) h in omega (arith, n)
-committed_grows b c (p ∷ ps) (o, n, a, h) = by (left_how b p o a) (committed_grows (left_by b p o) c ps h)
+committed_grows b c (p ∷ ps) (o, n, a, h) = by (left_how b p o a) (committed_grows (left_by b 0 p o) c ps h)
   where
-    by : (left_by b p o ≡ b) ⊎ CanCommit b p → length (left_by b p o).history ≤ length c.history → length b.history ≤ length c.history
+    by : (left_by b 0 p o ≡ b) ⊎ CanCommit b p → length (left_by b 0 p o).history ≤ length c.history → length b.history ≤ length c.history
     by (inl e) l = let g = left_grows b p o (inl e) in omega (arith, g, l)
     by (inr k) l = let g = left_grows b p o (inr (left_open b p o n a k.0 k.1 k.2)) in omega (arith, g, l)
 
 committed_closed : (b c : Ledger) (ps : List Proposed) (v : Verdict) → Committed b ps c → b.verdict ≡ Some v → c.verdict ≡ Some v
 committed_closed b c [] v h e = ap (λ (x : Ledger). x.verdict) h ∙ e
-committed_closed b c (p ∷ ps) v (o, n, a, h) e = by (left_how b p o a) (committed_closed (left_by b p o) c ps v h)
+committed_closed b c (p ∷ ps) v (o, n, a, h) e = by (left_how b p o a) (committed_closed (left_by b 0 p o) c ps v h)
   where
-    by : (left_by b p o ≡ b) ⊎ CanCommit b p → ((left_by b p o).verdict ≡ Some v → c.verdict ≡ Some v) → c.verdict ≡ Some v
+    by : (left_by b 0 p o ≡ b) ⊎ CanCommit b p → ((left_by b 0 p o).verdict ≡ Some v → c.verdict ≡ Some v) → c.verdict ≡ Some v
     by (inl s) rest = rest (ap (λ (x : Ledger). x.verdict) s ∙ e)
     by (inr k) rest = absurd (none-some v (sym k.0.undecided ∙ e))
 
 pub committed_still : (b c : Ledger) (ps : List Proposed) → Committed b ps c → c.verdict ≡ None → length c.history ≡ length b.history → (c ≡ b) × ((p : Proposed) → Contains ps p → CanCommit b p → ⊥)
 committed_still b c [] h none long = (h, λ p k can. omega (arith, k.1))
-committed_still b c (p ∷ ps) (o, n, a, h) none long = by (left_how b p o a) (committed_still (left_by b p o) c ps h none)
+committed_still b c (p ∷ ps) (o, n, a, h) none long = by (left_how b p o a) (committed_still (left_by b 0 p o) c ps h none)
   where
     -- the first is not applied
     applied : CanCommit b p → ⊥
-    applied k = more (with_more b p.instance)
+    applied k = more (with_more b p.version p.instance)
       where
-        left : left_by b p o ≡ with_instance b p.instance
+        left : left_by b 0 p o ≡ with_instance b 0 p.version p.instance
         left = left_open b p o n a k.0 k.1 k.2
 
-        rest : length (left_by b p o).history ≤ length c.history
-        rest = committed_grows (left_by b p o) c ps h
+        rest : length (left_by b 0 p o).history ≤ length c.history
+        rest = committed_grows (left_by b 0 p o) c ps h
 
-        more : (length b.history < length (with_instance b p.instance).history) ⊎ ((v : Verdict) × ((with_instance b p.instance).verdict ≡ Some v)) → ⊥
-        more (inl l) = let m : length (left_by b p o).history ≡ length (with_instance b p.instance).history = ap (λ (x : Ledger). length x.history) left in omega (arith, l, m, rest, long)
-        more (inr (v, e)) = none-some v (sym none ∙ committed_closed (left_by b p o) c ps v h (ap (λ (x : Ledger). x.verdict) left ∙ e))
+        more : (length b.history < length (with_instance b 0 p.version p.instance).history) ⊎ ((v : Verdict) × ((with_instance b 0 p.version p.instance).verdict ≡ Some v)) → ⊥
+        more (inl l) = let m : length (left_by b 0 p o).history ≡ length (with_instance b 0 p.version p.instance).history = ap (λ (x : Ledger). length x.history) left in omega (arith, l, m, rest, long)
+        more (inr (v, e)) = none-some v (sym none ∙ committed_closed (left_by b 0 p o) c ps v h (ap (λ (x : Ledger). x.verdict) left ∙ e))
 
-    stays : left_by b p o ≡ b → (c ≡ left_by b p o) × ((q : Proposed) → Contains ps q → CanCommit (left_by b p o) q → ⊥) → (c ≡ b) × ((q : Proposed) → Contains (p ∷ ps) q → CanCommit b q → ⊥)
+    stays : left_by b 0 p o ≡ b → (c ≡ left_by b 0 p o) × ((q : Proposed) → Contains ps q → CanCommit (left_by b 0 p o) q → ⊥) → (c ≡ b) × ((q : Proposed) → Contains (p ∷ ps) q → CanCommit b q → ⊥)
     stays e k = (k.0 ∙ e, each)
       where
         each : (q : Proposed) → Contains (p ∷ ps) q → CanCommit b q → ⊥
         each q (zero, l, f) can = applied (subst (CanCommit b) (sym f) can)
         each q (suc i, l, f) can = k.1 q (i, omega (arith, l), f) (subst (λ (x : Ledger). CanCommit x q) (sym e) can)
 
-    by : (left_by b p o ≡ b) ⊎ CanCommit b p → (length c.history ≡ length (left_by b p o).history → (c ≡ left_by b p o) × ((q : Proposed) → Contains ps q → CanCommit (left_by b p o) q → ⊥))
+    by : (left_by b 0 p o ≡ b) ⊎ CanCommit b p → (length c.history ≡ length (left_by b 0 p o).history → (c ≡ left_by b 0 p o) × ((q : Proposed) → Contains ps q → CanCommit (left_by b 0 p o) q → ⊥))
         → (c ≡ b) × ((q : Proposed) → Contains (p ∷ ps) q → CanCommit b q → ⊥)
     by (inl e) rest = stays e (rest (long ∙ ap (λ (x : Ledger). length x.history) (sym e)))
     by (inr k) rest = absurd (applied k)

@@ -91,12 +91,12 @@ module _ (opens : Open) (f : Sparse) (v : ℕ) (n m : Marks) (b : Ledger) (r : R
       by (inr same) = let (a, c, l) = has_changed in
           absurd (moved_differs b.problem (changed r b.problem) (reads (changed r b.problem) (at.Reduction r)) (a, subst (λ (ps : List Part). Contains ps a) (parts_same (changed r b.problem) b.problem (at.Reduction r) same) c, l) (sym same))
 
-  stopped : ReadAlike (at.Reduction r) es → Passed opens f v es m (with_instance b (at.Reduction r)) m (with_instance b (at.Reduction r))
-  stopped alike = all_left opens f v m (with_instance b (at.Reduction r)) es (follows_applied opens f b r h on room)
+  stopped : ReadAlike (at.Reduction r) es → Passed opens f v es m (with_instance b 0 v (at.Reduction r)) m (with_instance b 0 v (at.Reduction r))
+  stopped alike = all_left opens f v m (with_instance b 0 v (at.Reduction r)) es (follows_applied opens f b v r h on room)
       (λ x c. (stale_alike f (changed r b.problem) (at.Reduction r) x es alike c stale_then, noted_alike (changed r b.problem) m (at.Reduction r) x es alike c noted_then))
 
 pub row_stopped : (opens : Open) (f : Sparse) (v : ℕ) (n m : Marks) (b c : Ledger) (r : Reduction) (es : List Instance) → Follows opens f b → IsFresh f b.problem (at.Reduction r) → enabled_on b.problem (at.Reduction r) ≡ true → shares_reading (rule_of r) ≡ true → length b.history < b.limit
-    → c ≡ with_instance b (at.Reduction r) → AreNoted b.problem c.problem n.noted m.noted → ReadAlike (at.Reduction r) es → Passed opens f v es m c m c
+    → c ≡ with_instance b 0 v (at.Reduction r) → AreNoted b.problem c.problem n.noted m.noted → ReadAlike (at.Reduction r) es → Passed opens f v es m c m c
 row_stopped opens f v n m b c r es h fresh on shares room is noted alike =
     subst (λ (x : Ledger). Passed opens f v es m x m x) (sym is) (stopped opens f v n m b r es h fresh on shares room (subst (λ (x : Ledger). AreNoted b.problem x.problem n.noted m.noted) is noted) alike)
 

@@ -86,20 +86,20 @@ record GoesTo (opens : Open) (f : Sparse) (b c : Ledger) : Type 0 where
   numbers : c.numbers ≡ b.numbers
 
 module _ (opens : Open) (f : Sparse) (b : Ledger) (h : Follows opens f b) where
-  goes_on : (e : Instance) → enabled_on b.problem e ≡ true → IsOpen b (proposal_of f 0 e) → GoesTo opens f b (with_instance b e)
-  goes_on (at.Verdict v) on k = record { follows = record { later = h.later; counted = h.counted; short = h.short; sparse = h.sparse; size = h.size; moves = h.moves }; moved = λ ps x. x; numbers = refl }
-  goes_on (at.Reduction r) on k = record { follows = follows_applied opens f b r h on k.room; moved = λ ps (a, c, l). (a, c, by a l); numbers = refl }
+  goes_on : (v : ℕ) (e : Instance) → enabled_on b.problem e ≡ true → IsOpen b (proposal_of f v e) → GoesTo opens f b (with_instance b 0 v e)
+  goes_on v (at.Verdict x) on k = record { follows = record { later = h.later; counted = h.counted; short = h.short; sparse = h.sparse; size = h.size; moves = h.moves }; moved = λ ps x. x; numbers = refl }
+  goes_on v (at.Reduction r) on k = record { follows = follows_applied opens f b v r h on k.room; moved = λ ps (a, c, l). (a, c, by a l); numbers = refl }
     where
       by : (a : Part) → changes_of f a < changes_of b.problem a → changes_of f a < changes_of (changed r b.problem) a
       by a l = still_moved f b.problem (changed r b.problem) a (length b.history) (h.counted a) (let room : length b.history < b.limit = k.room in omega (arith, room, h.short)) l (moved b.problem (changed r b.problem) a (counted_changed b.problem r h.sparse on a))
 
-  goes_to : (v : ℕ) (e : Instance) (o : Outcome) → enabled_on f e ≡ true → o ≢ NoMemory → Allows b (proposal_of f v e) o → GoesTo opens f b (left_by b (proposal_of f v e) o)
+  goes_to : (v : ℕ) (e : Instance) (o : Outcome) → enabled_on f e ≡ true → o ≢ NoMemory → Allows b (proposal_of f v e) o → GoesTo opens f b (left_by b 0 (proposal_of f v e) o)
   goes_to v e o on n a = by (left_how b (proposal_of f v e) o a)
     where
-      by : (left_by b (proposal_of f v e) o ≡ b) ⊎ (IsOpen b (proposal_of f v e) × Fits e b.problem × CanWrite b e) → GoesTo opens f b (left_by b (proposal_of f v e) o)
+      by : (left_by b 0 (proposal_of f v e) o ≡ b) ⊎ (IsOpen b (proposal_of f v e) × Fits e b.problem × CanWrite b e) → GoesTo opens f b (left_by b 0 (proposal_of f v e) o)
       by (inl same) = subst (GoesTo opens f b) (sym same) (record { follows = h; moved = λ ps x. x; numbers = refl })
       by (inr k) = subst (GoesTo opens f b) (sym (left_open b (proposal_of f v e) o n a k.0 k.1 k.2))
-          (goes_on e (fresh_enables f b.problem e k.0.agrees ∙ on) (record { undecided = k.0.undecided; room = k.0.room; agrees = k.0.agrees }))
+          (goes_on v e (fresh_enables f b.problem e k.0.agrees ∙ on) k.0)
 
 -- ---- lists of proposals
 proposals_with : (f : Sparse) (v : ℕ) (e : Instance) (es : List Instance) → enabled_on f e ≡ true → proposals f v (e ∷ es) ≡ proposal_of f v e ∷ proposals f v es
@@ -113,7 +113,7 @@ abbrev pub IsIdle : Sparse → Ledger → Instance → Type 0
 IsIdle f b e = HasMoved f b.problem (reads f e) ⊎ RestsOnReading b.numbers f e
 
 abbrev StaysBy : Ledger → Proposed → Type 0
-StaysBy b p = (o : Outcome) × (o ≢ NoMemory) × Allows b p o × (left_by b p o ≡ b)
+StaysBy b p = (o : Outcome) × (o ≢ NoMemory) × Allows b p o × (left_by b 0 p o ≡ b)
 
 module _ (f : Sparse) (v : ℕ) (b : Ledger) where
   -- its numbers are refused, if a verdict or the limit does not come first
@@ -157,7 +157,7 @@ module _ (opens : Open) (f : Sparse) (v : ℕ) (c : Ledger) (keep : Instance →
   committed_more (e ∷ es) b h out k = by (committed_more es) (keep e) refl (enabled_on f e) refl k
     where
       met : More es → enabled_on f e ≡ true → Committed b (proposal_of f v e ∷ proposals f v (filter keep es)) c → Committed b (proposal_of f v e ∷ proposals f v es) c
-      met more on (o, n, a, rest) = let g = goes_to opens f b h v e o on n a in (o, n, a, more (left_by b (proposal_of f v e) o) g.follows (left_out_on es b (left_by b (proposal_of f v e) o) g (behind_out e es b out)) rest)
+      met more on (o, n, a, rest) = let g = goes_to opens f b h v e o on n a in (o, n, a, more (left_by b 0 (proposal_of f v e) o) g.follows (left_out_on es b (left_by b 0 (proposal_of f v e) o) g (behind_out e es b out)) rest)
 
       over : Committed b (proposals f v es) c → IsIdle f b e → Committed b (proposal_of f v e ∷ proposals f v es) c
       over rest m = let r = idle_stays f v b e h.later m in (r.0, r.1, r.2, subst (λ (x : Ledger). Committed x (proposals f v es) c) (sym r.3) rest)
@@ -277,6 +277,30 @@ passed_beside opens f v es fs n m b c h same among by_value noted k = record {
         by : IsTracked n (es ++ rest) b x → IsTracked n (fs ++ rest) b x
         by (inl a) = inl a
         by (inr c) = behind (Contains-append_cases es rest x c)
+
+-- ---- those that are enabled on f in place of all, where the present problem is f
+twice : (P : Instance → Bool) (es : List Instance) → filter P (filter P es) ≡ filter P es
+twice P [] = refl
+twice P (e ∷ es) = by (P e) refl (twice P es)
+  where
+    by : (t : Bool) → P e ≡ t → filter P (filter P es) ≡ filter P es → filter P (if t then e ∷ filter P es else filter P es) ≡ (if t then e ∷ filter P es else filter P es)
+    by true on ih = ap (λ (s : Bool). if s then e ∷ filter P (filter P es) else filter P (filter P es)) on ∙ ap (λ (xs : List Instance). e ∷ xs) ih
+    by false on ih = ih
+
+pub passed_listed : (opens : Open) (f : Sparse) (v : ℕ) (es : List Instance) (n m : Marks) (b c : Ledger) → b.problem ≡ f → Passed opens f v (filter (enabled_on f) es) n b m c → Passed opens f v es n b m c
+passed_listed opens f v es n m b c here k = record {
+  book = k.book;
+  before = k.before;
+  committed = subst (λ (xs : List Instance). Committed b (map (proposal_of f v) xs) c) (twice (enabled_on f) es) k.committed;
+  follows = k.follows;
+  tracks = λ rest t. k.tracks rest (λ none room e on free. by rest e (ap (λ (p : Sparse). enabled_on p e) (sym here) ∙ on) (t none room e on free));
+  moved = k.moved;
+  grows = k.grows;
+}
+  where
+    by : (rest : List Instance) (e : Instance) → enabled_on f e ≡ true → IsTracked n (es ++ rest) b e → IsTracked n (filter (enabled_on f) es ++ rest) b e
+    by rest e on (inl marked) = inl marked
+    by rest e on (inr among) = inr (passes_still (enabled_on f) es rest e on among)
 
 -- ---- of some of which none is enabled any more
 pub passed_gone : (opens : Open) (f : Sparse) (v : ℕ) (n : Marks) (b : Ledger) → Follows opens f b → (es : List Instance) → ((x : Instance) → Contains es x → enabled_on b.problem x ≡ true → ⊥) → Passed opens f v es n b n b

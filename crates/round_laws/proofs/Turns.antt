@@ -107,8 +107,8 @@ moves_applied opens f b r h on room j side = by (open_cases r b.tally j side) (h
     by (inl same) (inr l) = inr (still l (moved b.problem (changed r b.problem) (part.Bounds j) (counted_changed b.problem r h.sparse on (part.Bounds j))))
     by (inr tightens) x = inr (above (h.later (part.Bounds j)) (risen_by tightens))
 
-pub follows_applied : (opens : Open) (f : Sparse) (b : Ledger) (r : Reduction) → Follows opens f b → enabled_on b.problem (at.Reduction r) ≡ true → length b.history < b.limit → Follows opens f (with_instance b (at.Reduction r))
-follows_applied opens f b r h on room =
+pub follows_applied : (opens : Open) (f : Sparse) (b : Ledger) (v : ℕ) (r : Reduction) → Follows opens f b → enabled_on b.problem (at.Reduction r) ≡ true → length b.history < b.limit → Follows opens f (with_instance b 0 v (at.Reduction r))
+follows_applied opens f b v r h on room =
     let moves : (a : Part) → Moved b.problem (changed r b.problem) a = λ a. moved b.problem (changed r b.problem) a (counted_changed b.problem r h.sparse on a) in
     let long : length (b.history ++ r ∷ []) ≡ length b.history + 1 = length-append b.history (r ∷ []) in
     let size : SameSize b.problem (changed r b.problem) = same_size b.problem r in
@@ -170,13 +170,13 @@ module _ (opens : Open) (f : Sparse) (v : ℕ) (n m : Marks) (b : Ledger) (h : F
   -- a reduction is applied
   met_applied : (r : Reduction) → enabled_on b.problem (at.Reduction r) ≡ true → b.verdict ≡ None → length b.history < b.limit → AreNoted b.problem (changed r b.problem) n.noted m.noted → AreStirred b.problem (changed r b.problem) n m
       → IsNoted (changed r b.problem) (parts_for m (reach_of (rule_at (at.Reduction r)))) (at.Reduction r)
-      → Committed b (proposals f v (at.Reduction r ∷ [])) (with_instance b (at.Reduction r)) → Passed opens f v (at.Reduction r ∷ []) n b m (with_instance b (at.Reduction r))
+      → Committed b (proposals f v (at.Reduction r ∷ [])) (with_instance b 0 v (at.Reduction r)) → Passed opens f v (at.Reduction r ∷ []) n b m (with_instance b 0 v (at.Reduction r))
   met_applied r on none room noted stirred own k = record {
     book = record { start = refl; numbers = refl; limit = refl };
     before = h;
     committed = k;
-    follows = follows_applied opens f b r h on room;
-    tracks = λ rest t. tracks_marked m (at.Reduction r) rest (with_instance b (at.Reduction r)) (tracks_changed n m (at.Reduction r ∷ rest) b (with_instance b (at.Reduction r)) noted stirred refl kept.asleep (open_before r b.tally) none room t) (inl own);
+    follows = follows_applied opens f b v r h on room;
+    tracks = λ rest t. tracks_marked m (at.Reduction r) rest (with_instance b 0 v (at.Reduction r)) (tracks_changed n m (at.Reduction r ∷ rest) b (with_instance b 0 v (at.Reduction r)) noted stirred refl kept.asleep (open_before r b.tally) none room t) (inl own);
     moved = λ a. by a (noted.changed a);
     grows = kept;
   }
@@ -186,7 +186,7 @@ module _ (opens : Open) (f : Sparse) (v : ℕ) (n m : Marks) (b : Ledger) (h : F
       by a (inr c) = inr c
 
   -- a verdict is applied
-  met_verdict : (x : Verdict) → Committed b (proposals f v (at.Verdict x ∷ [])) (with_instance b (at.Verdict x)) → Passed opens f v (at.Verdict x ∷ []) n b m (with_instance b (at.Verdict x))
+  met_verdict : (x : Verdict) → Committed b (proposals f v (at.Verdict x ∷ [])) (with_instance b 0 v (at.Verdict x)) → Passed opens f v (at.Verdict x ∷ []) n b m (with_instance b 0 v (at.Verdict x))
   met_verdict x k = record {
     book = record { start = refl; numbers = refl; limit = refl };
     before = h;
@@ -206,37 +206,37 @@ module _ (opens : Open) (f : Sparse) (v : ℕ) (n m : Marks) (b : Ledger) (h : F
   abbrev count : List Part
   count = parts_for m (reach_of (rule_at e))
 
-  met_by : (o : Outcome) → o ≢ NoMemory → Allows b (proposal_of b.problem v e) o → AreNoted b.problem (left_by b (proposal_of b.problem v e) o).problem n.noted m.noted
-      → AreStirred b.problem (left_by b (proposal_of b.problem v e) o).problem n m → Grows n m → (a : Part) → Contains (heads e) a → Contains count a → Passed opens f v (e ∷ []) n b m (left_by b (proposal_of b.problem v e) o)
-  met_by (Closed x) mem ok noted stirred kept a own c = met_still opens f v n m b h kept e (inl (noted_head b.problem count e a own c)) (passed_at f b v v e (Closed x) fresh on mem ok)
-  met_by Full mem ok noted stirred kept a own c = met_still opens f v n m b h kept e (inl (noted_head b.problem count e a own c)) (passed_at f b v v e Full fresh on mem ok)
-  met_by (Stale k) mem ok noted stirred kept a own c = met_still opens f v n m b h kept e (inl (noted_head b.problem count e a own c)) (passed_at f b v v e (Stale k) fresh on mem ok)
-  met_by Past mem ok noted stirred kept a own c = met_still opens f v n m b h kept e (inl (noted_head b.problem count e a own c)) (passed_at f b v v e Past fresh on mem ok)
-  met_by NotDecimal mem ok noted stirred kept a own c = met_still opens f v n m b h kept e (inl (noted_head b.problem count e a own c)) (passed_at f b v v e NotDecimal fresh on mem ok)
+  met_by : (o : Outcome) → o ≢ NoMemory → Allows b (proposal_of b.problem v e) o → AreNoted b.problem (left_by b 0 (proposal_of b.problem v e) o).problem n.noted m.noted
+      → AreStirred b.problem (left_by b 0 (proposal_of b.problem v e) o).problem n m → Grows n m → (a : Part) → Contains (heads e) a → Contains count a → Passed opens f v (e ∷ []) n b m (left_by b 0 (proposal_of b.problem v e) o)
+  met_by (Closed x) mem ok noted stirred kept a own c = met_still opens f v n m b h kept e (inl (noted_head b.problem count e a own c)) (passed_at f b v e (Closed x) fresh on mem ok)
+  met_by Full mem ok noted stirred kept a own c = met_still opens f v n m b h kept e (inl (noted_head b.problem count e a own c)) (passed_at f b v e Full fresh on mem ok)
+  met_by (Stale k) mem ok noted stirred kept a own c = met_still opens f v n m b h kept e (inl (noted_head b.problem count e a own c)) (passed_at f b v e (Stale k) fresh on mem ok)
+  met_by Past mem ok noted stirred kept a own c = met_still opens f v n m b h kept e (inl (noted_head b.problem count e a own c)) (passed_at f b v e Past fresh on mem ok)
+  met_by NotDecimal mem ok noted stirred kept a own c = met_still opens f v n m b h kept e (inl (noted_head b.problem count e a own c)) (passed_at f b v e NotDecimal fresh on mem ok)
   met_by (Applied k) mem ok noted stirred kept a own c = by e fresh on ok noted stirred own c
     where
-      by : (e : Instance) → IsFresh f b.problem e → enabled_on b.problem e ≡ true → Allows b (proposal_of b.problem v e) (Applied k) → AreNoted b.problem (with_instance b e).problem n.noted m.noted
-          → AreStirred b.problem (with_instance b e).problem n m → Contains (heads e) a → Contains (parts_for m (reach_of (rule_at e))) a → Passed opens f v (e ∷ []) n b m (with_instance b e)
+      by : (e : Instance) → IsFresh f b.problem e → enabled_on b.problem e ≡ true → Allows b (proposal_of b.problem v e) (Applied k) → AreNoted b.problem (with_instance b 0 v e).problem n.noted m.noted
+          → AreStirred b.problem (with_instance b 0 v e).problem n m → Contains (heads e) a → Contains (parts_for m (reach_of (rule_at e))) a → Passed opens f v (e ∷ []) n b m (with_instance b 0 v e)
       by (at.Reduction r) fresh on ok noted stirred own c = met_applied opens f v n m b h kept r on ok.0.undecided ok.0.room noted stirred (noted_head (changed r b.problem) (parts_for m (reach_of (rule_at (at.Reduction r)))) (at.Reduction r) a own c)
-          (passed_at f b v v (at.Reduction r) (Applied k) fresh on mem ok)
-      by (at.Verdict x) fresh on ok noted stirred own c = met_verdict opens f v n m b h kept x (passed_at f b v v (at.Verdict x) (Applied k) fresh on mem ok)
+          (passed_at f b v (at.Reduction r) (Applied k) fresh on mem ok)
+      by (at.Verdict x) fresh on ok noted stirred own c = met_verdict opens f v n m b h kept x (passed_at f b v (at.Verdict x) (Applied k) fresh on mem ok)
   met_by NoMemory mem ok noted stirred kept a own c = absurd (mem refl)
 
   -- it is refused for a number, and sleeps
   asleep_by : (o : Outcome) → is_refusal o ≡ true → rests_on_reading (rule_at e) ≡ true → Allows b (proposal_of b.problem v e) o → Grows n m → (a : Part) → Contains (heads e) a → Contains m.asleep a
-      → Passed opens f v (e ∷ []) n b m (left_by b (proposal_of b.problem v e) o)
+      → Passed opens f v (e ∷ []) n b m (left_by b 0 (proposal_of b.problem v e) o)
   asleep_by (Closed x) refused rests ok kept a own c = absurd (true≢false (sym refused))
   asleep_by Full refused rests ok kept a own c = absurd (true≢false (sym refused))
   asleep_by (Stale k) refused rests ok kept a own c = absurd (true≢false (sym refused))
   asleep_by Past refused rests ok kept a own c =
-      met_still opens f v n m b h kept e (inr (record { told = noted_head b.problem m.asleep e a own c; rests = past_rests b e v rests on ok; by_ends = sleepers_read_ends (rule_at e) rests })) (passed_at f b v v e Past fresh on (λ x. cc) ok)
+      met_still opens f v n m b h kept e (inr (record { told = noted_head b.problem m.asleep e a own c; rests = past_rests b e v rests on ok; by_ends = sleepers_read_ends (rule_at e) rests })) (passed_at f b v e Past fresh on (λ x. cc) ok)
   asleep_by NotDecimal refused rests ok kept a own c =
-      met_still opens f v n m b h kept e (inr (record { told = noted_head b.problem m.asleep e a own c; rests = not_decimal_rests b e v rests on ok; by_ends = sleepers_read_ends (rule_at e) rests })) (passed_at f b v v e NotDecimal fresh on (λ x. cc) ok)
+      met_still opens f v n m b h kept e (inr (record { told = noted_head b.problem m.asleep e a own c; rests = not_decimal_rests b e v rests on ok; by_ends = sleepers_read_ends (rule_at e) rests })) (passed_at f b v e NotDecimal fresh on (λ x. cc) ok)
   asleep_by (Applied k) refused rests ok kept a own c = absurd (true≢false (sym refused))
   asleep_by NoMemory refused rests ok kept a own c = absurd (true≢false (sym refused))
 
 pub met : (opens : Open) (f : Sparse) (v : ℕ) (n m : Marks) (b c : Ledger) (e : Instance) (o : Outcome) (a : Part) → Follows opens f b → IsFresh f b.problem e → enabled_on b.problem e ≡ true → o ≢ NoMemory → Allows b (proposal_of b.problem v e) o
-    → c ≡ left_by b (proposal_of b.problem v e) o → AreNoted b.problem c.problem n.noted m.noted → AreStirred b.problem c.problem n m → ((x : Part) → Contains n.asleep x → Contains m.asleep x)
+    → c ≡ left_by b 0 (proposal_of b.problem v e) o → AreNoted b.problem c.problem n.noted m.noted → AreStirred b.problem c.problem n m → ((x : Part) → Contains n.asleep x → Contains m.asleep x)
     → Contains (heads e) a → Contains (parts_for m (reach_of (rule_at e))) a → Passed opens f v (e ∷ []) n b m c
 met opens f v n m b c e o a h fresh on mem ok left noted stirred sleeps own there =
     subst (λ (x : Ledger). Passed opens f v (e ∷ []) n b m x) (sym left)
@@ -244,6 +244,6 @@ met opens f v n m b c e o a h fresh on mem ok left noted stirred sleeps own ther
     (record { noted = noted.kept; stirred = stirred.stirred.kept; roused = stirred.roused.kept; asleep = sleeps }) a own there)
 
 pub met_asleep : (opens : Open) (f : Sparse) (v : ℕ) (n m : Marks) (b c : Ledger) (e : Instance) (o : Outcome) (a : Part) → Follows opens f b → IsFresh f b.problem e → enabled_on b.problem e ≡ true → is_refusal o ≡ true → rests_on_reading (rule_at e) ≡ true
-    → Allows b (proposal_of b.problem v e) o → c ≡ left_by b (proposal_of b.problem v e) o → Grows n m → Contains (heads e) a → Contains m.asleep a → Passed opens f v (e ∷ []) n b m c
+    → Allows b (proposal_of b.problem v e) o → c ≡ left_by b 0 (proposal_of b.problem v e) o → Grows n m → Contains (heads e) a → Contains m.asleep a → Passed opens f v (e ∷ []) n b m c
 met_asleep opens f v n m b c e o a h fresh on refused rests ok left kept own there =
     subst (λ (x : Ledger). Passed opens f v (e ∷ []) n b m x) (sym left) (asleep_by opens f v n m b h e fresh on o refused rests ok kept a own there)

@@ -31,7 +31,7 @@ MetIsPassed = (opens : Open) (f : Sparse) (v : ℕ) (n m : Marks) (b c : Ledger)
     → enabled_on b.problem e ≡ true
     → o ≢ NoMemory
     → Allows b (proposal_of b.problem v e) o
-    → c ≡ left_by b (proposal_of b.problem v e) o
+    → c ≡ left_by b 0 (proposal_of b.problem v e) o
     → AreNoted b.problem c.problem n.noted m.noted
     → AreStirred b.problem c.problem n m
     → ((x : Part) → Contains n.asleep x → Contains m.asleep x)
@@ -48,7 +48,7 @@ SleeperIsPassed = (opens : Open) (f : Sparse) (v : ℕ) (n m : Marks) (b c : Led
     → is_refusal o ≡ true
     → rests_on_reading (rule_at e) ≡ true
     → Allows b (proposal_of b.problem v e) o
-    → c ≡ left_by b (proposal_of b.problem v e) o
+    → c ≡ left_by b 0 (proposal_of b.problem v e) o
     → Grows n m
     → Contains (heads e) a
     → Contains m.asleep a
@@ -74,7 +74,7 @@ OthersArePassed = (opens : Open) (f : Sparse) (v : ℕ) (n m : Marks) (b c : Led
     → enabled_on b.problem (at.Reduction r) ≡ true
     → shares_reading (rule_of r) ≡ true
     → length b.history < b.limit
-    → c ≡ with_instance b (at.Reduction r)
+    → c ≡ with_instance b 0 v (at.Reduction r)
     → AreNoted b.problem c.problem n.noted m.noted
     → ReadAlike (at.Reduction r) es
     → Passed opens f v es m c m c

@@ -26,7 +26,7 @@ ghost use Rattle.round_laws.specs.Turning.{MetIsPassed, OthersArePassed, PassMar
 
 /// A stale proposal changes nothing. What is fresh is answered as its instance's reading of the present problem is.
 pub fn commits_are_met()
-    ensures stale { (b : Ledger) (p : Proposed) (o : Outcome) → (Agrees b.problem p.reading → ⊥) → Allows b p o → left_by b p o ≡ b }
+    ensures stale { (b : Ledger) (p : Proposed) (o : Outcome) → (Agrees b.problem p.reading → ⊥) → Allows b p o → left_by b 0 p o ≡ b }
     ensures fresh { (f : Sparse) (b : Ledger) (e : Instance) (v w : ℕ) (o : Outcome) → IsFresh f b.problem e → Allows b (proposal_of b.problem w e) o → Allows b (proposal_of f v e) o }
 {}
 
@@ -34,7 +34,8 @@ pub fn commits_are_met()
 /// problem, and what changes is noted, and stirred or roused where what is seen of it lets more, with a part that it reads. Where it is refused for a
 /// number, and such a refusal rests on what it reads, it may be put to sleep in place of that. Those of a rule's instances with a first id are
 /// met that are enabled on the present problem. Where each part that has changed since the round began is noted, those may be left out that were
-/// not enabled then. Passes follow one after another.
+/// not enabled then. While the problem is still the one with which the round began, a pass over those that are enabled is one over all. Passes
+/// follow one after another.
 pub fn turns_pass()
     ensures over { (opens : Open) (f : Sparse) (v : ℕ) (e : Instance) (n : Marks) (b : Ledger) → Follows opens f b → (enabled_on b.problem e ≡ true → ⊥) → Passed opens f v (e ∷ []) n b n b }
     ensures stale { (opens : Open) (f : Sparse) (v : ℕ) (n m : Marks) (b : Ledger) (e : Instance) (a : Part) → Follows opens f b → (IsFresh f b.problem e → ⊥) → Grows n m → Contains (heads e) a → Contains (parts_for m (reach_of (rule_at e))) a → Passed opens f v (e ∷ []) n b m b }
@@ -42,6 +43,7 @@ pub fn turns_pass()
     ensures asleep { SleeperIsPassed }
     ensures found { (opens : Open) (f : Sparse) (v : ℕ) (r : Rule) (k : ℕ) (n m : Marks) (b c : Ledger) → Follows opens f b → Passed opens f v (filter (enabled_on b.problem) (instances_from (open_on b.tally) b.problem r k)) n b m c → Passed opens f v (instances_from opens f r k) n b m c }
     ensures beside { RestIsPassed }
+    ensures listed { (opens : Open) (f : Sparse) (v : ℕ) (es : List Instance) (n m : Marks) (b c : Ledger) → b.problem ≡ f → Passed opens f v (filter (enabled_on f) es) n b m c → Passed opens f v es n b m c }
     ensures more { (opens : Open) (f : Sparse) (v : ℕ) (es fs : List Instance) (n m k : Marks) (b c d : Ledger) → Passed opens f v es n b m c → Passed opens f v fs m c k d → Passed opens f v (es ++ fs) n b k d }
 {}
 

@@ -1,5 +1,5 @@
 -- What is watched after a commit.
-use Rattle.std.proofs.Common.{◌≡◌, ◌⊎◌, inl, inr, ◌-◌, ◌≤◌, List, [], ◌∷◌, ◌++◌, length, get_or, take, drop, refl, sym, ap, ◌∙◌, subst, arith, append_assoc}
+use Rattle.std.proofs.Common.{◌≡◌, ◌⊎◌, inl, inr, ℕ, ◌-◌, ◌≤◌, List, [], ◌∷◌, ◌++◌, length, get_or, take, drop, refl, sym, ap, ◌∙◌, subst, arith, append_assoc}
 use Rattle.std.proofs.lemmas.List.{append-nil}
 use Rattle.std.specs.List.{Contains}
 use Rattle.std.proofs.lemmas.List.Elements.{Contains-append_left, Contains-append_right}
@@ -26,17 +26,17 @@ use Rattle.round_marks.proofs.Reforming.{cost_refl, cost_sound, pairs_refl, pair
 size_here : (p : Sparse) → SameSize p p
 size_here p = record { rows = refl; columns = refl; constant = refl }
 
-size_with : (b : Ledger) (e : Instance) → SameSize b.problem (with_instance b e).problem
-size_with b (at.Reduction r) = same_size b.problem r
-size_with b (at.Verdict v) = size_here b.problem
+size_with : (b : Ledger) (v : ℕ) (e : Instance) → SameSize b.problem (with_instance b 0 v e).problem
+size_with b v (at.Reduction r) = same_size b.problem r
+size_with b v (at.Verdict x) = size_here b.problem
 
-pub size_left : (b : Ledger) (p : Proposed) (o : Outcome) → SameSize b.problem (left_by b p o).problem
+pub size_left : (b : Ledger) (p : Proposed) (o : Outcome) → SameSize b.problem (left_by b 0 p o).problem
 size_left b p (Closed v) = size_here b.problem
 size_left b p Full = size_here b.problem
 size_left b p (Stale k) = size_here b.problem
 size_left b p Past = size_here b.problem
 size_left b p NotDecimal = size_here b.problem
-size_left b p (Applied k) = size_with b p.instance
+size_left b p (Applied k) = size_with b p.version p.instance
 size_left b p NoMemory = size_here b.problem
 
 -- ---- what is noted, stirred, and the forms

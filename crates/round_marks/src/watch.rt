@@ -162,7 +162,7 @@ impl Watch {
         requires forms { AreFormsOf self.old.forms book.old.problem }
         ensures answered { IfOk result (λ outcome. outcome ≢ NoMemory) }
         ensures outcome { IfOk result (λ outcome. Allows book.old (proposal_of book.old.problem version instance) outcome) }
-        ensures left { IfOk result (λ outcome. book.new ≡ left_by book.old (proposal_of book.old.problem version instance) outcome) }
+        ensures left { IfOk result (λ outcome. book.new ≡ left_by book.old 0 (proposal_of book.old.problem version instance) outcome) }
         ensures noted { OnOk result (AreNoted book.old.problem book.new.problem self.old.marks.noted self.new.marks.noted) }
         ensures stirred { OnOk result (AreStirred book.old.problem book.new.problem self.old.marks self.new.marks) }
         ensures asleep { OnOk result (self.new.marks.asleep ≡ self.old.marks.asleep) }

@@ -1,10 +1,8 @@
 -- What is concluded of a program is one.
-use Rattle.std.proofs.Common.{◌≡◌, Bool, ℕ, List, [], ◌∷◌, true, Option, Some, None, length, replicate, sym, refl, ap, ap₂, ◌∙◌, subst}
+use Rattle.std.proofs.Common.{◌≡◌, Bool, ℕ, List, [], ◌∷◌, true, Option, Some, None, sym, refl, ap, ap₂, ◌∙◌, subst}
 use Rattle.lp_model.specs.ProgramData.{ProgramData}
 use Rattle.undo_records.specs.declared.label.Label.{Label}
-use Rattle.undo_records.specs.declared.undo.Undo.{Undo}
 use Rattle.undo_records.specs.Postsolve.{Postsolve}
-use Rattle.undo_records.specs.Transactions.{untold}
 use Rattle.undo_records.specs.Walk.{lives}
 use Rattle.problem_model.specs.Programs.{written_program}
 use Rattle.problem_model.specs.Sparse.{Sparse}
@@ -52,7 +50,7 @@ told_same dual program b t u x y =
     let e4 = x.offset ∙ sym y.offset in
     let e5 = x.undos ∙ sym y.undos in
     let e6 = x.duals ∙ sym y.duals in
-    let e7 = x.untold ∙ ap (λ (us : List Undo). replicate (length us) untold) e5 ∙ sym y.untold in
+    let e7 = x.transactions ∙ sym y.transactions in
     λ i. record { sense = e1 i; duals = e6 i; columns = e2 i; rows = e3 i; offset = e4 i; undos = e5 i; transactions = e7 i }
 
 some_same : (e f : End) → Some e ≡ Some f → e ≡ f

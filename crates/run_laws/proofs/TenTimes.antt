@@ -116,8 +116,8 @@ fewer b r j side tally free (i, e) =
     let same : count_on b.tally j side ≡ min (tightenings b.records j side) 10 = tally j side in
     omega (arith, l, same)
 
-within_more : (b : Ledger) (r : Reduction) → IsWithinTen b → enabled_on b.problem (at.Reduction r) ≡ true → is_open (open_on b.tally) (at.Reduction r) ≡ true → IsWithinTen (with_instance b (at.Reduction r))
-within_more b r k on free = record {
+within_more : (b : Ledger) (v : ℕ) (r : Reduction) → IsWithinTen b → enabled_on b.problem (at.Reduction r) ≡ true → is_open (open_on b.tally) (at.Reduction r) ≡ true → IsWithinTen (with_instance b 0 v (at.Reduction r))
+within_more b v r k on free = record {
   counts = tallied_long r b.tally (length (changed r b.problem).matrix.columns) (subst (λ (n : ℕ). AreCountsOf n b.tally) (sym (same_size b.problem r).columns) k.counts);
   tally = records_tallied b.problem r b.tally b.records on k.counts k.tally;
   most = λ j side. most_one b.records (record_of r b.problem) j side (k.most j side) (λ t. fewer b r j side k.tally free (record_tightens b.problem r j side t));
@@ -151,10 +151,10 @@ module _ (opens : Open) (f : Sparse) where
   abbrev Holds : Ledger → Type 0
   Holds b = Follows opens f b × IsWithinTen b
 
-  applied : (b : Ledger) (e : Instance) (p : Proposed) → p.instance ≡ e → Holds b → is_open opens e ≡ true → enabled_on f e ≡ true → IsOpen b p → IsFresh f b.problem e → Holds (with_instance b e)
+  applied : (b : Ledger) (e : Instance) (p : Proposed) → p.instance ≡ e → Holds b → is_open opens e ≡ true → enabled_on f e ≡ true → IsOpen b p → IsFresh f b.problem e → Holds (with_instance b 0 p.version e)
   applied b (at.Reduction r) p is (h, k) free on o fresh =
       let now : enabled_on b.problem (at.Reduction r) ≡ true = fresh_enables f b.problem (at.Reduction r) fresh ∙ on in
-      (follows_applied opens f b r h now (has_room p is o), within_more b r k now (open_still b r h free on fresh))
+      (follows_applied opens f b p.version r h now (has_room p is o), within_more b p.version r k now (open_still b r h free on fresh))
     where
       has_room : (p : Proposed) → p.instance ≡ at.Reduction r → IsOpen b p → length b.history < b.limit
       has_room p is o = subst (λ (x : Instance). HasRoom b x) is o.room
@@ -163,7 +163,7 @@ module _ (opens : Open) (f : Sparse) where
     record { counts = k.counts; tally = k.tally; most = k.most },
   )
 
-  step : (b : Ledger) (p : Proposed) (o : Outcome) → Holds b → IsFound p → Allows b p o → Holds (left_by b p o)
+  step : (b : Ledger) (p : Proposed) (o : Outcome) → Holds b → IsFound p → Allows b p o → Holds (left_by b 0 p o)
   step b p (Applied k) h found a = applied b p.instance p refl h found.free found.on a.0 (subst (Agrees b.problem) found.read a.0.agrees)
   step b p (Closed v) h found a = h
   step b p Full h found a = h
@@ -174,7 +174,7 @@ module _ (opens : Open) (f : Sparse) where
 
   steps : (b c : Ledger) (ps : List Proposed) → Holds b → All IsFound ps → Committed b ps c → Holds c
   steps b c [] h all e = subst Holds (sym e) h
-  steps b c (p ∷ ps) h all (o, answered, a, rest) = steps (left_by b p o) c ps (step b p o h (All-head IsFound p ps all) a) (All-tail IsFound p ps all) rest
+  steps b c (p ∷ ps) h all (o, answered, a, rest) = steps (left_by b 0 p o) c ps (step b p o h (All-head IsFound p ps all) a) (All-tail IsFound p ps all) rest
 
   -- ---- what a round lists is found
   found_each : (v : ℕ) (es : List Instance) → ((e : Instance) → Contains es e → is_open opens e ≡ true) → All IsFound (map (proposal_of f v) (filter (enabled_on f) es))

@@ -5,6 +5,7 @@
 ghost use Rattle.std.specs.Prelude.{◌≡◌, ◌≢◌, ◌<◌, ◌≤◌, ◌^◌, ℕ, Bool, List, length, None, Some, Option, AllPairs};
 ghost use Rattle.lp_model.specs.ProgramData.{ProgramData};
 ghost use Rattle.lp_model.specs.Writable.{EntriesAscend, Writable};
+ghost use Rattle.undo_records.specs.Named.{AreTold};
 ghost use Rattle.undo_records.specs.Postsolve.{Postsolve};
 ghost use Rattle.undo_records.specs.declared.side.Side.{Side};
 ghost use Rattle.undo_records.specs.Walk.{AreSound};
@@ -38,11 +39,12 @@ pub fn conclusions_are_one()
     ensures apart { (options : Options) (v w : Workers) (program r : ProgramData) (t : Postsolve) (e : End) (h : List Reduction) (x : Verdict) → IsInOrder v → IsInOrder w → Concluded options v program r t e → Decided options w program h x → ⊥ }
 {}
 
-/// What a book that was opened with a program's problem says of the program: what is told of it walks, the written program is sparse and
+/// What a book that was opened with a program's problem says of the program: what is told of it walks, each record has its transaction, the written program is sparse and
 /// can be written, and with a verdict, where a run that is in order ended so, the program is decided.
 pub fn books_tell()
     ensures walked { (dual : Bool) (program : ProgramData) (b : Ledger) (told : Postsolve) → IsProblemOf program b.start → Stands b → IsToldOf dual program b told → Walked b.numbers program (written_program program b.problem) told }
     ensures sound { (dual : Bool) (program : ProgramData) (b : Ledger) (told : Postsolve) → IsProblemOf program b.start → Stands b → IsToldOf dual program b told → AreSound told }
+    ensures told { (dual : Bool) (program : ProgramData) (b : Ledger) (told : Postsolve) → IsProblemOf program b.start → Stands b → IsToldOf dual program b told → AreTold told }
     ensures ascends { (program : ProgramData) (b : Ledger) → IsProblemOf program b.start → Stands b → EntriesAscend (written_program program b.problem) }
     ensures writable { (program : ProgramData) (b : Ledger) → Writable b.numbers program → IsProblemOf program b.start → Stands b → IsUndecided b.problem → Writable b.numbers (written_program program b.problem) }
     ensures decided { (dual : Bool) (workers : Workers) (program : ProgramData) (b : Ledger) (v : Verdict) → IsProblemOf program b.start → Stands b → b.verdict ≡ Some v → (IsInOrder workers → RunsTo (options_of dual b) program None b) → Decided (options_of dual b) workers program b.history v }

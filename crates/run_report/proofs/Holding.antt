@@ -61,7 +61,7 @@ each_held o b found h is = subst (λ (es : List Instance). All (HoldsBack b) es)
     over es within k d lt = let l = listed_open (open_on b.tally) b.problem reduction_order _ (within _ (Contains-get_or es k d lt)) in ended_holds o b h _ l.0 l.1
 
 -- ---- the answer to one that is held back
-pub stays : (b c : Ledger) (w : ℕ) (e : Instance) (o : Outcome) → HoldsBack b e → Allows b (proposal_of b.problem w e) o → c ≡ left_by b (proposal_of b.problem w e) o → c ≡ b
+pub stays : (b c : Ledger) (w : ℕ) (e : Instance) (o : Outcome) → HoldsBack b e → Allows b (proposal_of b.problem w e) o → c ≡ left_by b 0 (proposal_of b.problem w e) o → c ≡ b
 stays b c w e (Closed v) h a l = l
 stays b c w e Full h a l = l
 stays b c w e (Stale k) h a l = l

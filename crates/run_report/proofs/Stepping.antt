@@ -25,7 +25,7 @@ pub same_end_told : (a b : Option Number) (r : Bool) → IsTrue r ↔ (a ≡ b) 
 same_end_told a b r h = same_bools r (same_end a b) (λ t. (same_end-is a b).1 (h.0 t)) (λ t. h.1 ((same_end-is a b).0 t))
 
 -- an answer other than that it was applied leaves the book, to which it can't be
-pub not_stepped : (b c : Ledger) (w : ℕ) (r : Reduction) (o : Outcome) → o ≢ NoMemory → ((k : ℕ) → o ≢ Applied k) → Allows b (proposal_of b.problem w (at.Reduction r)) o → c ≡ left_by b (proposal_of b.problem w (at.Reduction r)) o → Steps b r false c
+pub not_stepped : (b c : Ledger) (w : ℕ) (r : Reduction) (o : Outcome) → o ≢ NoMemory → ((k : ℕ) → o ≢ Applied k) → Allows b (proposal_of b.problem w (at.Reduction r)) o → c ≡ left_by b 0 (proposal_of b.problem w (at.Reduction r)) o → Steps b r false c
 not_stepped b c w r (Closed v) n m a l = (l, λ none room can. absurd (none-some v (sym none ∙ a)))
 not_stepped b c w r Full n m a l = (l, λ none room can. let f = a.1 in absurd (omega (arith, room, f)))
 not_stepped b c w r (Stale k) n m a l = (l, λ none room can. absurd (differs b.problem (reading_of b.problem (at.Reduction r)) k a.2 (reading_agrees b.problem (at.Reduction r))))

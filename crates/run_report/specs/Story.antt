@@ -11,7 +11,7 @@ use Rattle.presolve_model.specs.declared.instance.Instance.TheVariants as at
 use Rattle.presolve_model.specs.declared.instance.Reduction.{Reduction}
 use Rattle.presolve_model.specs.Changes.{changed}
 use Rattle.presolve_model.specs.Commits.{with_instance}
-use Rattle.presolve_model.specs.Ledger.{Ledger}
+use Rattle.presolve_model.specs.Ledger.{instance_count, Ledger}
 use Rattle.presolve_model.specs.Replay.{CanApply, Replays}
 use Rattle.run_report.specs.declared.named.Subject.{Subject}
 use Rattle.run_report.specs.declared.named.Subject.TheVariants.{Row, Column}
@@ -78,9 +78,9 @@ story_text program p (r ∷ rs) [] s = []
 story_text program p (r ∷ rs) (u ∷ us) s = told_of program (view_of p s) (changed r p) r u s ++ story_text program (changed r p) rs us s
 
 -- ---- a reduction that is applied once more
--- to a book that it was applied to; or to one that stays, since a verdict stands, there is no room, or it can't be applied
+-- to a book that it was applied to, as one that was found on the present problem; or to one that stays, since a verdict stands, there is no room, or it can't be applied
 abbrev pub Steps : Ledger → Reduction → Bool → Ledger → Type 0
-Steps b r true c = c ≡ with_instance b (at.Reduction r)
+Steps b r true c = c ≡ with_instance b 0 (instance_count b) (at.Reduction r)
 Steps b r false c = (c ≡ b) × (b.verdict ≡ None → length b.history < b.limit → CanApply b.numbers b.problem r → ⊥)
 
 -- a history that replays on the program's problem, within the limit

@@ -7,7 +7,7 @@ use Rattle.lp_model.specs.ProgramData.{ProgramData}
 use Rattle.mps_profile.specs.Reading.{first_fault}
 use Rattle.undo_records.specs.Postsolve.{Postsolve}
 use Rattle.mps_writer.specs.MpsText.{mps_text}
-use Rattle.record_values.specs.declared.version.TextVersion.TheVariants.{First}
+use Rattle.record_values.specs.declared.version.TextVersion.TheVariants.{Second}
 use Rattle.record_file.specs.RecordText.{record_text}
 use Rattle.presolve_model.specs.Conclusions.{Concluded, Decided}
 use Rattle.presolve_model.specs.Meanings.{says_no_point}
@@ -73,7 +73,7 @@ module _ (one : OneConclusion) (options : Options) (workers : Workers) (order : 
   outcomes_same a b c d e f o q =
       let same = one.reduced options workers workers program o.outcome.program q.outcome.program o.outcome.records q.outcome.records o.outcome.report.end q.outcome.report.end order order (concluded_here a b c o) (concluded_here d e f q) in (
         o.concluded.texts.program_text ∙ ap mps_text same.0 ∙ sym q.concluded.texts.program_text,
-        o.concluded.texts.records_text ∙ ap (record_text First) same.1 ∙ sym q.concluded.texts.records_text,
+        o.concluded.texts.records_text ∙ ap (record_text Second) same.1 ∙ sym q.concluded.texts.records_text,
         o.concluded.texts.printed_text ∙ ap report_text (report_same o.outcome q.outcome o.concluded.texts.tells q.concluded.texts.tells (o.source ∙ sym q.source) same.0 same.1 same.2) ∙ sym q.concluded.texts.printed_text,
       )
 

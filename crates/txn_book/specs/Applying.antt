@@ -10,13 +10,13 @@ use Rattle.presolve_model.specs.Changes.{ChangeFits, ChangeIsWritten}
 use Rattle.presolve_model.specs.Ledger.{Ledger}
 use Rattle.presolve_model.specs.Commits.{next_place, with_instance}
 
--- the book c with the reduction, and its place; Past where a number of the change is, else NotDecimal where one can't be written.
+-- the book c with the reduction, which w applies, found on a version, and its place; Past where a number of the change is, else NotDecimal where one can't be written.
 -- A refusal leaves the book b.
-abbrev pub Applies : Ledger → Reduction → Result ℕ Refusal → Ledger → Type 0
-Applies b r (Ok k) c = ChangeFits r b.problem × ChangeIsWritten b.numbers r b.problem × (k ≡ next_place b) × (c ≡ with_instance b (at.Reduction r))
-Applies b r (Err Past) c = (ChangeFits r b.problem → ⊥) × (c ≡ b)
-Applies b r (Err NotDecimal) c = ChangeFits r b.problem × (ChangeIsWritten b.numbers r b.problem → ⊥) × (c ≡ b)
-Applies b r (Err NoMemory) c = c ≡ b
+abbrev pub Applies : Ledger → (w version : ℕ) → Reduction → Result ℕ Refusal → Ledger → Type 0
+Applies b w version r (Ok k) c = ChangeFits r b.problem × ChangeIsWritten b.numbers r b.problem × (k ≡ next_place b) × (c ≡ with_instance b w version (at.Reduction r))
+Applies b w version r (Err Past) c = (ChangeFits r b.problem → ⊥) × (c ≡ b)
+Applies b w version r (Err NotDecimal) c = ChangeFits r b.problem × (ChangeIsWritten b.numbers r b.problem → ⊥) × (c ≡ b)
+Applies b w version r (Err NoMemory) c = c ≡ b
 
 -- the same answer to a commit
 abbrev pub outcome_of : Result ℕ Refusal → Outcome

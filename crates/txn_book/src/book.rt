@@ -1,6 +1,6 @@
 //! Books.
 
-ghost use Rattle.std.specs.Prelude.{◌≡◌, ◌≢◌, ◌<◌, [], length, true, None, IfOk, IfSome};
+ghost use Rattle.std.specs.Prelude.{◌≡◌, ◌≢◌, ◌<◌, [], ◌∷◌, ◌++◌, ℕ, length, true, None, IfOk, IfSome, OnErr, OnOk};
 ghost use Rattle.std.specs.Bool.{MatchBool};
 ghost use Rattle.rational.specs.Number.{◌-ℚ◌};
 ghost use Rattle.lp_model.specs.declared.program.Sense.TheVariants.{Min};
@@ -15,6 +15,7 @@ ghost use Rattle.presolve_model.specs.Ledger.{instance_count, Stands};
 ghost use Rattle.presolve_model.specs.Meanings.{Meant};
 ghost use Rattle.presolve_model.specs.Scans.{proposal_of};
 ghost use Rattle.presolve_model.specs.Tallies.{no_counts};
+ghost use Rattle.presolve_model.specs.Transactions.{numbers_read};
 ghost use Rattle.presolve_model.specs.Worlds.{version_of};
 ghost use Rattle.problem_model.specs.Noted.{AreNoted};
 ghost use Rattle.problem_model.specs.Reading.{Agrees};
@@ -25,17 +26,17 @@ ghost use Rattle.txn_book.specs.Applying.{Applies, outcome_of};
 use crate::row_lists::RowLists;
 use applying::after;
 use fractions::Numbers;
-use instances::{Proposal, Tally, Version};
+use instances::{Proposal, Tally, Version, numbers_for};
 use line_groups::Parallels;
 use presolve_model::{Instance, Outcome, Part, Reduction, Refusal, Verdict};
 use sparse_problem::Problem;
 use std::alloc::{AllocError, Global};
 use std::marker::Model;
 use std::snapshot::Snapshot;
-use undo_records::Undo;
+use undo_records::{Transactions, Undo};
 
-/// A problem, and what was done to it: the reductions that were applied, first one first, with the record of each, how often each bound was
-/// tightened, and the verdict that closed the book. The problem is always what the history makes of the one that the book was opened with.
+/// A problem, and what was done to it: the reductions that were applied, first one first, with the record and the transaction of each, how
+/// often each bound was tightened, and the verdict that closed the book. The problem is always what the history makes of the one that the book was opened with.
 #[derive(Drop)]
 pub struct Book {
     start: Snapshot<Problem>,
@@ -43,6 +44,7 @@ pub struct Book {
     history: Vec<Reduction>,
     verdict: Option<Verdict>,
     records: Vec<Undo>,
+    transactions: Transactions,
     lists: RowLists,
     tally: Tally,
     numbers: Numbers,
@@ -60,9 +62,9 @@ impl Model for Book {
 
     ghost use Rattle.presolve_model.specs.Ledger.{Stands};
 
-    ghost view = { λ b. record { start = b.start.value; problem = b.problem; history = b.history.items; verdict = b.verdict; records = b.records.items; tally = b.tally; numbers = b.numbers; limit = b.limit } };
+    ghost view = { λ b. record { start = b.start.value; problem = b.problem; history = b.history.items; verdict = b.verdict; records = b.records.items; transactions = b.transactions; tally = b.tally; numbers = b.numbers; limit = b.limit } };
 
-    ghost invariant = { λ b. Stands (record { start = b.start.value; problem = b.problem; history = b.history.items; verdict = b.verdict; records = b.records.items; tally = b.tally; numbers = b.numbers; limit = b.limit }) };
+    ghost invariant = { λ b. Stands (record { start = b.start.value; problem = b.problem; history = b.history.items; verdict = b.verdict; records = b.records.items; transactions = b.transactions; tally = b.tally; numbers = b.numbers; limit = b.limit }) };
 }
 
 /// What a book leaves when it is closed.
@@ -76,6 +78,8 @@ pub struct Ended {
     pub verdict: Option<Verdict>,
     /// The record of each reduction.
     pub records: Vec<Undo>,
+    /// The transaction of each reduction.
+    pub transactions: Transactions,
 }
 
 /// The answer to a commit that applies a reduction.
@@ -90,6 +94,23 @@ fn outcome_of(applied: Result<usize, Refusal>) -> Outcome
     }
 }
 
+/// Adds the transaction of a reduction: who applies it, the version that it was found on, and what it reads. Where memory runs out, nothing
+/// changes.
+fn add_transaction(
+    transactions: &mut Transactions,
+    alloc: Global,
+    problem: &Problem,
+    by: u32,
+    version: u64,
+    reduction: Reduction,
+) -> Result<(), AllocError>
+    ensures added { OnOk result (transactions.new ≡ transactions.old ++ record { by = by; version = version; reads = numbers_read problem.now (at.Reduction reduction) } ∷ []) }
+    ensures refused { OnErr result (transactions.new ≡ transactions.old) }
+{
+    let reads = numbers_for(alloc, problem, Instance::Reduction(reduction))?;
+    transactions.append(by, version, reads.as_slice())
+}
+
 impl Book {
     /// A book of a problem, to which at most `limit` reductions are applied.
     ///
@@ -102,7 +123,7 @@ impl Book {
         limit: u64,
     ) -> Result<Book, AllocError>
         requires { IsWritable numbers problem }
-        ensures { IfOk result (λ book. book ≡ record { start = problem; problem = problem; history = []; verdict = None; records = []; tally = no_counts (length problem.matrix.columns); numbers = numbers; limit = limit }) }
+        ensures { IfOk result (λ book. book ≡ record { start = problem; problem = problem; history = []; verdict = None; records = []; transactions = []; tally = no_counts (length problem.matrix.columns); numbers = numbers; limit = limit }) }
     {
         problem.is_sparse();
         let tally = Tally::new(alloc, problem.column_count() as u32)?;
@@ -113,6 +134,7 @@ impl Book {
             history: Vec::new(alloc),
             verdict: None,
             records: Vec::new(alloc),
+            transactions: Transactions::new(alloc),
             lists,
             tally,
             numbers,
@@ -153,6 +175,13 @@ impl Book {
         ensures { result ≡ self.now.verdict }
     {
         self.verdict
+    }
+
+    /// The transaction of each reduction that was applied.
+    pub fn transactions(&self) -> &Transactions
+        ensures { result.now ≡ self.now.transactions }
+    {
+        &self.transactions
     }
 
     /// How many reductions may be applied.
@@ -205,54 +234,76 @@ impl Book {
         }
     }
 
-    /// Applies a reduction, keeps its record, gives its place in the history, and notes the parts that change. All room is made before
-    /// anything is changed.
+    /// Applies a reduction, keeps its record and its transaction, gives its place in the history, and notes the parts that change. All room is
+    /// made before anything is changed.
     fn apply_reduction(
         &mut self,
         alloc: Global,
+        by: u32,
+        version: u64,
         reduction: Reduction,
         changed: &mut Vec<Part>,
     ) -> Result<usize, Refusal>
         requires undecided { self.old.verdict ≡ None }
         requires room { length self.old.history < self.old.limit }
         requires enabled { enabled_on self.old.problem (at.Reduction reduction) ≡ true }
-        ensures applies { Applies self.old reduction result self.new }
+        ensures applies { Applies self.old by version reduction result self.new }
         ensures noted { AreNoted self.old.problem self.new.problem changed.old.items changed.new.items }
     {
         self.history.reserve(1)?;
         self.records.reserve(1)?;
+        let before = self.history.as_slice().len();
+        let found = version.min(before as u64);
+        add_transaction(
+            &mut self.transactions,
+            alloc,
+            &self.problem,
+            by,
+            found,
+            reduction,
+        )?;
         let undo = match after(&mut self.problem, alloc, reduction, self.numbers, changed) {
             Ok(undo) => undo,
-            Err(refusal) => return Err(refusal),
+            Err(refusal) => {
+                self.transactions.truncate(before);
+                return Err(refusal);
+            }
         };
         self.records.push_reserved(self.lists.share(undo));
         self.history.push_reserved(reduction);
         self.tally.follow(reduction);
-        Ok(self.history.len())
+        Ok(before + 1)
     }
 
     /// Closes the book with a verdict, and gives the verdict's place after the history.
     fn decide(&mut self, verdict: Verdict) -> usize
         requires { enabled_on self.old.problem (at.Verdict verdict) ≡ true }
         ensures place { result ≡ next_place self.old }
-        ensures left { self.new ≡ with_instance self.old (at.Verdict verdict) }
+        ensures left { (w version : ℕ) → self.new ≡ with_instance self.old w version (at.Verdict verdict) }
     {
         self.verdict = Some(verdict);
         self.history.len() + 1
     }
 
     /// Applies an enabled instance where no verdict stands and there is room, and notes the parts that change.
-    fn apply_open(&mut self, alloc: Global, instance: Instance, changed: &mut Vec<Part>) -> Outcome
+    fn apply_open(
+        &mut self,
+        alloc: Global,
+        by: u32,
+        version: u64,
+        instance: Instance,
+        changed: &mut Vec<Part>,
+    ) -> Outcome
         requires undecided { self.old.verdict ≡ None }
         requires room { HasRoom self.old instance }
         requires enabled { enabled_on self.old.problem instance ≡ true }
         ensures outcome { (p : Proposed) → p.instance ≡ instance → Agrees self.old.problem p.reading → Allows self.old p result }
-        ensures left { (p : Proposed) → p.instance ≡ instance → self.new ≡ left_by self.old p result }
+        ensures left { (p : Proposed) → p.instance ≡ instance → p.version ≡ version → self.new ≡ left_by self.old by p result }
         ensures noted { AreNoted self.old.problem self.new.problem changed.old.items changed.new.items }
     {
         match instance {
             Instance::Reduction(reduction) => {
-                outcome_of(self.apply_reduction(alloc, reduction, changed))
+                outcome_of(self.apply_reduction(alloc, by, version, reduction, changed))
             }
             Instance::Verdict(verdict) => Outcome::Applied {
                 place: self.decide(verdict),
@@ -260,8 +311,8 @@ impl Book {
         }
     }
 
-    /// Applies an enabled instance to the present problem, as a commit of its reading of that problem would that was found on this version,
-    /// and notes the parts that change. Anything but `Applied` leaves the book as it is.
+    /// Applies an enabled instance to the present problem, as a commit by worker 0 of its reading of that problem would that was found on this
+    /// version, and notes the parts that change. Anything but `Applied` leaves the book as it is.
     pub fn apply(
         &mut self,
         alloc: Global,
@@ -271,27 +322,25 @@ impl Book {
     ) -> Outcome
         requires enabled { enabled_on self.old.problem instance ≡ true }
         ensures outcome { Allows self.old (proposal_of self.old.problem version instance) result }
-        ensures left { self.new ≡ left_by self.old (proposal_of self.old.problem version instance) result }
+        ensures left { self.new ≡ left_by self.old 0 (proposal_of self.old.problem version instance) result }
         ensures noted { result ≢ NoMemory → AreNoted self.old.problem self.new.problem changed.old.items changed.new.items }
     {
-        let _ = version;
         if let Some(verdict) = self.verdict {
             return Outcome::Closed { verdict };
         }
         if self.is_full(instance) {
             return Outcome::Full;
         }
-        self.apply_open(alloc, instance, changed)
+        self.apply_open(alloc, 0, version, instance, changed)
     }
 
     /// Commits a proposal: applies its instance if no verdict stands, there is room, and each part stands as it was read. Anything else
-    /// leaves the book as it is. Whoever commits is named, and makes no difference.
+    /// leaves the book as it is. Who commits is kept in the transaction, and makes no other difference.
     #[tactic(auto, using(presolve_model::proofs::Tabled::enabled_by))]
     pub fn commit(&mut self, alloc: Global, by: u32, proposal: &Proposal) -> Outcome
         ensures outcome { Allows self.old proposal.now result }
-        ensures left { self.new ≡ left_by self.old proposal.now result }
+        ensures left { self.new ≡ left_by self.old by proposal.now result }
     {
-        let _ = by;
         if let Some(verdict) = self.verdict {
             return Outcome::Closed { verdict };
         }
@@ -305,21 +354,23 @@ impl Book {
             };
         }
         let mut changed = Vec::new(alloc);
-        self.apply_open(alloc, instance, &mut changed)
+        self.apply_open(alloc, by, proposal.version(), instance, &mut changed)
     }
 
-    /// Closes the book for good: its problem, its history, its verdict and its records.
+    /// Closes the book for good: its problem, its history, its verdict, its records and their transactions.
     pub fn close(self) -> Ended
         ensures problem { result.problem ≡ self.problem }
         ensures history { result.history.items ≡ self.history }
         ensures verdict { result.verdict ≡ self.verdict }
         ensures records { result.records.items ≡ self.records }
+        ensures transactions { result.transactions ≡ self.transactions }
     {
         Ended {
             problem: self.problem,
             history: self.history,
             verdict: self.verdict,
             records: self.records,
+            transactions: self.transactions,
         }
     }
 }

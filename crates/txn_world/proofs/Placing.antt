@@ -1,8 +1,8 @@
 -- Workers at places, and by their numbers.
-use Rattle.std.proofs.Common.{◌≡◌, ◌≢◌, ℕ, zero, suc, ◌+◌, ◌<◌, ◌⊎◌, inl, inr, nat_eq, if◌then◌else◌, List, [], ◌∷◌, ◌++◌, length, get_or, sym, refl, ap, ◌∙◌, subst, arith}
+use Rattle.std.proofs.Common.{◌≡◌, ◌≢◌, ℕ, zero, suc, ◌+◌, ◌<◌, ◌⊎◌, inl, inr, nat_eq, if◌then◌else◌, List, [], ◌∷◌, ◌++◌, length, get_or, sym, refl, ap, ◌∙◌, subst, arith, Bool, true, false}
 use Rattle.std.proofs.Math.ListN.{set, get_or-append}
 use Rattle.std.proofs.Math.Seq.{get_or-append_seam}
-use Rattle.std.proofs.lemmas.Bool.{eq-eqb, ne_eqb, cases_eq}
+use Rattle.std.proofs.lemmas.Bool.{eq-eqb, eqb-true, ne_eqb, cases_eq}
 use Rattle.std.proofs.lemmas.List.{length-append}
 use Rattle.rational.specs.Total.{put}
 use Rattle.rational.proofs.Totals.{put-same, put-other, at_or_off}
@@ -77,3 +77,12 @@ changed_there f keeps ds mid w i d e same h read wrote =
 
 pub worker_read : (ds : List WorkerData) (w i : ℕ) (d : WorkerData) → IsAt ds w i → d ≡ get_or ds i d → worker_in ds w ≡ d
 worker_read ds w i d h read = worker_here ds w i h ∙ any_default ds i (newcomer 0) d h.within ∙ sym read
+
+-- it has the number by which it is found
+pub worker_numbered : (ds : List WorkerData) (w : ℕ) → (worker_in ds w).number ≡ w
+worker_numbered [] w = refl
+worker_numbered (d ∷ ds) w = by (nat_eq w d.number) refl (worker_numbered ds w)
+  where
+    by : (b : Bool) → nat_eq w d.number ≡ b → (worker_in ds w).number ≡ w → (if b then d else worker_in ds w).number ≡ w
+    by true e ih = sym (eqb-true w d.number e)
+    by false e ih = ih

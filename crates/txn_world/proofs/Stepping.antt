@@ -1,5 +1,5 @@
 -- What a change of one worker makes of the state.
-use Rattle.std.proofs.Common.{◌≡◌, ℕ, Bool, true, false, nat_eq, if◌then◌else◌, List, [], ◌∷◌, ◌++◌, drop, Some, None, sym, refl, ap, ◌∙◌, subst}
+use Rattle.std.proofs.Common.{◌≡◌, ℕ, Bool, true, false, nat_eq, if◌then◌else◌, List, [], ◌∷◌, ◌++◌, drop, Option, Some, None, sym, refl, ap, ◌∙◌, subst, get_or}
 use Rattle.rational.specs.Total.{put}
 use Rattle.rational.proofs.Totals.{put-same, put-other, at_or_off}
 use Rattle.presolve_model.specs.declared.outcome.Outcome.{Outcome}
@@ -7,8 +7,8 @@ use Rattle.presolve_model.specs.Given.{Proposed}
 use Rattle.presolve_model.specs.Ledger.{Ledger}
 use Rattle.presolve_model.specs.Worlds.{Version, version_of, Freeze, Propose, Commit, Commits, Steps}
 use Rattle.txn_world.specs.Events.{CommitsFirst}
-use Rattle.txn_world.specs.Workers.{WorkerData, worker_in, state_of, IsAbsent, SameWorkers, Replaces}
-use Rattle.txn_world.proofs.Placing.{worker_absent}
+use Rattle.txn_world.specs.Workers.{IsAbsent, IsAt, Replaces, SameWorkers, WorkerData, state_of, worker_in}
+use Rattle.txn_world.proofs.Placing.{worker_absent, worker_numbered, worker_read}
 
 put_map : {A B : Type 0} (g : A → B) (f : ℕ → A) (w : ℕ) (e : A) (k : ℕ) → g (put f w e k) ≡ put (λ v. g (f v)) w (g e) k
 unfolding put
@@ -53,24 +53,30 @@ pub propose_steps : (b : Ledger) (ds es : List WorkerData) (w : ℕ) (p : Propos
 propose_steps b ds es w p r = (refl, pending_put b ds es w ((worker_in ds w).pending ++ p ∷ []) r)
 
 -- ---- the first proposal of the worker w was committed
-pub nothing_steps : (b c : Ledger) (ds : List WorkerData) (w : ℕ) → CommitsFirst b (worker_in ds w).pending None c
+pub nothing_steps : (b c : Ledger) (ds : List WorkerData) (w : ℕ) → CommitsFirst b w (worker_in ds w).pending None c
     → Steps (state_of (record { book = b; workers = ds })) (Commit w) None (state_of (record { book = c; workers = ds }))
 nothing_steps b c ds w h = by (worker_in ds w).pending h
   where
-    by : (ps : List Proposed) → CommitsFirst b ps None c → Commits (state_of (record { book = b; workers = ds })) w ps None (state_of (record { book = c; workers = ds }))
+    by : (ps : List Proposed) → CommitsFirst b w ps None c → Commits (state_of (record { book = b; workers = ds })) w ps None (state_of (record { book = c; workers = ds }))
     by [] g = ap (λ x. state_of (record { book = x; workers = ds })) g
     by (p ∷ ps) g = absurd g
 
-pub commit_steps : (b c : Ledger) (ds es : List WorkerData) (w : ℕ) (o : Outcome) → CommitsFirst b (worker_in ds w).pending (Some o) c
+pub commit_steps : (b c : Ledger) (ds es : List WorkerData) (w : ℕ) (o : Outcome) → CommitsFirst b w (worker_in ds w).pending (Some o) c
     → Replaces ds w (record (worker_in ds w) { pending = drop 1 (worker_in ds w).pending }) es
     → Steps (state_of (record { book = b; workers = ds })) (Commit w) (Some o) (state_of (record { book = c; workers = es }))
 commit_steps b c ds es w o h r = by (worker_in ds w).pending h r
   where
-    by : (ps : List Proposed) → CommitsFirst b ps (Some o) c → Replaces ds w (record (worker_in ds w) { pending = drop 1 ps }) es
+    by : (ps : List Proposed) → CommitsFirst b w ps (Some o) c → Replaces ds w (record (worker_in ds w) { pending = drop 1 ps }) es
         → Commits (state_of (record { book = b; workers = ds })) w ps (Some o) (state_of (record { book = c; workers = es }))
     by [] g q = absurd g
     by (p ∷ ps) g q = (g.0, pending_put c ds es w ps q ∙ ap (λ x. record (state_of (record { book = x; workers = ds })) { pending = put (λ u. (worker_in ds u).pending) w ps }) g.1)
 
 pub absent_steps : (b : Ledger) (ds : List WorkerData) (w : ℕ) → IsAbsent ds w
     → Steps (state_of (record { book = b; workers = ds })) (Commit w) None (state_of (record { book = b; workers = ds }))
-absent_steps b ds w h = nothing_steps b b ds w (subst (λ (d : WorkerData). CommitsFirst b d.pending None b) (sym (worker_absent ds w h)) refl)
+absent_steps b ds w h = nothing_steps b b ds w (subst (λ (d : WorkerData). CommitsFirst b w d.pending None b) (sym (worker_absent ds w h)) refl)
+
+-- what the worker that was read has committed is what the worker of that number has
+pub commits_read : (b c : Ledger) (ds : List WorkerData) (w i : ℕ) (d : WorkerData) (o : Option Outcome) → IsAt ds w i → d ≡ get_or ds i d → CommitsFirst b d.number d.pending o c → CommitsFirst b w (worker_in ds w).pending o c
+commits_read b c ds w i d o h read k =
+    subst (λ (n : ℕ). CommitsFirst b n (worker_in ds w).pending o c) (worker_numbered ds w)
+    (subst (λ (x : WorkerData). CommitsFirst b x.number x.pending o c) (sym (worker_read ds w i d h read)) k)

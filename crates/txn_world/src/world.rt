@@ -40,7 +40,7 @@ impl Model for World {
 
 /// Commits the first of a worker's proposals, if it has one.
 fn commit_first(book: &mut Book, alloc: Global, worker: &Worker) -> Option<Outcome>
-    ensures { CommitsFirst book.old worker.now.pending result book.new }
+    ensures { CommitsFirst book.old worker.now.number worker.now.pending result book.new }
 {
     match worker.first() {
         None => None,

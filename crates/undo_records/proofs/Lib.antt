@@ -1,5 +1,5 @@
-pub mod Cuts
 pub mod NearLaws
 pub mod SoundRecords
 pub mod UndoneRows
+pub mod Untold
 pub mod Walking

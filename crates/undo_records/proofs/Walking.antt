@@ -8,7 +8,7 @@ use Rattle.lp_model.specs.declared.program.Sense.{Sense}
 use Rattle.undo_records.specs.declared.label.Label.{Label}
 use Rattle.lp_model.specs.Flags.{Flags}
 use Rattle.undo_records.specs.Ids.{is_on}
-use Rattle.undo_records.specs.Transactions.{Transaction}
+use Rattle.transactions.specs.Transactions.{Transaction}
 use Rattle.undo_records.specs.Walk.{rows_named, columns_named, AreSound, NamesLive, Walks, after}
 
 -- past the last there is nothing to set

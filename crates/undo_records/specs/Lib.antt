@@ -19,5 +19,4 @@ pub mod RowRecord
 pub mod SingletonRow
 pub mod SlackColumnSingleton
 pub mod Sound
-pub mod Transactions
 pub mod Walk

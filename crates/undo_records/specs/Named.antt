@@ -1,9 +1,9 @@
 -- The names of records, their transactions, and what their type keeps.
-use Rattle.std.specs.Prelude.{◌≡◌, ℕ, List, [], ◌∷◌, if◌then◌else◌, length, map, replicate, All}
+use Rattle.std.specs.Prelude.{◌≡◌, ℕ, List, [], ◌∷◌, if◌then◌else◌, length, map, All}
 use Rattle.lp_model.specs.Name.{IsName}
 use Rattle.undo_records.specs.declared.label.Label.{Label}
 use Rattle.undo_records.specs.Postsolve.{Postsolve}
-use Rattle.undo_records.specs.Transactions.{IsPartOf, untold, VersionsBelow}
+use Rattle.transactions.specs.Transactions.{IsPartOf, VersionsBelow}
 use Rattle.undo_records.specs.Walk.{AreSound}
 
 -- the names of the live ones, in order
@@ -21,10 +21,6 @@ pub record AreTold (p : Postsolve) : Type 0 where
   pub count : length p.transactions ≡ length p.undos
   pub versions : VersionsBelow 1 p.transactions
   pub parts : All (λ t. All (λ r. IsPartOf (length p.rows) (length p.columns) r.part) t.reads) p.transactions
-
--- nothing is known of their transactions
-abbrev pub AreUntold : Postsolve → Type 0
-AreUntold p = p.transactions ≡ replicate (length p.undos) untold
 
 -- the records are sound, the rows and columns have names, and each record has its transaction
 pub record AreRecords (p : Postsolve) : Type 0 where

@@ -11,7 +11,6 @@ pub mod laws;
 mod records;
 mod side;
 mod sound;
-mod transactions;
 mod undo;
 mod walk;
 mod whole_run;

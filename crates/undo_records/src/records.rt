@@ -3,17 +3,17 @@
 ghost use Rattle.std.specs.Prelude.{◌≡◌, ◌↔◌, All, IfOk, IfSome, IsSome, length, map, replicate};
 ghost use Rattle.undo_records.specs.Sound.{CanUndo};
 ghost use Rattle.undo_records.specs.Named.{AreNamed, AreRecords, AreTold};
-ghost use Rattle.undo_records.specs.Transactions.{untold};
+ghost use Rattle.transactions.specs.Transactions.{untold};
 ghost use Rattle.undo_records.specs.Walk.{AreSound};
 
 use crate::label::{Label, labels_are_named};
-use crate::transactions::Transactions;
 use crate::undo::Undo;
 use crate::whole_run::are_sound;
 use fractions::frac::Frac;
 use lp_model::{Labels, Name, Sense};
 use std::alloc::{AllocError, Global};
 use std::marker::Model;
+use transactions::Transactions;
 
 /// All that presolve wrote down: the original program's names, whether duals are undone too, the offset, and the record of each reduction
 /// with its transaction, first applied first. Each record is sound, names only what is live as it is applied, and all of them leave live

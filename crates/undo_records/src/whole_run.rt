@@ -4,7 +4,7 @@ ghost use Rattle.std.specs.Prelude.{◌≡◌, ◌↔◌, Bool, List, All, IfOk,
 ghost use Rattle.rational.specs.Number.{Number};
 ghost use Rattle.lp_model.specs.declared.program.Sense.{Sense};
 ghost use Rattle.undo_records.specs.Sound.{IsSound};
-ghost use Rattle.undo_records.specs.Transactions.{Transaction};
+ghost use Rattle.transactions.specs.Transactions.{Transaction};
 ghost use Rattle.undo_records.specs.Walk.{AreSound, Walks, all_live, lives};
 
 use crate::label::Label;

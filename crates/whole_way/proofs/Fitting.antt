@@ -1,13 +1,11 @@
 -- What presolve writes is read again.
-use Rattle.std.proofs.Common.{List, sym, ap, ◌∙◌}
 use Rattle.fractions.specs.declared.Numbers.TheVariants.{Fractions}
 use Rattle.lp_model.specs.Writable.{Writable}
 use Rattle.undo_records.specs.Postsolve.{Postsolve}
-use Rattle.undo_records.specs.Transactions.{Transaction}
 use Rattle.undo_records.specs.Walk.{AreSound}
 use Rattle.mps_round_trip.specs.Plain.{Plain}
 use Rattle.mps_round_trip.proofs.Round.{again, no_fault}
-use Rattle.record_round_trip.proofs.Round.{same_first, sound_first}
+use Rattle.record_round_trip.proofs.Round.{same_again, sound_again}
 use Rattle.history_laws.proofs.Walks.{walked_sound}
 use Rattle.whole_way.specs.Laws.{TextsComeBack}
 use Rattle.whole_way.proofs.Numbers.{with_fractions}
@@ -21,8 +19,8 @@ texts_fit options workers program reduced told ended c h r =
     record {
       program_text = record { sound = no_fault Fractions reduced c.named.left plain writable c.ascends; same = again Fractions reduced c.named.left plain writable c.ascends };
       records_text = record {
-        sound = sound_first told sound c.named.records r;
-        same = same_first told sound c.named.records r ∙ ap (λ (ts : List Transaction). record told { transactions = ts }) (sym c.untold);
+        sound = sound_again told sound c.named.records c.transactions r;
+        same = same_again told sound c.named.records c.transactions r;
       };
       matches = names_match program reduced told c.names;
     }

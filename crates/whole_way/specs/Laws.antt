@@ -11,7 +11,7 @@ use Rattle.lp_model.specs.Vectors.{vector_of}
 use Rattle.undo_records.specs.Postsolve.{Postsolve}
 use Rattle.mps_writer.specs.MpsText.{mps_text}
 use Rattle.mps_round_trip.specs.Plain.{Plain}
-use Rattle.record_values.specs.declared.version.TextVersion.TheVariants.{First}
+use Rattle.record_values.specs.declared.version.TextVersion.TheVariants.{Second}
 use Rattle.record_file.specs.RecordText.{record_text}
 use Rattle.record_round_trip.specs.Ranges.{HasRange}
 use Rattle.problem_model.specs.Edits.{offset_set}
@@ -32,7 +32,7 @@ TextsComeBack = (options : Options) (workers : Workers) (program reduced : Progr
     → Concluded options workers program reduced told ended
     → Plain program
     → HasRange told
-    → TextsFit reduced told (mps_text reduced) (record_text First told)
+    → TextsFit reduced told (mps_text reduced) (record_text Second told)
 
 -- the original id of a column of the reduced program
 abbrev pub original_column : Postsolve → ℕ → ℕ

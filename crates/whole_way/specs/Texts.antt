@@ -13,7 +13,7 @@ use Rattle.mps_written_lines.specs.Formats.{free_format}
 use Rattle.mps_round_trip.specs.Plain.{Plain}
 use Rattle.point_text.specs.PairText.{pair_duals, pair_fault, pair_point, pair_text}
 use Rattle.point_text.specs.SolutionText.{solution_text}
-use Rattle.record_values.specs.declared.version.TextVersion.TheVariants.{First}
+use Rattle.record_values.specs.declared.version.TextVersion.TheVariants.{Second}
 use Rattle.record_file.specs.RecordText as files
 use Rattle.record_reader.specs.Matching.{Matches}
 use Rattle.record_reader.specs.Reading as records
@@ -59,7 +59,7 @@ pub record PresolveWrites (options : Options) (workers : Workers) (program : Pro
   pub unmarked : All IsUnmarked (names_of_columns program.columns)
   pub range : HasRange told
   pub program_text : out ≡ mps_text reduced
-  pub records_text : undoing ≡ files.record_text First told
+  pub records_text : undoing ≡ files.record_text Second told
 
 -- Postsolve undid the records at a point, and wrote the lifted point by the names of the original columns. Its numbers have room, as all
 -- values of their type do.

@@ -1,4 +1,4 @@
-use Rattle.run_laws.proofs.Telling.{walked, told_sound, program_ascends, program_written, decided}
+use Rattle.run_laws.proofs.Telling.{are_told, walked, told_sound, program_ascends, program_written, decided}
 use Rattle.run_laws.proofs.books_tell.Goals as goal
 
 pub returns-clause-walked : goal.returns-clause-walked
@@ -6,6 +6,9 @@ returns-clause-walked c = walked
 
 pub returns-clause-sound : goal.returns-clause-sound
 returns-clause-sound c = told_sound
+
+pub returns-clause-told : goal.returns-clause-told
+returns-clause-told c = are_told
 
 pub returns-clause-ascends : goal.returns-clause-ascends
 returns-clause-ascends c = program_ascends

@@ -1,4 +1,4 @@
-use Rattle.std.proofs.Common.{subst, List, length, replicate, refl, sym, ap, ap₂, ◌∙◌}
+use Rattle.std.proofs.Common.{subst, length, refl, sym, ap, ap₂, ◌∙◌}
 use Rattle.std.specs.List.{All}
 use Rattle.std.proofs.lemmas.List.{length-map}
 use Rattle.std.proofs.lemmas.List.Elements.{All-tail}
@@ -7,15 +7,13 @@ use Rattle.lp_model.specs.Names.{names_of_columns, names_of_rows}
 use Rattle.lp_model.specs.ProgramData.{ProgramData}
 use Rattle.lp_model.specs.Turning.{signed}
 use Rattle.undo_records.specs.Postsolve.{Postsolve}
-use Rattle.undo_records.specs.Transactions.{untold}
-use Rattle.undo_records.specs.declared.undo.Undo.{Undo}
-use Rattle.undo_records.proofs.Cuts.{unknown_told}
 use Rattle.problem_model.specs.Sparse.{Sparse}
 use Rattle.presolve_model.specs.Telling.{are_live, IsToldOf}
-use Rattle.run_laws.proofs.Telling.{problem_is_of, told_sound}
+use Rattle.run_laws.proofs.Telling.{are_told, problem_is_of, told_sound}
 use Rattle.presolve_rounds.specs.Sources.{emptied, given}
 use Rattle.presolve_rounds.proofs.Sources.{told_kept}
 use Rattle.presolve_rounds.proofs.labels.records_of.Goals as goal
+use Rattle.presolve_rounds.proofs.labels.records_of.Goals.{After-sense-2}
 
 pub row_labels-requires : goal.row_labels-requires
 row_labels-requires c =
@@ -29,39 +27,28 @@ column_labels-requires c =
     ∙ (problem_is_of (given c.args.source.now) c.args.book c.requires.start c.stands.ensures.stands).columns
     ∙ sym (ap length (c.columns.ensures ∙ ap (λ (p : ProgramData). p.columns) c.requires.kept) ∙ length-map (given c.args.source.now).columns emptied)
 
-pub new-requires-clause-sound : goal.new-requires-clause-sound
-new-requires-clause-sound c =
-    let program : ProgramData = given c.args.source.now in
-    let told : Postsolve = record { sense = c.sense-2.result; duals = c.args.dual; columns = c.in_ok-columns.columns.items; rows = c.in_ok-rows.rows.items; offset = c.in_sense-offset.result; undos = c.close-ended.result.records.items; transactions = c.in_ok-transactions.transactions } in
-    let is : IsToldOf c.args.dual c.args.source.now.kept c.args.book told = record {
-      sense = c.sense-2.ensures;
-      duals = refl;
-      undos = c.close-ended.ensures.records;
-      untold = c.in_ok-transactions.ensures ∙ ap (λ (us : List Undo). replicate (length us) untold) c.as_slice.ensures.value;
-      offset = c.in_sense-offset.ensures ∙ ap₂ (λ s q. signed s q) c.sense.ensures (c.offset.ensures ∙ ap (λ (p : Sparse). p.offset) c.problem-3.ensures);
-      row_names = c.in_ok-rows.ensures.names ∙ ap names_of_rows c.rows.ensures;
-      column_names = c.in_ok-columns.ensures.names ∙ ap names_of_columns c.columns.ensures;
-      rows = c.in_ok-rows.ensures.live ∙ ap are_live (c.rows-2.ensures ∙ ap (λ (p : Sparse). p.matrix.rows) c.problem.ensures);
-      columns = c.in_ok-columns.ensures.live ∙ ap are_live (c.columns-2.ensures ∙ ap (λ (p : Sparse). p.matrix.columns) c.problem-2.ensures);
-    } in
-    told_sound c.args.dual program c.args.book told c.requires.start c.stands.ensures.stands (told_kept c.args.dual program c.args.source.now.kept c.args.book told c.requires.kept is)
+-- what is told of the book
+abbrev told : After-sense-2 → Postsolve
+told c = record { sense = c.sense-2.result; duals = c.args.dual; columns = c.in_ok-columns.columns.items; rows = c.in_ok-rows.rows.items; offset = c.in_sense-offset.result; undos = c.close-ended.result.records.items; transactions = c.close-ended.result.transactions }
 
-pub returns : goal.returns
-returns c =
-    let program : ProgramData = given c.args.source.now in
-    let told : Postsolve = record { sense = c.sense-2.result; duals = c.args.dual; columns = c.in_ok-columns.columns.items; rows = c.in_ok-rows.rows.items; offset = c.in_sense-offset.result; undos = c.close-ended.result.records.items; transactions = c.in_ok-transactions.transactions } in
-    let is : IsToldOf c.args.dual c.args.source.now.kept c.args.book told = record {
-      sense = c.sense-2.ensures;
-      duals = refl;
-      undos = c.close-ended.ensures.records;
-      untold = c.in_ok-transactions.ensures ∙ ap (λ (us : List Undo). replicate (length us) untold) c.as_slice.ensures.value;
-      offset = c.in_sense-offset.ensures ∙ ap₂ (λ s q. signed s q) c.sense.ensures (c.offset.ensures ∙ ap (λ (p : Sparse). p.offset) c.problem-3.ensures);
-      row_names = c.in_ok-rows.ensures.names ∙ ap names_of_rows c.rows.ensures;
-      column_names = c.in_ok-columns.ensures.names ∙ ap names_of_columns c.columns.ensures;
-      rows = c.in_ok-rows.ensures.live ∙ ap are_live (c.rows-2.ensures ∙ ap (λ (p : Sparse). p.matrix.rows) c.problem.ensures);
-      columns = c.in_ok-columns.ensures.live ∙ ap are_live (c.columns-2.ensures ∙ ap (λ (p : Sparse). p.matrix.columns) c.problem-2.ensures);
-    } in
-    subst (IsToldOf c.args.dual program c.args.book) (sym c.new.ensures) (told_kept c.args.dual program c.args.source.now.kept c.args.book told c.requires.kept is)
+is_told : (c : After-sense-2) → IsToldOf c.args.dual (given c.args.source.now) c.args.book (told c)
+is_told c = told_kept c.args.dual (given c.args.source.now) c.args.source.now.kept c.args.book (told c) c.requires.kept (record {
+  sense = c.sense-2.ensures;
+  duals = refl;
+  undos = c.close-ended.ensures.records;
+  transactions = c.close-ended.ensures.transactions;
+  offset = c.in_sense-offset.ensures ∙ ap₂ (λ s q. signed s q) c.sense.ensures (c.offset.ensures ∙ ap (λ (p : Sparse). p.offset) c.problem-3.ensures);
+  row_names = c.in_ok-rows.ensures.names ∙ ap names_of_rows c.rows.ensures;
+  column_names = c.in_ok-columns.ensures.names ∙ ap names_of_columns c.columns.ensures;
+  rows = c.in_ok-rows.ensures.live ∙ ap are_live (c.rows-2.ensures ∙ ap (λ (p : Sparse). p.matrix.rows) c.problem.ensures);
+  columns = c.in_ok-columns.ensures.live ∙ ap are_live (c.columns-2.ensures ∙ ap (λ (p : Sparse). p.matrix.columns) c.problem-2.ensures);
+})
+
+pub new-requires-clause-sound : goal.new-requires-clause-sound
+new-requires-clause-sound c = told_sound c.args.dual (given c.args.source.now) c.args.book (told c) c.requires.start c.stands.ensures.stands (is_told c)
+
+pub new-requires-clause-told : goal.new-requires-clause-told
+new-requires-clause-told c = are_told c.args.dual (given c.args.source.now) c.args.book (told c) c.requires.start c.stands.ensures.stands (is_told c)
 
 pub new-requires-clause-named : goal.new-requires-clause-named
 new-requires-clause-named c = record {
@@ -70,6 +57,19 @@ new-requires-clause-named c = record {
   columns = subst (All IsName) (sym (c.in_ok-columns.ensures.names ∙ ap names_of_columns c.columns.ensures)) c.objective-name.ensures.named.column_names;
 }
 
-pub new-requires-clause-told : goal.new-requires-clause-told
-new-requires-clause-told c =
-    unknown_told c.sense-2.result c.args.dual c.in_ok-columns.columns.items c.in_ok-rows.rows.items c.in_sense-offset.result c.close-ended.result.records.items _ _ c.as_slice.ensures.value c.in_ok-transactions.ensures
+pub returns : goal.returns
+returns c =
+    let program : ProgramData = given c.args.source.now in
+    let told : Postsolve = record { sense = c.sense-2.result; duals = c.args.dual; columns = c.in_ok-columns.columns.items; rows = c.in_ok-rows.rows.items; offset = c.in_sense-offset.result; undos = c.close-ended.result.records.items; transactions = c.close-ended.result.transactions } in
+    let is : IsToldOf c.args.dual c.args.source.now.kept c.args.book told = record {
+      sense = c.sense-2.ensures;
+      duals = refl;
+      undos = c.close-ended.ensures.records;
+      transactions = c.close-ended.ensures.transactions;
+      offset = c.in_sense-offset.ensures ∙ ap₂ (λ s q. signed s q) c.sense.ensures (c.offset.ensures ∙ ap (λ (p : Sparse). p.offset) c.problem-3.ensures);
+      row_names = c.in_ok-rows.ensures.names ∙ ap names_of_rows c.rows.ensures;
+      column_names = c.in_ok-columns.ensures.names ∙ ap names_of_columns c.columns.ensures;
+      rows = c.in_ok-rows.ensures.live ∙ ap are_live (c.rows-2.ensures ∙ ap (λ (p : Sparse). p.matrix.rows) c.problem.ensures);
+      columns = c.in_ok-columns.ensures.live ∙ ap are_live (c.columns-2.ensures ∙ ap (λ (p : Sparse). p.matrix.columns) c.problem-2.ensures);
+    } in
+    subst (IsToldOf c.args.dual program c.args.book) (sym c.new.ensures) (told_kept c.args.dual program c.args.source.now.kept c.args.book told c.requires.kept is)

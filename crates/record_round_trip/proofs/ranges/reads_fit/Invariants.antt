@@ -1,5 +1,5 @@
 use Rattle.std.proofs.Common.{ℕ, ◌<◌, slice_index_or}
-use Rattle.undo_records.specs.declared.transactions.PartRead.{PartRead}
+use Rattle.transactions.specs.declared.transactions.PartRead.{PartRead}
 use Rattle.record_round_trip.specs.Ranges.{ReadFits}
 use Rattle.record_round_trip.proofs.ranges.reads_fit.Given as goal
 

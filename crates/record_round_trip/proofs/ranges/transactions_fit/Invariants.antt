@@ -1,5 +1,5 @@
 use Rattle.std.proofs.Common.{ℕ, ◌<◌, slice_index_or}
-use Rattle.undo_records.specs.Transactions.{Transaction}
+use Rattle.transactions.specs.Transactions.{Transaction}
 use Rattle.record_round_trip.specs.Ranges.{TransactionFits}
 use Rattle.record_round_trip.proofs.ranges.transactions_fit.Given as goal
 

@@ -1,5 +1,5 @@
 use Rattle.round_laws.proofs.Turns.{met, met_asleep, met_over, met_stale}
-use Rattle.round_laws.proofs.Thinning.{passed_beside, passed_found}
+use Rattle.round_laws.proofs.Thinning.{passed_beside, passed_found, passed_listed}
 use Rattle.round_laws.proofs.Tracking.{passed_on}
 use Rattle.round_laws.proofs.passes.turns_pass.Goals as goal
 
@@ -17,6 +17,9 @@ returns-clause-found c = passed_found
 
 pub returns-clause-beside : goal.returns-clause-beside
 returns-clause-beside c = passed_beside
+
+pub returns-clause-listed : goal.returns-clause-listed
+returns-clause-listed c = passed_listed
 
 pub returns-clause-more : goal.returns-clause-more
 returns-clause-more c = passed_on

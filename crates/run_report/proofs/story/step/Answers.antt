@@ -1,6 +1,7 @@
-use Rattle.std.proofs.Common.{◌≡◌, true, false, ap, refl, sym, ◌∙◌}
+use Rattle.std.proofs.Common.{◌≡◌, ℕ, true, false, ap, refl, sym, ◌∙◌}
 use Rattle.problem_model.specs.Sparse.{Sparse}
 use Rattle.presolve_model.specs.declared.instance.Instance.TheVariants as at
+use Rattle.presolve_model.specs.Commits.{with_instance}
 use Rattle.presolve_model.specs.Enabled.{enabled_on}
 use Rattle.run_report.proofs.Stepping.{not_stepped}
 use Rattle.run_report.proofs.story.step.Goals as goal
@@ -12,7 +13,7 @@ pub apply-requires : goal.apply-requires
 apply-requires c = record { enabled = ap (λ (p : Sparse). enabled_on p (at.Reduction c.args.reduction)) (sym c.problem.ensures) ∙ sym c.is_enabled.ensures ∙ c.if-not-is_enabled.false }
 
 pub returns-in-Applied : goal.returns-in-Applied
-returns-in-Applied c = c.in-Applied.ensures.left
+returns-in-Applied c = c.in-Applied.ensures.left ∙ ap (λ (v : ℕ). with_instance c.args.book.now 0 v (at.Reduction c.args.reduction)) c.instance_count-version.ensures
 
 -- what is not applied leaves the book, since it can't be
 pub returns : goal.returns

@@ -1,9 +1,7 @@
-use Rattle.std.proofs.Common.{List, None, Some, sym, subst}
+use Rattle.std.proofs.Common.{List, None, Some, subst}
 use Rattle.presolve_model.specs.Worlds.{Commit, Steps}
-use Rattle.txn_world.specs.Events.{CommitsFirst}
 use Rattle.txn_world.specs.Workers.{WorkerData, WorldData, state_of, IsAbsent, IsAt}
-use Rattle.txn_world.proofs.Placing.{worker_read}
-use Rattle.txn_world.proofs.Stepping.{absent_steps, nothing_steps, commit_steps}
+use Rattle.txn_world.proofs.Stepping.{absent_steps, commits_read, nothing_steps, commit_steps}
 use Rattle.txn_world.proofs.world.World.commit.Goals as goal
 
 pub returns-in-None-clause-ok : goal.returns-in-None-clause-ok
@@ -17,7 +15,7 @@ returns-in-None-commit_first-clause-ok c =
     let there = subst (λ (es : List WorkerData). IsAt es c.args.worker c.in-Some.place) c.as_slice.ensures.value c.in-Some.ensures in
     subst (λ (d : WorldData). Steps (state_of d) (Commit c.args.worker) None (state_of (record { book = c.commit_first.new.book; workers = ds }))) c.self.view_is
     (nothing_steps c.self.inside.book c.commit_first.new.book ds c.args.worker
-    (subst (λ (d : WorkerData). CommitsFirst c.self.inside.book d.pending None c.commit_first.new.book) (sym (worker_read ds c.args.worker c.in-Some.place c.index.result.now there c.index.ensures)) c.in-None-commit_first.ensures))
+    (commits_read c.self.inside.book c.commit_first.new.book ds c.args.worker c.in-Some.place c.index.result.now None there c.index.ensures c.in-None-commit_first.ensures))
 
 pub returns-clause-ok : goal.returns-clause-ok
 returns-clause-ok c =
@@ -25,5 +23,5 @@ returns-clause-ok c =
     let there = subst (λ (es : List WorkerData). IsAt es c.args.worker c.in-Some.place) c.as_slice.ensures.value c.in-Some.ensures in
     subst (λ (d : WorldData). Steps (state_of d) (Commit c.args.worker) (Some c.in-Some-commit_first.answer) (state_of (record { book = c.commit_first.new.book; workers = c.drop_first.new.workers.items }))) c.self.view_is
     (commit_steps c.self.inside.book c.commit_first.new.book ds c.drop_first.new.workers.items c.args.worker c.in-Some-commit_first.answer
-    (subst (λ (d : WorkerData). CommitsFirst c.self.inside.book d.pending (Some c.in-Some-commit_first.answer) c.commit_first.new.book) (sym (worker_read ds c.args.worker c.in-Some.place c.index.result.now there c.index.ensures)) c.in-Some-commit_first.ensures)
+    (commits_read c.self.inside.book c.commit_first.new.book ds c.args.worker c.in-Some.place c.index.result.now (Some c.in-Some-commit_first.answer) there c.index.ensures c.in-Some-commit_first.ensures)
     c.drop_first.ensures)

@@ -1,7 +1,7 @@
 use Rattle.std.proofs.Common.{true, false, ◌≡◌, sym, ◌∙◌, subst, map, List, All}
 use Rattle.lp_model.specs.Name.{IsName}
 use Rattle.undo_records.specs.declared.label.Label.{Label}
-use Rattle.undo_records.proofs.Cuts.{unknown_told}
+use Rattle.undo_records.proofs.Untold.{unknown_told}
 use Rattle.undo_records.proofs.Walking.{judged}
 use Rattle.undo_records.proofs.records.Records.checked.Goals as goal
 

@@ -2,8 +2,8 @@
 use Rattle.std.specs.Prelude.{◌≡◌, ℕ, zero, suc, ◌<◌, ◌≤◌, List, [], ◌∷◌, ◌++◌, slice_range, ⊤}
 use Rattle.problem_model.specs.declared.part.Part.{Part}
 use Rattle.problem_model.specs.declared.part.Part.TheVariants.{Row, Sides, Col, Bounds}
-use Rattle.undo_records.specs.declared.transactions.PartRead.{PartRead}
-use Rattle.undo_records.specs.declared.transactions.Heading.{Heading}
+use Rattle.transactions.specs.declared.transactions.PartRead.{PartRead}
+use Rattle.transactions.specs.declared.transactions.Heading.{Heading}
 
 -- the worker that committed a transaction, how many instances had been applied when the problem that it saw was frozen, and the parts that it read, each with its change number
 pub record Transaction : Type 0 where

@@ -1,8 +1,8 @@
 use Rattle.std.proofs.Common.{List, ◌∷◌, [], ◌++◌, length, sym, ap, ◌∙◌, subst}
-use Rattle.undo_records.specs.Transactions.{Transaction, EndsAscend, cut}
-use Rattle.undo_records.specs.declared.transactions.Heading.{Heading}
-use Rattle.undo_records.proofs.Cuts.{opened, opened_ends}
-use Rattle.undo_records.proofs.transactions.Transactions.open.Goals as goal
+use Rattle.transactions.specs.Transactions.{Transaction, EndsAscend, cut}
+use Rattle.transactions.specs.declared.transactions.Heading.{Heading}
+use Rattle.transactions.proofs.Cuts.{opened, opened_ends}
+use Rattle.transactions.proofs.transactions.Transactions.open.Goals as goal
 
 pub invariant_of-self-2 : goal.invariant_of-self-2
 invariant_of-self-2 c =

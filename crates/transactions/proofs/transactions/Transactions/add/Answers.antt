@@ -1,8 +1,8 @@
 use Rattle.std.proofs.Common.{◌<◌, List, length, ap, ◌∙◌, refl, subst, arith}
-use Rattle.undo_records.specs.Transactions.{with_read}
-use Rattle.undo_records.specs.declared.transactions.Heading.{Heading}
-use Rattle.undo_records.proofs.Cuts.{added_all, added_all_ends}
-use Rattle.undo_records.proofs.transactions.Transactions.add.Goals as goal
+use Rattle.transactions.specs.Transactions.{with_read}
+use Rattle.transactions.specs.declared.transactions.Heading.{Heading}
+use Rattle.transactions.proofs.Cuts.{added_all, added_all_ends}
+use Rattle.transactions.proofs.transactions.Transactions.add.Goals as goal
 
 pub invariant_of-self-2 : goal.invariant_of-self-2
 invariant_of-self-2 c = added_all_ends _ _ _ _ _ _ _ c.end_last.ensures refl c.as_slice-2.ensures.value c.in_ok-push.ensures.items c.self.invariant

@@ -1,15 +1,8 @@
 -- Transactions cut from one list.
-use Rattle.std.proofs.Common.{◌≡◌, ℕ, zero, suc, ◌+◌, ◌-◌, ◌<◌, ◌≤◌, Bool, List, [], ◌∷◌, ◌++◌, length, take, drop, replicate, slice_get, slice_index_or, slice_set, slice_range, Some, None, option_map, refl, sym, ap, ap₂, ◌∙◌, subst, arith, length-append, length-drop, All}
-use Rattle.std.proofs.lemmas.List.{length-replicate}
-use Rattle.std.proofs.lemmas.List.Elements.{All-nil, All-cons}
-use Rattle.rational.specs.Number.{Number}
-use Rattle.lp_model.specs.declared.program.Sense.{Sense}
-use Rattle.undo_records.specs.declared.label.Label.{Label}
-use Rattle.undo_records.specs.declared.undo.Undo.{Undo}
-use Rattle.undo_records.specs.Named.{AreTold}
-use Rattle.undo_records.specs.Transactions.{Transaction, EndsAscend, IsPartOf, VersionsBelow, cut, end_last, start_at, untold, with_read}
-use Rattle.undo_records.specs.declared.transactions.Heading.{Heading}
-use Rattle.undo_records.specs.declared.transactions.PartRead.{PartRead}
+use Rattle.std.proofs.Common.{◌≡◌, ℕ, zero, suc, ◌+◌, ◌-◌, ◌<◌, ◌≤◌, List, [], ◌∷◌, ◌++◌, length, take, drop, slice_get, slice_index_or, slice_set, slice_range, Some, None, option_map, refl, sym, ap, ap₂, ◌∙◌, subst, arith, length-append, length-drop}
+use Rattle.transactions.specs.Transactions.{Transaction, EndsAscend, cut, end_last, start_at, with_read}
+use Rattle.transactions.specs.declared.transactions.Heading.{Heading}
+use Rattle.transactions.specs.declared.transactions.PartRead.{PartRead}
 
 -- a front stays a front in front of more
 drop_front : {X : Type 0} (k : ℕ) (xs ys : List X) → k ≤ length xs → drop k (xs ++ ys) ≡ drop k xs ++ ys
@@ -147,15 +140,6 @@ added_ends from n [] a l = absurd (omega (arith, l))
 added_ends from n (h ∷ []) a l = (subst (λ k. from ≤ suc k) a.1 (omega (arith, a.0)), refl)
 added_ends from n (h ∷ g ∷ hs) a l = (a.0, added_ends h.end n (g ∷ hs) a.1 (omega arith))
 
--- transactions of which nothing is known are of versions below their places, and have read no part of another program
-pub untold_below : (place n : ℕ) → 1 ≤ place → VersionsBelow place (replicate n untold)
-untold_below place zero l = tt
-untold_below place (suc n) l = (l, untold_below (suc place) n (omega arith))
-
-pub untold_parts : (m k n : ℕ) → All (λ t. All (λ r. IsPartOf m k r.part) t.reads) (replicate n untold)
-untold_parts m k zero = All-nil (λ (t : Transaction). All (λ r. IsPartOf m k r.part) t.reads)
-untold_parts m k (suc n) = All-cons (λ (t : Transaction). All (λ r. IsPartOf m k r.part) t.reads) untold (replicate n untold) (All-nil (λ r. IsPartOf m k r.part)) (untold_parts m k n)
-
 -- the last one of a list, set
 last_set : (hs : List Heading) (d : Heading) (n : ℕ) → 0 < length hs
     → slice_set hs (length hs - 1) (record { by = (slice_index_or hs (length hs - 1) d).by; version = (slice_index_or hs (length hs - 1) d).version; end = n }) ≡ end_last hs n
@@ -193,13 +177,102 @@ added_all_ends hs gs rs qs ps r n eg en ep eq a l =
     subst (λ (k : ℕ). EndsAscend 0 gs k) (sym size ∙ en ∙ ap length ep)
     (subst (λ (fs : List Heading). EndsAscend 0 fs (suc (length rs))) (sym (eg ∙ ap (end_last hs) size)) (added_ends 0 (length rs) hs a l))
 
--- records whose transactions aren't known have them
-pub unknown_told : (s : Sense) (d : Bool) (cs rs : List Label) (o : Number) (us vs : List Undo) (ts : List Transaction) → vs ≡ us → ts ≡ replicate (length vs) untold
-    → AreTold (record { sense = s; duals = d; columns = cs; rows = rs; offset = o; undos = us; transactions = ts })
-unknown_told s d cs rs o us vs ts ev et =
-    let told : ts ≡ replicate (length us) untold = et ∙ ap (λ (ws : List Undo). replicate (length ws) untold) ev in
-    record {
-      count = ap length told ∙ length-replicate (length us) untold;
-      versions = subst (VersionsBelow 1) (sym told) (untold_below 1 (length us) (omega arith));
-      parts = subst (λ (hs : List Transaction). All (λ t. All (λ r. IsPartOf (length rs) (length cs) r.part) t.reads) hs) (sym told) (untold_parts (length rs) (length cs) (length us));
-    }
+-- one transaction more, with all that it read
+drop_own : {X : Type 0} (xs : List X) → drop (length xs) xs ≡ []
+drop_own [] = refl
+drop_own (x ∷ xs) = drop_own xs
+
+range_behind : {X : Type 0} (xs ys : List X) (from to : ℕ) → from ≡ length xs → to ≡ length xs + length ys → slice_range (xs ++ ys) from to ≡ ys
+range_behind xs ys from to f e =
+    ap₂ (λ (k n : ℕ). take k (drop n (xs ++ ys))) size f
+    ∙ ap (take (length ys)) (drop_front (length xs) xs ys (omega arith) ∙ ap (λ zs. zs ++ ys) (drop_own xs))
+    ∙ take_own ys
+  where
+    size : to - from ≡ length ys
+    size = omega (arith, f, e)
+
+appended : (from n : ℕ) (hs : List Heading) (rs qs : List PartRead) (h : Heading) → EndsAscend from hs n → n ≡ length rs → h.end ≡ length rs + length qs
+    → cut from (hs ++ h ∷ []) (rs ++ qs) ≡ cut from hs rs ++ record { by = h.by; version = h.version; reads = qs } ∷ []
+appended from n [] rs qs h a e f =
+    ap (λ (xs : List PartRead). record { by = h.by; version = h.version; reads = xs } ∷ []) (range_behind rs qs from h.end (a ∙ e) f)
+appended from n (g ∷ hs) rs qs h a e f =
+    ap₂ (λ (xs : List PartRead) (ts : List Transaction). record { by = g.by; version = g.version; reads = xs } ∷ ts)
+    (range_front rs qs from g.end a.0 (subst (λ k. g.end ≤ k) e (ends_within g.end n hs a.1)))
+    (appended g.end n hs rs qs h a.1 e f)
+
+appended_ends : (from n : ℕ) (hs : List Heading) (h : Heading) → EndsAscend from hs n → n ≤ h.end → EndsAscend from (hs ++ h ∷ []) h.end
+appended_ends from n [] h a l = (subst (λ k. k ≤ h.end) (sym a) l, refl)
+appended_ends from n (g ∷ hs) h a l = (a.0, appended_ends g.end n hs h a.1 l)
+
+-- the first transactions, and what they read
+front_long : {X : Type 0} (k : ℕ) (xs : List X) → k ≤ length xs → length (take k xs) ≡ k
+front_long zero xs l = refl
+front_long (suc k) [] l = absurd (omega (arith, l))
+front_long (suc k) (x ∷ xs) l = ap suc (front_long k xs (omega (arith, l)))
+
+front_and_rest : {X : Type 0} (k : ℕ) (xs : List X) → take k xs ++ drop k xs ≡ xs
+front_and_rest zero xs = refl
+front_and_rest (suc k) [] = refl
+front_and_rest (suc k) (x ∷ xs) = ap (λ zs. x ∷ zs) (front_and_rest k xs)
+
+range_kept : {X : Type 0} (k : ℕ) (xs : List X) (from to : ℕ) → k ≤ length xs → from ≤ to → to ≤ k → slice_range (take k xs) from to ≡ slice_range xs from to
+range_kept k xs from to l m n =
+    sym (range_front (take k xs) (drop k xs) from to m (subst (λ i. to ≤ i) (sym (front_long k xs l)) n))
+    ∙ ap (λ ys. slice_range ys from to) (front_and_rest k xs)
+
+starts_from : (from n : ℕ) (hs : List Heading) (k : ℕ) → EndsAscend from hs n → k ≤ length hs → (from ≤ start_at from hs k) × (start_at from hs k ≤ n)
+starts_from from n hs zero a l = (omega arith, ends_within from n hs a)
+starts_from from n [] (suc k) a l = absurd (omega (arith, l))
+starts_from from n (h ∷ hs) (suc k) a l = let more = starts_from h.end n hs k a.1 (omega (arith, l)) in (omega (arith, a.0, more.0), more.1)
+
+kept : (from n : ℕ) (hs : List Heading) (rs : List PartRead) (k s : ℕ) → EndsAscend from hs n → n ≡ length rs → k ≤ length hs → s ≡ start_at from hs k → cut from (take k hs) (take s rs) ≡ take k (cut from hs rs)
+kept from n hs rs zero s a e l f = refl
+kept from n [] rs (suc k) s a e l f = absurd (omega (arith, l))
+kept from n (h ∷ hs) rs (suc k) s a e l f =
+    let few : k ≤ length hs = omega (arith, l) in
+    let ends = starts_from h.end n hs k a.1 few in
+    ap₂ (λ (xs : List PartRead) (ts : List Transaction). record { by = h.by; version = h.version; reads = xs } ∷ ts)
+    (range_kept s rs from h.end (subst (λ i. s ≤ i) e (subst (λ i. i ≤ n) (sym f) ends.1)) a.0 (subst (λ i. h.end ≤ i) (sym f) ends.0))
+    (kept h.end n hs rs k s a.1 e few f)
+
+kept_ends : (from n : ℕ) (hs : List Heading) (k : ℕ) → EndsAscend from hs n → k ≤ length hs → EndsAscend from (take k hs) (start_at from hs k)
+kept_ends from n hs zero a l = refl
+kept_ends from n [] (suc k) a l = absurd (omega (arith, l))
+kept_ends from n (h ∷ hs) (suc k) a l = (a.0, kept_ends h.end n hs k a.1 (omega (arith, l)))
+
+take_all : {X : Type 0} (k : ℕ) (xs : List X) → length xs ≤ k → xs ≡ take k xs
+take_all zero [] l = refl
+take_all zero (x ∷ xs) l = absurd (omega (arith, l))
+take_all (suc k) [] l = refl
+take_all (suc k) (x ∷ xs) l = ap (λ zs. x ∷ zs) (take_all k xs (omega (arith, l)))
+
+-- the same by parts of the code
+pub appended_all : (hs gs : List Heading) (rs qs ps us : List PartRead) (by version n : ℕ) → gs ≡ hs ++ record { by = by; version = version; end = n } ∷ [] → n ≡ length ps → ps ≡ us → us ≡ rs ++ qs → EndsAscend 0 hs (length rs)
+    → cut 0 gs us ≡ cut 0 hs rs ++ record { by = by; version = version; reads = qs } ∷ []
+appended_all hs gs rs qs ps us by version n eg en ep eu a =
+    ap₂ (cut 0) eg eu
+    ∙ appended 0 (length rs) hs rs qs (record { by = by; version = version; end = n }) a refl (en ∙ ap length (ep ∙ eu) ∙ length-append rs qs)
+
+pub appended_all_ends : (hs gs : List Heading) (rs qs ps us : List PartRead) (by version n : ℕ) → gs ≡ hs ++ record { by = by; version = version; end = n } ∷ [] → n ≡ length ps → ps ≡ us → us ≡ rs ++ qs → EndsAscend 0 hs (length rs)
+    → EndsAscend 0 gs (length us)
+appended_all_ends hs gs rs qs ps us by version n eg en ep eu a =
+    let size : length rs + length qs ≡ n = sym (en ∙ ap length (ep ∙ eu) ∙ length-append rs qs) in
+    subst (λ (k : ℕ). EndsAscend 0 gs k) (en ∙ ap length ep)
+    (subst (λ (fs : List Heading). EndsAscend 0 fs n) (sym eg) (appended_ends 0 (length rs) hs (record { by = by; version = version; end = n }) a (omega (arith, size))))
+
+pub kept_all : (hs gs fs : List Heading) (rs qs : List PartRead) (k s : ℕ) → gs ≡ take k hs → qs ≡ take s rs → s ≡ start_at 0 fs k → fs ≡ hs → EndsAscend 0 hs (length rs) → k ≤ length fs
+    → cut 0 gs qs ≡ take k (cut 0 hs rs)
+kept_all hs gs fs rs qs k s eg eq es ef a l =
+    ap₂ (cut 0) eg eq ∙ kept 0 (length rs) hs rs k s a refl (subst (λ (is : List Heading). k ≤ length is) ef l) (es ∙ ap (λ (is : List Heading). start_at 0 is k) ef)
+
+pub kept_all_ends : (hs gs fs : List Heading) (rs qs : List PartRead) (k s : ℕ) → gs ≡ take k hs → qs ≡ take s rs → s ≡ start_at 0 fs k → fs ≡ hs → EndsAscend 0 hs (length rs) → k ≤ length fs
+    → EndsAscend 0 gs (length qs)
+kept_all_ends hs gs fs rs qs k s eg eq es ef a l =
+    let few : k ≤ length hs = subst (λ (is : List Heading). k ≤ length is) ef l in
+    let start : s ≡ start_at 0 hs k = es ∙ ap (λ (is : List Heading). start_at 0 is k) ef in
+    let within : s ≤ length rs = subst (λ i. i ≤ length rs) (sym start) (starts_from 0 (length rs) hs k a few).1 in
+    subst (λ (n : ℕ). EndsAscend 0 gs n) (sym start ∙ sym (front_long s rs within) ∙ sym (ap length eq))
+    (subst (λ (is : List Heading). EndsAscend 0 is (start_at 0 hs k)) (sym eg) (kept_ends 0 (length rs) hs k a few))
+
+pub all_kept : (k : ℕ) (hs fs : List Heading) (rs : List PartRead) → fs ≡ hs → length fs ≤ k → cut 0 hs rs ≡ take k (cut 0 hs rs)
+all_kept k hs fs rs e l = take_all k (cut 0 hs rs) (subst (λ n. n ≤ k) (ap length e ∙ sym (length_cut 0 hs rs)) l)

@@ -1,7 +1,7 @@
 //! What the transactions of records read.
 
-ghost use Rattle.std.specs.Prelude.{◌≡◌, ◌≤◌, ◌∷◌, ◌++◌, [], IfOk, OnOk, length, replicate, slice_get, slice_range};
-ghost use Rattle.undo_records.specs.Transactions.{end_last, start_at, untold, with_read};
+ghost use Rattle.std.specs.Prelude.{◌≡◌, ◌≤◌, ◌∷◌, ◌++◌, [], IfOk, OnErr, OnOk, length, replicate, slice_get, slice_range, take};
+ghost use Rattle.transactions.specs.Transactions.{end_last, start_at, untold, with_read};
 
 use problem_model::Part;
 use std::alloc::{AllocError, Global};
@@ -64,7 +64,7 @@ pub struct Transaction<'a> {
 }
 
 impl<'a> Model for Transaction<'a> {
-    ghost use Rattle.undo_records.specs.Transactions.{Transaction};
+    ghost use Rattle.transactions.specs.Transactions.{Transaction};
 
     ghost Value = { Transaction };
 
@@ -103,7 +103,7 @@ pub struct Transactions {
 
 impl Model for Transactions {
     ghost use Rattle.std.specs.Prelude.{List, length};
-    ghost use Rattle.undo_records.specs.Transactions.{Transaction, cut, EndsAscend};
+    ghost use Rattle.transactions.specs.Transactions.{Transaction, cut, EndsAscend};
 
     ghost Value = { List Transaction };
 
@@ -186,5 +186,32 @@ impl Transactions {
         self.reads.push(read)?;
         end_last(&mut self.headings, self.reads.as_slice().len());
         Ok(())
+    }
+
+    /// One transaction more, with all that it read. Where memory runs out, nothing changes.
+    ///
+    /// # Errors
+    /// Memory ran out.
+    pub fn append(&mut self, by: u32, version: u64, reads: &[PartRead]) -> Result<(), AllocError>
+        ensures appended { OnOk result (self.new ≡ self.old ++ record { by = by; version = version; reads = reads.now } ∷ []) }
+        ensures refused { OnErr result (self.new ≡ self.old) }
+    {
+        self.headings.reserve(1)?;
+        self.reads.extend_from_slice(reads)?;
+        let end = self.reads.as_slice().len();
+        self.headings.push_reserved(Heading { by, version, end });
+        Ok(())
+    }
+
+    /// Keeps the first so many transactions, and what they read.
+    pub fn truncate(&mut self, count: usize)
+        ensures { self.new ≡ take count self.old }
+    {
+        if count >= self.headings.as_slice().len() {
+            return;
+        }
+        let end = start_at(self.headings.as_slice(), count);
+        self.headings.truncate(count);
+        self.reads.truncate(end);
     }
 }

@@ -1,6 +1,6 @@
 use Rattle.std.proofs.Common.{arith, ap, ◌∙◌, slice_get}
-use Rattle.undo_records.proofs.Cuts.{none_at, range_at, some_at}
-use Rattle.undo_records.proofs.transactions.Transactions.get.Goals as goal
+use Rattle.transactions.proofs.Cuts.{none_at, range_at, some_at}
+use Rattle.transactions.proofs.transactions.Transactions.get.Goals as goal
 
 pub returns-then-place-headings : goal.returns-then-place-headings
 returns-then-place-headings c =
