@@ -1,0 +1,4 @@
+pub mod Draws
+pub mod Columns
+pub mod Rows
+pub mod Generated

@@ -1,0 +1,10 @@
+//! Programs made from a seed, for trials: rows of each type, and three entries at most in each column.
+#![tactic(auto)]
+
+mod columns;
+mod draws;
+mod parts;
+mod program;
+mod rows;
+
+pub use program::generate;
