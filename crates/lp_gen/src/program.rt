@@ -41,8 +41,9 @@ fn draw_parts(alloc: Global, seed: u64, rows: u32, columns: u32) -> Result<Parts
 ///
 /// First the type of each row is drawn. Then for each column a cost from 0 to 10 is drawn, and three times a row and a coefficient from 1 to 9;
 /// a coefficient in a row that the column has already is left out. Last a number from 0 to 4 is drawn for each row: its right side is the sum of
-/// its coefficients, with that number added for an L row, and taken off for a G row. The columns are continuous, from 0 to 10. Rows are named R0,
-/// R1 and so on, columns C0, C1 and so on, and the objective, which is minimized, COST. What a draw is stands in `specs/Draws.antt`.
+/// its coefficients, with that number added for an L row, and taken off for a G row. The columns are continuous, from 0 to 10. Rows are named by an
+/// R and their number, from 0, columns by a C and theirs, and the objective, which is minimized, COST. What a draw is, the definitions say
+/// (`Draws`).
 ///
 /// # Errors
 ///

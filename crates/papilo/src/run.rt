@@ -16,16 +16,22 @@ use migrate_command::migrate;
 use postsolve_command::postsolve;
 use presolve_command::presolve;
 use std::alloc::Global;
+use std::thread::Threads;
 use worker_gate::Gate;
 
 // Does what the words ask for.
-fn ending_of<F: Files>(alloc: Global, words: &[String], files: &mut F) -> Ending
+fn ending_of<R: Threads + Sync, F: Files>(
+    rt: &R,
+    alloc: Global,
+    words: &[String],
+    files: &mut F,
+) -> Ending
     ensures ends { Ends (asked (texts words.now)) (status_of result) (text_of result) (F.moment files.old) (F.moment files.new) }
     ensures refused { status_of result ≡ 1 → AreRefused (texts words.now) }
 {
     match command_line::read(alloc, words) {
         Ok(Request::Presolve(words)) => {
-            presolve(alloc, &words, files).unwrap_or(Ending::NoMemory)
+            presolve(rt, alloc, &words, files).unwrap_or(Ending::NoMemory)
         }
         Ok(Request::Check(words)) => check(alloc, &words, files).unwrap_or(Ending::NoMemory),
         Ok(Request::Postsolve(words)) => {
@@ -38,8 +44,8 @@ fn ending_of<F: Files>(alloc: Global, words: &[String], files: &mut F) -> Ending
 }
 
 /// Does what the words ask for, prints once, and answers the exit status.
-pub fn run<R, F: Files, S: Sink, G: Gate>(
-    _rt: &R,
+pub fn run<R: Threads + Sync, F: Files, S: Sink, G: Gate>(
+    rt: &R,
     alloc: Global,
     words: &[String],
     files: &mut F,
@@ -64,7 +70,7 @@ pub fn run<R, F: Files, S: Sink, G: Gate>(
     ensures kept { KeepsUnasked (asked (texts words.now)) (F.moment files.old) (F.moment files.new) }
     ensures read { result ≢ 3 → result ≢ 4 → result ≢ 5 → AreThere (asked (texts words.now)) (F.moment files.old) }
 {
-    let ending = ending_of(alloc, words, files);
+    let ending = ending_of(rt, alloc, words, files);
     match out.put(ending.text()) {
         Ok(()) => ending.status(),
         Err(_) => 4,

@@ -12,6 +12,7 @@ use command_words::PresolveWords;
 use endings::{Ending, INPUT_LIMIT, fault_line};
 use file_ports::{Failed, Files, ReadErr};
 use std::alloc::{AllocError, Global};
+use std::thread::Threads;
 
 // Writes the program's text, then the records' text.
 fn write_both<F: Files>(
@@ -32,7 +33,8 @@ fn write_both<F: Files>(
 
 /// Reads a program, writes the reduced one and its records; nothing where it has no feasible point, or none of least cost, or duals are
 /// asked for and a column has to be whole. All that is written and printed is made before the first write.
-pub fn presolve<F: Files>(
+pub fn presolve<R: Threads + Sync, F: Files>(
+    rt: &R,
     alloc: Global,
     words: &PresolveWords<'_>,
     files: &mut F,
@@ -50,7 +52,7 @@ pub fn presolve<F: Files>(
         }
         Err(ReadErr::NoMemory) => return Err(AllocError),
     };
-    let texts = match reduce(alloc, &text, words.options) {
+    let texts = match reduce(rt, alloc, &text, words.options) {
         Ok(texts) => texts,
         Err(NotReduced::Fault(fault)) => return Ok(Ending::Refused(fault_line(alloc, fault)?)),
         Err(NotReduced::NotContinuous(line)) => return Ok(Ending::Refused(line)),

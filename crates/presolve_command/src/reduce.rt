@@ -16,12 +16,14 @@ use lp_check::first_whole_column;
 use lp_model::{ColumnDef, Program};
 use mps_writer::{WriteError, write_mps};
 use presolve_model::{Options, Workers};
-use presolve_rounds::{Presolved, ReducedProgram, presolve};
+use presolve_rounds::{Presolved, ReducedProgram};
 use record_file::write_records;
 use record_round_trip::records_have_range;
 use record_values::TextVersion;
 use std::alloc::{AllocError, Global};
+use std::thread::Threads;
 use text_lines::Fault;
+use threaded_passes::presolve;
 use whole_way::laws::texts_come_back;
 
 /// All that a presolve writes and prints.
@@ -157,7 +159,8 @@ fn column_in_the_way(program: &Program, options: &Options) -> Option<u32>
 }
 
 // Reduces a program, and makes the texts of what is left.
-fn reduce_program(
+fn reduce_program<R: Threads + Sync>(
+    rt: &R,
     alloc: Global,
     program: Program,
     options: &Options,
@@ -172,7 +175,7 @@ fn reduce_program(
 {
     let before = size_of(&program);
     texts_come_back();
-    match presolve(alloc, program, options, workers) {
+    match presolve(rt, alloc, program, options, workers) {
         Ok(Presolved::Reduced(made)) => {
             records_have_range(&made.records);
             let report = report_for(&made, before);
@@ -186,7 +189,8 @@ fn reduce_program(
 }
 
 // Reduces a program that is taken: where duals are asked for, no column may have to be whole.
-fn reduce_taken(
+fn reduce_taken<R: Threads + Sync>(
+    rt: &R,
     alloc: Global,
     program: Program,
     options: &Options,
@@ -203,7 +207,7 @@ fn reduce_taken(
             let line = not_continuous_text(alloc, &program, column)?;
             Err(NotReduced::NotContinuous(line))
         }
-        None => reduce_program(alloc, program, options, workers),
+        None => reduce_program(rt, alloc, program, options, workers),
     }
 }
 
@@ -212,7 +216,12 @@ fn reduce_taken(
 /// # Errors
 /// The first fault of the text, the first column that has to be whole where duals are asked for, that the program has no feasible point,
 /// that it has none or none of least cost, or want of memory.
-pub fn reduce(alloc: Global, text: &[u8], options: PresolveOptions) -> Result<Texts, NotReduced>
+pub fn reduce<R: Threads + Sync>(
+    rt: &R,
+    alloc: Global,
+    text: &[u8],
+    options: PresolveOptions,
+) -> Result<Texts, NotReduced>
     requires { length text.now < 2 ^ 32 }
     ensures { IsReduced options text.now result }
 {
@@ -223,7 +232,7 @@ pub fn reduce(alloc: Global, text: &[u8], options: PresolveOptions) -> Result<Te
         dual: options.dual,
     };
     match read_program(alloc, text, form) {
-        Ok(program) => reduce_taken(alloc, program, &told, &Workers::one()),
+        Ok(program) => reduce_taken(rt, alloc, program, &told, &Workers::one()),
         Err(ProgramError::Fault(fault)) => Err(NotReduced::Fault(fault)),
         Err(ProgramError::NoMemory) => Err(NotReduced::NoMemory),
     }

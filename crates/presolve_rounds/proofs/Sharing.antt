@@ -58,15 +58,15 @@ then_fresh a b e es h x c = h x (behind e es x c)
 pub all_fresh : (a b : Ledger) (e : Instance) (es : List Instance) → AreAlike b es → Contains es e → IsFresh a.problem b.problem e → AreFresh a b es
 all_fresh a b e es h there fresh x c = fresh_alike a.problem b.problem e x es (h.alike e there) c fresh
 
-pub all_stale : (a : Ledger) (w v : Watched) (b : Ledger) (e : Instance) (es : List Instance) (p : Part) → IsGoing a w b → AreAlike b es → Contains es e → (IsFresh a.problem b.problem e → ⊥) → v ≡ record { marks = left_over w.marks e p; forms = w.forms } → Contains (heads e) p
+pub all_stale : (a : Ledger) (w v : Watched) (b : Ledger) (e : Instance) (es : List Instance) (p : Part) → IsGoing a w b → ReadAlike e es → Contains es e → (IsFresh a.problem b.problem e → ⊥) → v ≡ record { marks = left_over w.marks e p; forms = w.forms } → Contains (heads e) p
     → IsPassed a es w b v b
 all_stale a w v b e es p going h there stale is own = subst (λ (x : Watched). IsPassed a es w b x b) (sym is) (record {
-  passed = row_stale (open_on a.tally) a.problem (instance_count a) w.marks (left_over w.marks e p) b e es p going.follows stale (h.alike e there) (over_grows (reach_of (rule_at e)) w.marks p) own noted;
+  passed = row_stale (open_on a.tally) a.problem (instance_count a) w.marks (left_over w.marks e p) b e es p going.follows stale h (over_grows (reach_of (rule_at e)) w.marks p) own noted;
   forms = going.forms;
 })
   where
     noted : Contains (left_over w.marks e p).noted p
-    noted = subst (λ (ps : List Part). Contains ps p) (noted_count (left_over w.marks e p) (reach_of (rule_at e)) ((h.alike e there).by_value e there)) (over_counts (reach_of (rule_at e)) w.marks p)
+    noted = subst (λ (ps : List Part). Contains ps p) (noted_count (left_over w.marks e p) (reach_of (rule_at e)) (h.by_value e there)) (over_counts (reach_of (rule_at e)) w.marks p)
 
 -- ---- what becomes of the others where one is met
 not_applied : (b c : Ledger) (w : ℕ) (e : Instance) (o : Outcome) → c ≡ left_by b 0 (proposal_of b.problem w e) o → is_applied o ≡ false → c ≡ b

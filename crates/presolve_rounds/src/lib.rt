@@ -4,12 +4,14 @@
 mod labels;
 mod onlooker;
 mod outcome;
-mod pass;
+pub mod pass;
+mod passes;
 mod reduce;
 mod rounds;
 mod source;
 
 pub use onlooker::{NoOnlooker, Onlooker};
 pub use outcome::{DecidedProgram, Presolved, ReducedProgram};
-pub use reduce::{opened, presolve};
-pub use rounds::run;
+pub use passes::{InTurn, Passes};
+pub use reduce::{opened, presolve, presolve_by};
+pub use rounds::{run, run_by};

@@ -59,7 +59,7 @@ fn is_applied(outcome: Outcome) -> bool
 
 /// Applies an instance that is enabled, its parts as they stood when the round began, and notes what changes. Marks a part that it reads.
 /// Returns whether it was applied.
-fn meet(
+pub fn meet(
     alloc: Global,
     book: &mut Book,
     walk: &Walk<'_>,
@@ -79,7 +79,7 @@ fn meet(
 }
 
 /// Whether the parts that an instance reads stand as they stood when the round began.
-fn is_fresh(
+pub fn is_fresh(
     alloc: Global,
     book: &Book,
     walk: &Walk<'_>,
@@ -138,7 +138,7 @@ fn visit_found(
 
 /// Instances in turn that share their reading, its parts as they stood when the round began: up to the first one that is applied, which leaves
 /// the others stale.
-fn meet_alike(
+pub fn meet_alike(
     alloc: Global,
     book: &mut Book,
     walk: &Walk<'_>,
@@ -293,7 +293,7 @@ fn visit_rule(
 }
 
 /// The instances of rules at these rows and columns, each rule's in turn.
-fn visit_rules(
+pub fn visit_rules(
     alloc: Global,
     book: &mut Book,
     walk: &Walk<'_>,

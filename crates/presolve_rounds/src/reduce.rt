@@ -13,7 +13,8 @@ ghost use Rattle.presolve_rounds.specs.Sources.{given, IsKept};
 use crate::labels::records_of;
 use crate::onlooker::NoOnlooker;
 use crate::outcome::{DecidedProgram, Presolved, ReducedProgram};
-use crate::rounds::run;
+use crate::passes::{InTurn, Passes};
+use crate::rounds::run_by;
 use crate::source::{Source, source_of};
 use lp_model::Program;
 use presolve_model::{End, Options, Workers};
@@ -108,8 +109,41 @@ fn concluded(
     }
 }
 
-/// Reduces a program by the rules that there are, until it is decided, or no rule is left that could be applied, or the limit is reached.
-/// However many workers there are, one does all of it, in order.
+/// Reduces a program by the rules that there are, until it is decided, or no rule is left that could be applied, or the limit is reached. The
+/// rounds are gone over in this way, in order.
+///
+/// # Errors
+/// For want of memory.
+pub fn presolve_by<P: Passes>(
+    alloc: Global,
+    passes: &P,
+    program: Program,
+    options: &Options,
+    workers: &Workers,
+) -> Result<Presolved, AllocError>
+    requires able { P.ready passes.now }
+    requires few_rows { length program.rows < 2 ^ 32 }
+    requires few_columns { length program.columns < 2 ^ 32 }
+    requires ascends { EntriesAscend program }
+    requires writable { Writable options.now.numbers program }
+    ensures { IfOk result (λ made. Concludes options.now workers.now program made) }
+{
+    let mut book = opened(alloc, &program, options)?;
+    let source = source_of(alloc, program);
+    let end = run_by(alloc, passes, &mut book, &mut NoOnlooker)?;
+    match end {
+        Some(end) => {
+            let made = reduced(alloc, &source, options.dual, workers, book, end)?;
+            Ok(Presolved::Reduced(made))
+        }
+        None => {
+            let made = decided(&source, options.dual, workers, book);
+            Ok(concluded(&source, options, workers, made))
+        }
+    }
+}
+
+/// The same on one thread, however many workers there are.
 ///
 /// # Errors
 /// For want of memory.
@@ -125,17 +159,5 @@ pub fn presolve(
     requires writable { Writable options.now.numbers program }
     ensures { IfOk result (λ made. Concludes options.now workers.now program made) }
 {
-    let mut book = opened(alloc, &program, options)?;
-    let source = source_of(alloc, program);
-    let end = run(alloc, &mut book, &mut NoOnlooker)?;
-    match end {
-        Some(end) => {
-            let made = reduced(alloc, &source, options.dual, workers, book, end)?;
-            Ok(Presolved::Reduced(made))
-        }
-        None => {
-            let made = decided(&source, options.dual, workers, book);
-            Ok(concluded(&source, options, workers, made))
-        }
-    }
+    presolve_by(alloc, &InTurn, program, options, workers)
 }

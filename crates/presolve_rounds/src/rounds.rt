@@ -1,4 +1,4 @@
-//! Rounds in order, on one thread.
+//! Rounds in order.
 //!
 //! A round lists, by its meaning, the enabled instances of the present problem in instance order: each rule's in turn, by ids. It then
 //! commits them in that order. A pass does the same, at those rows and columns alone at which an instance can be enabled: near each part that
@@ -18,7 +18,8 @@ ghost use Rattle.presolve_rounds.specs.Readiness.{AreMarked, IsReady};
 ghost use Rattle.presolve_rounds.specs.Running.{EndsWith, IsFirst};
 
 use crate::onlooker::Onlooker;
-use crate::pass::{Walk, pass};
+use crate::pass::Walk;
+use crate::passes::{InTurn, Passes};
 use instances::Tally;
 use line_groups::Parallels;
 use presolve_model::{End, Instance, Outcome, Part};
@@ -33,14 +34,16 @@ use std::snapshot::Snapshot;
 use txn_book::Book;
 
 /// One round. Gives the rows and columns of the next, with what is marked.
-fn round(
+fn round<P: Passes>(
     alloc: Global,
+    passes: &P,
     book: &mut Book,
     stamps: &mut Stamps,
     groups: &mut Parallels,
     ids: &mut Around,
     watch: &mut Watch,
 ) -> Result<(), AllocError>
+    requires able { P.ready passes.now }
     requires ready { IsReady book.old stamps.old ids.old watch.old }
     requires groups { AreGroupsOf groups.old book.old.problem }
     ensures book { OnOk result (IsSameBook book.old book.new) }
@@ -58,7 +61,7 @@ fn round(
         stamps,
         groups,
     };
-    pass(alloc, book, &walk, ids, watch)?;
+    passes.pass(alloc, book, &walk, ids, watch)?;
     stamps.refresh(book.problem(), watch.noted());
     groups.refresh(alloc, book.problem(), watch.noted())?;
     *ids = watch.around(alloc, book.problem(), groups)?;
@@ -156,12 +159,14 @@ fn end_at_limit(
 
 /// Rounds until nothing can be applied, a verdict was, or the limit is reached, with the groups of the book's problem. None where the book is
 /// decided.
-fn run_with<O: Onlooker>(
+fn run_with<P: Passes, O: Onlooker>(
     alloc: Global,
+    passes: &P,
     book: &mut Book,
     groups: &mut Parallels,
     onlooker: &mut O,
 ) -> Result<Option<End>, AllocError>
+    requires able { P.ready passes.now }
     requires groups { AreGroupsOf groups.old book.old.problem }
     requires undecided { book.old.verdict ≡ None }
     requires counted { (a : Part) → changes_of book.old.problem a ≤ length book.old.history }
@@ -176,7 +181,15 @@ fn run_with<O: Onlooker>(
     let mut watch = Watch::of(alloc, book.problem())?;
     while book.applied() < limit {
         let applied = book.applied();
-        round(alloc, book, &mut stamps, groups, &mut ids, &mut watch)?;
+        round(
+            alloc,
+            passes,
+            book,
+            &mut stamps,
+            groups,
+            &mut ids,
+            &mut watch,
+        )?;
         onlooker.after_round(alloc, book)?;
         if book.verdict().is_some() {
             return Ok(None);
@@ -196,8 +209,32 @@ fn run_with<O: Onlooker>(
     end_at_limit(alloc, book, groups)
 }
 
-/// Rounds until nothing can be applied, a verdict was, or the limit is reached. None where the book is decided. The onlooker is told after
-/// each round.
+/// Rounds until nothing can be applied, a verdict was, or the limit is reached, each gone over in this way. None where the book is decided.
+/// The onlooker is told after each round.
+///
+/// # Errors
+/// Memory ran out.
+pub fn run_by<P: Passes, O: Onlooker>(
+    alloc: Global,
+    passes: &P,
+    book: &mut Book,
+    onlooker: &mut O,
+) -> Result<Option<End>, AllocError>
+    requires able { P.ready passes.now }
+    requires undecided { book.old.verdict ≡ None }
+    requires counted { (a : Part) → changes_of book.old.problem a ≤ length book.old.history }
+    ensures book { OnOk result (IsSameBook book.old book.new) }
+    ensures ordered { IfOk result (λ end. Ordered book.old end book.new) }
+    ensures end { IfOk result (λ end. EndsWith end book.new) }
+{
+    let mut groups = Parallels::of(alloc, book.problem())?;
+    run_with(alloc, passes, book, &mut groups, onlooker)
+}
+
+/// The same on one thread, each instance looked at in its turn.
+///
+/// # Errors
+/// Memory ran out.
 pub fn run<O: Onlooker>(
     alloc: Global,
     book: &mut Book,
@@ -209,6 +246,5 @@ pub fn run<O: Onlooker>(
     ensures ordered { IfOk result (λ end. Ordered book.old end book.new) }
     ensures end { IfOk result (λ end. EndsWith end book.new) }
 {
-    let mut groups = Parallels::of(alloc, book.problem())?;
-    run_with(alloc, book, &mut groups, onlooker)
+    run_by(alloc, &InTurn, book, onlooker)
 }

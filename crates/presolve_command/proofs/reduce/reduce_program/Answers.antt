@@ -6,7 +6,7 @@ use Rattle.presolve_command.specs.Texts.{Outcome}
 use Rattle.presolve_command.proofs.reduce.reduce_program.Goals as goal
 
 pub returns-in_ok-texts-in-Ok-Reduced : goal.returns-in_ok-texts-in-Ok-Reduced
-returns-in_ok-texts-in-Ok-Reduced c =
+returns-in_ok-texts-in-Ok-Reduced g c =
     let made = c.in-Ok-Reduced.made in
     let concluded = concluded_of c.args.options.now c.args.workers.now c.args.program c.in-Ok-Reduced.field-0 made c.in-Ok-Reduced.field-0-is c.in-Ok-Reduced.ensures in
     let outcome : Outcome = record { source = c.args.program; program = made.program; records = made.records; report = c.report_for-report.result } in
@@ -27,13 +27,13 @@ returns-in_ok-texts-in-Ok-Reduced c =
     )
 
 pub texts_of-requires : goal.texts_of-requires
-texts_of-requires c =
+texts_of-requires g c =
     let concluded = concluded_of c.args.options.now c.args.workers.now c.args.program c.in-Ok-Reduced.field-0 c.in-Ok-Reduced.made c.in-Ok-Reduced.field-0-is c.in-Ok-Reduced.ensures in
     widths_fit c.args.options.now.numbers c.in-Ok-Reduced.made.program concluded.writable
 
 pub returns-in-Ok-Infeasible : goal.returns-in-Ok-Infeasible
-returns-in-Ok-Infeasible c = infeasible_of c.args.options.now c.args.workers.now c.args.program c.in-Ok-Infeasible.field-0 c.in-Ok-Infeasible._decided c.in-Ok-Infeasible.field-0-is c.requires.taken c.in-Ok-Infeasible.ensures
+returns-in-Ok-Infeasible g c = infeasible_of c.args.options.now c.args.workers.now c.args.program c.in-Ok-Infeasible.field-0 c.in-Ok-Infeasible._decided c.in-Ok-Infeasible.field-0-is c.requires.taken c.in-Ok-Infeasible.ensures
 
 pub returns-in-Ok-UnboundedOrInfeasible : goal.returns-in-Ok-UnboundedOrInfeasible
-returns-in-Ok-UnboundedOrInfeasible c =
+returns-in-Ok-UnboundedOrInfeasible g c =
     unbounded_of c.args.options.now c.args.workers.now c.args.program c.in-Ok-UnboundedOrInfeasible.field-0 c.in-Ok-UnboundedOrInfeasible._decided c.in-Ok-UnboundedOrInfeasible.field-0-is c.requires.taken c.in-Ok-UnboundedOrInfeasible.ensures

@@ -6,7 +6,7 @@ returns-in_default c = none_found c.args.walk.now.frozen.now.value c.args.found.
 
 pub returns-then-not-branch : goal.returns-then-not-branch
 returns-then-not-branch c =
-    all_stale c.args.walk.now.frozen.now.value c.args.watch.now c.leave.new.self c.args.book.now _ c.args.found.now c.head.result c.requires.going c.requires.alike (first_in c.args.found.now _ c.in-len1-up.len_at_least)
+    all_stale c.args.walk.now.frozen.now.value c.args.watch.now c.leave.new.self c.args.book.now _ c.args.found.now c.head.result c.requires.going (c.requires.alike.alike _ (first_in c.args.found.now _ c.in-len1-up.len_at_least)) (first_in c.args.found.now _ c.in-len1-up.len_at_least)
     (c.in_ok-is_fresh.ensures.stale c.if-not-branch.true) c.in_ok-leave.ensures c.head.ensures
 
 pub meet_alike-requires-clause-fresh : goal.meet_alike-requires-clause-fresh

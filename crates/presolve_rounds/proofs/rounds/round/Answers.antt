@@ -11,33 +11,36 @@ use Rattle.presolve_rounds.proofs.Running.{groups_next, ready_begun, ready_next,
 use Rattle.presolve_rounds.proofs.rounds.round.Goals as goal
 
 pub pass-requires-clause-going : goal.pass-requires-clause-going
-pass-requires-clause-going c =
+pass-requires-clause-going g c =
     let ready = ready_begun c.args.book.now c.args.stamps.now c.args.ids.now c.args.watch.now c.begin_round.new.self c.requires.ready c.begin_round.ensures in
     subst (λ (a : Ledger). IsGoing a c.begin_round.new.self c.args.book.now) (sym c.of-frozen.ensures) (record { began = ready.follows.sparse; follows = ready.follows; forms = ready.forms; noted = λ x. inl refl })
 
+pub pass-requires-clause-begins : goal.pass-requires-clause-begins
+pass-requires-clause-begins g c = c.of-frozen.ensures
+
 pub pass-requires-clause-walk : goal.pass-requires-clause-walk
-pass-requires-clause-walk c = record {
+pass-requires-clause-walk g c = record {
   version = c.instance_count-version.ensures ∙ ap instance_count (sym c.of-frozen.ensures);
   stamps = subst (λ (a : Ledger). AreStampsOf c.args.stamps.now a.problem) (sym c.of-frozen.ensures) c.requires.ready.stamps;
   groups = subst (λ (a : Ledger). AreGroupsOf c.args.groups.now a.problem) (sym c.of-frozen.ensures) c.requires.groups;
 }
 
 pub returns-clause-committed : goal.returns-clause-committed
-returns-clause-committed c =
+returns-clause-committed g c =
     let b : Ledger = c.args.book.now in
     round_committed b c.pass.new.book c.args.stamps.now c.args.ids.now c.begin_round.new.self c.pass.new.watch
     (ready_begun b c.args.stamps.now c.args.ids.now c.args.watch.now c.begin_round.new.self c.requires.ready c.begin_round.ensures)
     (subst (λ (a : Ledger). IsPassed a (visited (open_on a.tally) a.problem c.args.ids.now) c.begin_round.new.self b c.pass.new.watch c.pass.new.book) c.of-frozen.ensures c.in_ok-pass.ensures)
 
 pub returns-clause-marked : goal.returns-clause-marked
-returns-clause-marked c =
+returns-clause-marked g c =
     let b : Ledger = c.args.book.now in
     round_marked b c.pass.new.book c.args.stamps.now c.args.ids.now c.begin_round.new.self c.pass.new.watch
     (ready_begun b c.args.stamps.now c.args.ids.now c.args.watch.now c.begin_round.new.self c.requires.ready c.begin_round.ensures)
     (subst (λ (a : Ledger). IsPassed a (visited (open_on a.tally) a.problem c.args.ids.now) c.begin_round.new.self b c.pass.new.watch c.pass.new.book) c.of-frozen.ensures c.in_ok-pass.ensures)
 
 pub returns-clause-ready : goal.returns-clause-ready
-returns-clause-ready c =
+returns-clause-ready g c =
     let b : Ledger = c.args.book.now in
     ready_next b c.pass.new.book c.args.stamps.now c.args.ids.now c.begin_round.new.self c.pass.new.watch
     (ready_begun b c.args.stamps.now c.args.ids.now c.args.watch.now c.begin_round.new.self c.requires.ready c.begin_round.ensures)
@@ -47,14 +50,14 @@ returns-clause-ready c =
     c.in_ok-ids.ensures.sorted (subst (λ (p : Sparse). HoldsAround p c.pass.new.watch.marks c.in_ok-ids.field-0) c.problem-3.ensures c.in_ok-ids.ensures.holds)
 
 pub returns-clause-groups : goal.returns-clause-groups
-returns-clause-groups c =
+returns-clause-groups g c =
     let b : Ledger = c.args.book.now in
     let h : IsPassed b (visited (open_on b.tally) b.problem c.args.ids.now) c.begin_round.new.self b c.pass.new.watch c.pass.new.book =
     subst (λ (a : Ledger). IsPassed a (visited (open_on a.tally) a.problem c.args.ids.now) c.begin_round.new.self b c.pass.new.watch c.pass.new.book) c.of-frozen.ensures c.in_ok-pass.ensures in
     groups_next c.args.groups.now c.refresh-2.new.self b c.pass.new.book c.pass.new.watch c.problem-2.result.now c.noted-2.result.now c.problem-2.ensures c.noted-2.ensures c.requires.groups h.passed.follows h.passed.moved c.in_ok-refresh.ensures
 
 pub around-requires : goal.around-requires
-around-requires c =
+around-requires g c =
     let b : Ledger = c.args.book.now in
     let h : IsPassed b (visited (open_on b.tally) b.problem c.args.ids.now) c.begin_round.new.self b c.pass.new.watch c.pass.new.book =
     subst (λ (a : Ledger). IsPassed a (visited (open_on a.tally) a.problem c.args.ids.now) c.begin_round.new.self b c.pass.new.watch c.pass.new.book) c.of-frozen.ensures c.in_ok-pass.ensures in

@@ -1,0 +1,94 @@
+//! Passes whose tests run in threads.
+
+ghost use Rattle.std.specs.Prelude.{◌≡◌};
+ghost use Rattle.threaded_passes.specs.Listing.{listed_order, turned_order};
+
+use crate::found::enabled_by_threads;
+use crate::listed::visit_listed;
+use presolve_model::Rule;
+use presolve_rounds::Passes;
+use presolve_rounds::pass::{Walk, visit_rules};
+use round_marks::around::Around;
+use round_marks::watch::Watch;
+use std::alloc::{AllocError, Global};
+use std::thread::Threads;
+use txn_book::Book;
+
+/// Finds the enabled instances of a round by at most so many threads, and goes over what was found in one.
+#[derive(Drop)]
+pub struct ByThreads<'a, R> {
+    rt: &'a R,
+    threads: u32,
+}
+
+/// The rules whose instances are listed.
+fn listed_rules() -> [Rule; 18]
+    ensures { result ≡ listed_order }
+{
+    [
+        Rule::CrossedBounds,
+        Rule::CrossedSides,
+        Rule::InfeasibleRow,
+        Rule::UnboundedColumn,
+        Rule::EmptyRow,
+        Rule::SingletonRow,
+        Rule::FixedColumn,
+        Rule::RoundedBounds,
+        Rule::RedundantRow,
+        Rule::RedundantSide,
+        Rule::ForcingRow,
+        Rule::BoundTightening,
+        Rule::CoefficientTightening,
+        Rule::DualFixing,
+        Rule::DominatedColumn,
+        Rule::DoubletonEquation,
+        Rule::FreeColumnSingleton,
+        Rule::SlackColumnSingleton,
+    ]
+}
+
+/// The rules whose instances are looked at in their turn.
+fn turned_rules() -> [Rule; 3]
+    ensures { result ≡ turned_order }
+{
+    [Rule::ParallelRows, Rule::ParallelColumns, Rule::EmptyColumn]
+}
+
+impl<'a, R: Threads + Sync> ByThreads<'a, R> {
+    /// With this runtime, by so many threads. What it needs at each pass is there: the runtime may be shared.
+    pub fn new(rt: &'a R, threads: u32) -> ByThreads<'a, R>
+        ensures { result.threads ≡ threads }
+    {
+        ByThreads { rt, threads }
+    }
+}
+
+impl<'a, R: Threads + Sync> Passes for ByThreads<'a, R> {
+    ghost use Rattle.std.specs.Thread.{IsSync};
+
+    ghost ready = { λ _. IsSync R.row };
+
+    fn pass(
+        &self,
+        alloc: Global,
+        book: &mut Book,
+        walk: &Walk<'_>,
+        ids: &Around,
+        watch: &mut Watch,
+    ) -> Result<(), AllocError> {
+        book.keep_sums(ids.of(Rule::BoundTightening));
+        let found = enabled_by_threads(
+            self.rt,
+            alloc,
+            self.threads,
+            book.problem(),
+            walk.groups,
+            book.tally(),
+            ids,
+            &listed_rules(),
+        )?;
+        visit_listed(alloc, book, walk, found.as_slice(), watch)?;
+        visit_rules(alloc, book, walk, &turned_rules(), ids, watch)?;
+        Ok(())
+    }
+}
