@@ -33,7 +33,7 @@ use anyhow::Result;
 use script::Script;
 
 fn main(rt: HostRuntime) -> Result<()> {
-    let mut script = Script::new(rt.alloc());
+    let mut script = Script::new(rt.alloc(), &rt);
     for line in rt.lines(rt.alloc()) {
         let line = line?;
         script.take(&rt, line.as_str())?;

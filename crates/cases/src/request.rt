@@ -5,6 +5,7 @@ use anyhow::{Result, anyhow};
 use case_parts::{again, rule};
 use mps_profile::dialect::Dialect;
 use presolve_model::Reduction;
+use std::thread::Threads;
 
 /// A request; files are named by their places.
 #[derive(Clone, Copy)]
@@ -26,10 +27,15 @@ pub enum Request {
 
 impl Request {
     /// Prints the answer.
-    pub fn answer(&self, rt: &HostRuntime, case: &Case) -> Result<()> {
+    pub fn answer<T: Threads + Sync>(
+        &self,
+        rt: &HostRuntime,
+        threads: &T,
+        case: &Case,
+    ) -> Result<()> {
         match *self {
             Request::Nothing => Err(anyhow!("nothing is asked")),
-            Request::Run => case.run(rt),
+            Request::Run => case.run(rt, threads),
             Request::Explain => case.explain(rt),
             Request::Program(place, dialect) => again::program(rt, case.bytes_at(place)?, dialect),
             Request::Look(place, dialect) => again::look(rt, case.bytes_at(place)?, dialect),

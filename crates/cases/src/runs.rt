@@ -7,6 +7,7 @@ use explain_command::answer;
 use file_ports::{Held, MemFiles, MemSink, names_differ};
 use papilo::run::run;
 use std::alloc::{AllocError, Global};
+use std::thread::Threads;
 use worker_gate::OpenGate;
 
 /// The most bytes that a run may print.
@@ -96,25 +97,30 @@ impl Case {
     }
 
     /// Runs the presolver on files that are too long to hold, and prints its status and its text.
-    fn run_long(&self, rt: &HostRuntime, length: u64) -> Result<()> {
+    fn run_long<T: Threads + Sync>(
+        &self,
+        rt: &HostRuntime,
+        threads: &T,
+        length: u64,
+    ) -> Result<()> {
         let alloc = rt.alloc();
         let mut files = LongFiles::new(length);
         let mut out = MemSink::new(alloc, PRINTED, &self.puts)?;
-        let status = run(rt, alloc, &self.words, &mut files, &mut out, &OpenGate);
+        let status = run(threads, alloc, &self.words, &mut files, &mut out, &OpenGate);
         println!(rt; "status {status}")?;
         shown::text(rt, out.taken())
     }
 
     /// Runs the presolver, and prints its status, its text and the files that may be written.
-    pub fn run(&self, rt: &HostRuntime) -> Result<()> {
+    pub fn run<T: Threads + Sync>(&self, rt: &HostRuntime, threads: &T) -> Result<()> {
         if let Some(length) = self.long {
-            return self.run_long(rt, length);
+            return self.run_long(rt, threads, length);
         }
         let alloc = rt.alloc();
         ensure!(names_differ(&self.held), "a file named twice");
         let mut files = MemFiles::new(alloc, &self.held, &self.reads, &self.writes)?;
         let mut out = MemSink::new(alloc, PRINTED, &self.puts)?;
-        let status = run(rt, alloc, &self.words, &mut files, &mut out, &OpenGate);
+        let status = run(threads, alloc, &self.words, &mut files, &mut out, &OpenGate);
         println!(rt; "status {status}")?;
         shown::text(rt, out.taken())?;
         for one in self.held.iter().filter(|one| one.room.is_some()) {

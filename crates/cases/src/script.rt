@@ -7,6 +7,7 @@ use case_parts::{again, rule, scans, sums};
 use fractions::Numbers;
 use std::alloc::Global;
 use std::fs;
+use std::thread::Threads;
 
 /// What a line of text is taken for.
 #[derive(Clone, Copy)]
@@ -23,8 +24,10 @@ enum Text {
 
 /// A script as far as it was read.
 #[derive(Drop)]
-pub struct Script {
+pub struct Script<'a, T> {
     alloc: Global,
+    /// What the presolver starts its threads with.
+    threads: &'a T,
     case: Case,
     request: Request,
     /// What stands behind each line of `each`.
@@ -32,10 +35,11 @@ pub struct Script {
     text: Text,
 }
 
-impl Script {
-    pub fn new(alloc: Global) -> Script {
+impl<'a, T: Threads + Sync> Script<'a, T> {
+    pub fn new(alloc: Global, threads: &'a T) -> Script<'a, T> {
         Script {
             alloc,
+            threads,
             case: Case::new(alloc),
             request: Request::Nothing,
             tail: String::new(alloc),
@@ -141,7 +145,7 @@ impl Script {
         println!(rt; "$ {words}")?;
         self.case.ask(self.alloc, program, words)?;
         self.request = request;
-        self.request.answer(rt, &self.case)
+        self.request.answer(rt, self.threads, &self.case)
     }
 
     fn each(&mut self, rest: &str) -> Result<()> {
@@ -159,7 +163,7 @@ impl Script {
             let left = length - less - 1;
             self.case.cut(place, left)?;
             print!(rt; "{left}: ")?;
-            self.request.answer(rt, &self.case)?;
+            self.request.answer(rt, self.threads, &self.case)?;
         }
         Ok(())
     }
@@ -168,26 +172,26 @@ impl Script {
         let (name, dialect) = rest.split_once(' ').context("a name and a dialect")?;
         let place = self.case.place(name)?;
         self.request = Request::Program(place, again::dialect(dialect)?);
-        self.request.answer(rt, &self.case)
+        self.request.answer(rt, self.threads, &self.case)
     }
 
     fn look(&mut self, rt: &HostRuntime, rest: &str) -> Result<()> {
         let (name, dialect) = rest.split_once(' ').context("a name and a dialect")?;
         let place = self.case.place(name)?;
         self.request = Request::Look(place, again::dialect(dialect)?);
-        self.request.answer(rt, &self.case)
+        self.request.answer(rt, self.threads, &self.case)
     }
 
     fn records(&mut self, rt: &HostRuntime, name: &str) -> Result<()> {
         self.request = Request::Records(self.case.place(name)?);
-        self.request.answer(rt, &self.case)
+        self.request.answer(rt, self.threads, &self.case)
     }
 
     fn rule(&mut self, rt: &HostRuntime, rest: &str) -> Result<()> {
         let (name, words) = rest.split_once(' ').context("a name and a reduction")?;
         println!(rt; "{words}")?;
         self.request = Request::Rule(self.case.place(name)?, rule::reduction(words)?);
-        self.request.answer(rt, &self.case)
+        self.request.answer(rt, self.threads, &self.case)
     }
 
     fn scan(&mut self, rt: &HostRuntime, rest: &str) -> Result<()> {
@@ -221,7 +225,7 @@ impl Script {
         self.case.extend(place, end.as_bytes())?;
         self.case.extend(place, self.tail.as_bytes())?;
         print!(rt; "{text}: ")?;
-        self.request.answer(rt, &self.case)?;
+        self.request.answer(rt, self.threads, &self.case)?;
         self.case.cut(place, length)
     }
 }
