@@ -390,6 +390,28 @@ fn is_told(rt: &impl Abort, book: &Book, place: usize, told: &Told) {
     }
 }
 
+/// Takes steps one after the other.
+fn take_all(
+    rt: &impl Abort,
+    alloc: Global,
+    world: &mut World,
+    other: &Problem,
+    steps: &[Step],
+) -> Result<(), Fail> {
+    for step in steps {
+        take(rt, alloc, world, other, *step)?;
+    }
+    Ok(())
+}
+
+/// The transactions are these, and no others.
+fn are_told(rt: &impl Abort, book: &Book, told: &[Told]) {
+    assert_eq!(rt; book.transactions().len(), told.len());
+    for (place, one) in told.iter().enumerate() {
+        is_told(rt, book, place, one);
+    }
+}
+
 #[test]
 fn two_workers(rt: HostRuntime) -> Result<(), Fail> {
     let alloc = rt.alloc();
@@ -398,15 +420,10 @@ fn two_workers(rt: HostRuntime) -> Result<(), Fail> {
         let other = problem(&rt, alloc, story.numbers, &story.other)?;
         let book = Book::open(alloc, first, story.numbers, story.limit)?;
         let mut world = World::new(alloc, book);
-        for step in story.steps {
-            take(&rt, alloc, &mut world, &other, *step)?;
-        }
+        take_all(&rt, alloc, &mut world, &other, story.steps)?;
         world.stands();
         assert_eq!(rt; world.book().limit(), story.limit);
-        assert_eq!(rt; world.book().transactions().len(), story.told.len());
-        for (place, told) in story.told.iter().enumerate() {
-            is_told(&rt, world.book(), place, told);
-        }
+        are_told(&rt, world.book(), story.told);
     }
     Ok(())
 }
