@@ -6,6 +6,7 @@ use case_parts::shown;
 use explain_command::answer;
 use file_ports::{Held, MemFiles, MemSink, names_differ};
 use papilo::run::run;
+use presolve_rounds::NoOnlooker;
 use std::alloc::{AllocError, Global};
 use std::thread::Threads;
 use worker_gate::OpenGate;
@@ -106,7 +107,15 @@ impl Case {
         let alloc = rt.alloc();
         let mut files = LongFiles::new(length);
         let mut out = MemSink::new(alloc, PRINTED, &self.puts)?;
-        let status = run(threads, alloc, &self.words, &mut files, &mut out, &OpenGate);
+        let status = run(
+            threads,
+            alloc,
+            &self.words,
+            &mut files,
+            &mut out,
+            &OpenGate,
+            &mut NoOnlooker,
+        );
         println!(rt; "status {status}")?;
         shown::text(rt, out.taken())
     }
@@ -120,7 +129,15 @@ impl Case {
         ensure!(names_differ(&self.held), "a file named twice");
         let mut files = MemFiles::new(alloc, &self.held, &self.reads, &self.writes)?;
         let mut out = MemSink::new(alloc, PRINTED, &self.puts)?;
-        let status = run(threads, alloc, &self.words, &mut files, &mut out, &OpenGate);
+        let status = run(
+            threads,
+            alloc,
+            &self.words,
+            &mut files,
+            &mut out,
+            &OpenGate,
+            &mut NoOnlooker,
+        );
         println!(rt; "status {status}")?;
         shown::text(rt, out.taken())?;
         for one in self.held.iter().filter(|one| one.room.is_some()) {

@@ -4,11 +4,15 @@ use Rattle.std.specs.declared.alloc.Global.{Global}
 use Rattle.clap.specs.Words.{App, Row, Rule, Text, new_app, new_rule, subcommand_of, takes, fault_of, Kinds, with_rule, with_subcommand}
 use Rattle.clap.specs.declared.builder.value_parser.ValueParser.TheVariants.{Unsigned}
 use Rattle.clap.specs.declared.builder.ArgAction.TheVariants.{Set, SetTrue}
-use Rattle.command_words.specs.declared.words.TheConstants.{MOST_RECORDS}
+use Rattle.command_words.specs.declared.words.TheConstants.{MOST_LINES, MOST_RECORDS, MOST_SEED, MOST_THREADS}
 
 -- a required word
 abbrev pub word_rule : Text → Rule
 word_rule id = record (new_rule id) { action = Some Set; required = true }
+
+-- a required number, from the least to the most
+abbrev pub needed_rule : Text → ℕ → ℕ → Rule
+needed_rule id least most = record (new_rule id) { action = Some Set; parser = Some (Unsigned least most); required = true }
 
 -- a number from 1 up to this, after `--id`
 abbrev pub number_rule : Text → ℕ → Rule
@@ -22,17 +26,25 @@ flag_rule id = record (new_rule id) { long = Some id; action = Some SetTrue }
 unfoldable pub presolve_words : App
 presolve_words = with_rule (with_rule (with_rule (new_app (codes "presolve")) (word_rule (codes "in"))) (word_rule (codes "out"))) (word_rule (codes "rec"))
 
--- presolve IN OUT REC [--limit N]
-unfoldable pub limited_app : App
-limited_app = with_rule presolve_words (number_rule (codes "limit") MOST_RECORDS)
+-- presolve IN OUT REC [--threads T]
+unfoldable pub threaded_app : App
+threaded_app = with_rule presolve_words (number_rule (codes "threads") MOST_THREADS)
 
--- presolve IN OUT REC [--limit N] [--dual]
+-- presolve IN OUT REC [--threads T] [--limit N]
+unfoldable pub limited_app : App
+limited_app = with_rule threaded_app (number_rule (codes "limit") MOST_RECORDS)
+
+-- presolve IN OUT REC [--threads T] [--limit N] [--dual]
 unfoldable pub dual_app : App
 dual_app = with_rule limited_app (flag_rule (codes "dual"))
 
--- presolve IN OUT REC [--limit N] [--dual] [--fractions] [--fixed]
+-- presolve IN OUT REC [--threads T] [--limit N] [--dual] [--ordered]
+unfoldable pub ordered_app : App
+ordered_app = with_rule dual_app (flag_rule (codes "ordered"))
+
+-- presolve IN OUT REC [--threads T] [--limit N] [--dual] [--ordered] [--fractions] [--fixed]
 unfoldable pub presolve_app : App
-presolve_app = with_rule (with_rule dual_app (flag_rule (codes "fractions"))) (flag_rule (codes "fixed"))
+presolve_app = with_rule (with_rule ordered_app (flag_rule (codes "fractions"))) (flag_rule (codes "fixed"))
 
 -- check IN SOL [--fixed]
 unfoldable pub check_app : App
@@ -50,13 +62,21 @@ postsolve_app = with_rule postsolve_words (word_rule (codes "result"))
 unfoldable pub migrate_app : App
 migrate_app = with_rule (with_rule (new_app (codes "migrate")) (word_rule (codes "rec"))) (word_rule (codes "new"))
 
+-- gen SEED ROWS
+unfoldable pub gen_words : App
+gen_words = with_rule (with_rule (new_app (codes "gen")) (needed_rule (codes "seed") 0 MOST_SEED)) (needed_rule (codes "rows") 1 MOST_LINES)
+
+-- gen SEED ROWS COLS
+unfoldable pub gen_app : App
+gen_app = with_rule gen_words (needed_rule (codes "cols") 1 MOST_LINES)
+
 -- presolve and check
 unfoldable pub first_app : App
 first_app = with_subcommand (with_subcommand (new_app (codes "papilo")) presolve_app.top) check_app.top
 
 -- the whole: one subcommand for each command
 unfoldable pub line_app : App
-line_app = with_subcommand (with_subcommand first_app postsolve_app.top) migrate_app.top
+line_app = with_subcommand (with_subcommand (with_subcommand first_app postsolve_app.top) migrate_app.top) gen_app.top
 
 abbrev pub texts : List (String Global) → List Text
 texts words = map (λ word. string_bytes word) words

@@ -2,12 +2,12 @@
 ghost use Rattle.std.specs.Prelude.{◌≡◌, ◌≢◌, [], Err, false, IfOk, OnOk, OnErr};
 ghost use Rattle.clap.specs.Words.{app_of, kind_of, rule_of, subcommand_rows_of};
 ghost use Rattle.clap.specs.declared.builder.command.Command.TheViews.{out-Command};
-ghost use Rattle.command_app.specs.Line.{check_app, dual_app, faults, first_app, flag_rule, found_in, is_taken, limited_app, line_app, migrate_app, number_rule, postsolve_app, postsolve_words, presolve_app, presolve_words, texts, word_rule};
+ghost use Rattle.command_app.specs.Line.{check_app, dual_app, faults, first_app, flag_rule, found_in, gen_app, gen_words, is_taken, limited_app, line_app, migrate_app, needed_rule, number_rule, ordered_app, postsolve_app, postsolve_words, presolve_app, presolve_words, texts, threaded_app, word_rule};
 
 use clap::builder::ValueParser;
 use clap::error::ErrorKind;
 use clap::{Arg, ArgAction, ArgMatches, Command, Error};
-use command_words::{MOST_RECORDS, Refusal};
+use command_words::{MOST_LINES, MOST_RECORDS, MOST_SEED, MOST_THREADS, Refusal};
 use std::alloc::{AllocError, Global};
 
 // A word that has to stand.
@@ -16,6 +16,14 @@ fn word<'a>(alloc: Global, id: &'a str) -> Arg<'a>
     ensures local { result.global ≡ false }
 {
     Arg::new(alloc, id).action(ArgAction::Set).required(true)
+}
+
+// A number from `least` to `most` that has to stand.
+fn needed<'a>(alloc: Global, id: &'a str, least: u64, most: u64) -> Arg<'a>
+    ensures rule { rule_of result ≡ needed_rule id.entry.now least most }
+    ensures local { result.global ≡ false }
+{
+    word(alloc, id).value_parser(ValueParser::Unsigned(least, most))
 }
 
 // A number from 1 to `most`, behind its name.
@@ -47,12 +55,20 @@ fn presolve_words<'a>(alloc: Global) -> Result<Command<'a>, AllocError>
         .arg(word(alloc, "rec"))
 }
 
+#[tactic(auto, unfolding(crate::specs::Line::threaded_app))]
+fn threaded<'a>(alloc: Global) -> Result<Command<'a>, AllocError>
+    ensures app { IfOk result (λ command. app_of command ≡ threaded_app) }
+    ensures local { IfOk result (λ command. (out-Command command).has_globals ≡ false) }
+{
+    presolve_words(alloc)?.arg(number(alloc, "threads", MOST_THREADS))
+}
+
 #[tactic(auto, unfolding(crate::specs::Line::limited_app))]
 fn limited<'a>(alloc: Global) -> Result<Command<'a>, AllocError>
     ensures app { IfOk result (λ command. app_of command ≡ limited_app) }
     ensures local { IfOk result (λ command. (out-Command command).has_globals ≡ false) }
 {
-    presolve_words(alloc)?.arg(number(alloc, "limit", MOST_RECORDS))
+    threaded(alloc)?.arg(number(alloc, "limit", MOST_RECORDS))
 }
 
 #[tactic(auto, unfolding(crate::specs::Line::dual_app))]
@@ -63,12 +79,20 @@ fn with_dual<'a>(alloc: Global) -> Result<Command<'a>, AllocError>
     limited(alloc)?.arg(flag(alloc, "dual"))
 }
 
+#[tactic(auto, unfolding(crate::specs::Line::ordered_app))]
+fn with_ordered<'a>(alloc: Global) -> Result<Command<'a>, AllocError>
+    ensures app { IfOk result (λ command. app_of command ≡ ordered_app) }
+    ensures local { IfOk result (λ command. (out-Command command).has_globals ≡ false) }
+{
+    with_dual(alloc)?.arg(flag(alloc, "ordered"))
+}
+
 #[tactic(auto, unfolding(crate::specs::Line::presolve_app))]
 fn presolve<'a>(alloc: Global) -> Result<Command<'a>, AllocError>
     ensures app { IfOk result (λ command. app_of command ≡ presolve_app) }
     ensures local { IfOk result (λ command. (out-Command command).has_globals ≡ false) }
 {
-    with_dual(alloc)?
+    with_ordered(alloc)?
         .arg(flag(alloc, "fractions"))?
         .arg(flag(alloc, "fixed"))
 }
@@ -113,6 +137,24 @@ fn migrate<'a>(alloc: Global) -> Result<Command<'a>, AllocError>
         .arg(word(alloc, "new"))
 }
 
+#[tactic(auto, unfolding(crate::specs::Line::gen_words))]
+fn generator_words<'a>(alloc: Global) -> Result<Command<'a>, AllocError>
+    ensures app { IfOk result (λ command. app_of command ≡ gen_words) }
+    ensures local { IfOk result (λ command. (out-Command command).has_globals ≡ false) }
+{
+    Command::new(alloc, "gen")
+        .arg(needed(alloc, "seed", 0, MOST_SEED))?
+        .arg(needed(alloc, "rows", 1, MOST_LINES))
+}
+
+#[tactic(auto, unfolding(crate::specs::Line::gen_app))]
+fn generator<'a>(alloc: Global) -> Result<Command<'a>, AllocError>
+    ensures app { IfOk result (λ command. app_of command ≡ gen_app) }
+    ensures local { IfOk result (λ command. (out-Command command).has_globals ≡ false) }
+{
+    generator_words(alloc)?.arg(needed(alloc, "cols", 1, MOST_LINES))
+}
+
 #[tactic(auto, unfolding(crate::specs::Line::first_app))]
 fn first<'a>(alloc: Global) -> Result<Command<'a>, AllocError>
     ensures app { IfOk result (λ command. app_of command ≡ first_app) }
@@ -131,7 +173,11 @@ fn line<'a>(alloc: Global) -> Result<Command<'a>, AllocError>
 {
     let postsolve = postsolve(alloc)?;
     let migrate = migrate(alloc)?;
-    first(alloc)?.subcommand(postsolve)?.subcommand(migrate)
+    let generator = generator(alloc)?;
+    first(alloc)?
+        .subcommand(postsolve)?
+        .subcommand(migrate)?
+        .subcommand(generator)
 }
 
 /// What `clap` makes of the words, of which the first is the program's own name.

@@ -10,9 +10,9 @@ use Rattle.clap.specs.Simple.{Shape, built, built_leaf, help_shape, inherited, l
 use Rattle.clap.specs.Takes.{is_given, value_passes}
 use Rattle.clap.specs.Walk.{Row, Rule, Text, answers_to, arg_by_id, first_of}
 use Rattle.clap.specs.declared.builder.value_parser.ValueParser.TheVariants.{Unsigned}
-use Rattle.command_app.specs.Line.{check_app, dual_app, first_app, limited_app, line_app, migrate_app, postsolve_app, postsolve_words, presolve_app, presolve_words}
-use Rattle.command_line.specs.Line.{limit_in, limit_of, request_of}
-use Rattle.command_words.specs.declared.words.TheConstants.{MOST_RECORDS}
+use Rattle.command_app.specs.Line.{check_app, dual_app, first_app, gen_app, gen_words, limited_app, line_app, migrate_app, ordered_app, postsolve_app, postsolve_words, presolve_app, presolve_words, threaded_app}
+use Rattle.command_line.specs.Line.{needed_of, number_in, number_of, request_of}
+use Rattle.command_words.specs.declared.words.TheConstants.{MOST_LINES, MOST_RECORDS, MOST_SEED, MOST_THREADS}
 use Rattle.command_laws.proofs.Rows.{Each, HasFirst, either, first_passes, given_first}
 use Rattle.command_laws.proofs.Uses.{IsKnown}
 use Rattle.command_laws.specs.Asking.{HasOneName}
@@ -40,24 +40,37 @@ postsolve_command = built_leaf (inherited line_app.top postsolve_app.top)
 migrate_command : Shape
 migrate_command = built_leaf (inherited line_app.top migrate_app.top)
 
-limit_is : (v : Text) → accepts false (Unsigned 1 MOST_RECORDS) v ≡ true → limit_in v ≡ Some (digits_value 10 (without_leading_plus v))
-unfolding limit_in
-limit_is v e = ap (λ b. cond b (Some (digits_value 10 (without_leading_plus v))) None) e
+gen_command : Shape
+gen_command = built_leaf (inherited line_app.top gen_app.top)
+
+number_is : (least most : ℕ) (v : Text) → accepts false (Unsigned least most) v ≡ true → number_in least most v ≡ Some (digits_value 10 (without_leading_plus v))
+unfolding number_in
+number_is least most v e = ap (λ b. cond b (Some (digits_value 10 (without_leading_plus v))) None) e
 
 module _ (rules : List Rule) (rows : List Row) (each : Each (HasFirst rules) rows) where
-  limit_given : ((a : Rule) (v : Text) → arg_by_id rules (codes "limit") ≡ Some a → value_passes a v ≡ true → accepts false (Unsigned 1 MOST_RECORDS) v ≡ true)
-      → (n : ℕ) × (limit_of (first_of (codes "limit") rows) ≡ Some n)
-  limit_given takes = go (first_of (codes "limit") rows) refl
+  number_given : (id : Text) (most other : ℕ)
+      → ((a : Rule) (v : Text) → arg_by_id rules id ≡ Some a → value_passes a v ≡ true → accepts false (Unsigned 1 most) v ≡ true)
+      → (n : ℕ) × (number_of most other (first_of id rows) ≡ Some n)
+  number_given id most other takes = go (first_of id rows) refl
     where
-      go : (o : Option Text) → first_of (codes "limit") rows ≡ o → (n : ℕ) × (limit_of o ≡ Some n)
-      go None is = (MOST_RECORDS, refl)
+      go : (o : Option Text) → first_of id rows ≡ o → (n : ℕ) × (number_of most other o ≡ Some n)
+      go None is = (other, refl)
       go (Some v) is =
-          let got = first_passes rules (codes "limit") rows v each is in
-          (digits_value 10 (without_leading_plus v), limit_is v (takes got.0 v got.1 got.2))
+          let got = first_passes rules id rows v each is in
+          (digits_value 10 (without_leading_plus v), number_is 1 most v (takes got.0 v got.1 got.2))
 
-  presolve_given : (n : ℕ) → limit_of (first_of (codes "limit") rows) ≡ Some n → is_given (codes "in") rows ≡ true → is_given (codes "out") rows ≡ true
+  needed_given : (id : Text) (least most : ℕ)
+      → ((a : Rule) (v : Text) → arg_by_id rules id ≡ Some a → value_passes a v ≡ true → accepts false (Unsigned least most) v ≡ true)
+      → is_given id rows ≡ true → (n : ℕ) × (needed_of least most (first_of id rows) ≡ Some n)
+  needed_given id least most takes has =
+      let given = given_first rules id rows each has in
+      let got = first_passes rules id rows given.0 each given.1 in
+      (digits_value 10 (without_leading_plus given.0), ap (needed_of least most) given.1 ∙ number_is least most given.0 (takes got.0 given.0 got.1 got.2))
+
+  presolve_given : (n t : ℕ) → number_of MOST_RECORDS MOST_RECORDS (first_of (codes "limit") rows) ≡ Some n
+      → number_of MOST_THREADS 1 (first_of (codes "threads") rows) ≡ Some t → is_given (codes "in") rows ≡ true → is_given (codes "out") rows ≡ true
       → is_given (codes "rec") rows ≡ true → Asks (codes "presolve") rows
-  presolve_given n limit has_input has_output has_records =
+  presolve_given n t limit threads has_input has_output has_records =
       let input = given_first rules (codes "in") rows each has_input in
       let output = given_first rules (codes "out") rows each has_output in
       let records = given_first rules (codes "rec") rows each has_records in
@@ -66,7 +79,7 @@ module _ (rules : List Rule) (rows : List Row) (each : Each (HasFirst rules) row
       by : (input : (v : Text) × (first_of (codes "in") rows ≡ Some v)) (output : (v : Text) × (first_of (codes "out") rows ≡ Some v))
           (records : (v : Text) × (first_of (codes "rec") rows ≡ Some v)) (b : Bool) → bytes_eq output.0 records.0 ≡ b → Asks (codes "presolve") rows
       by input output records true same = inr (inl (refl, output.1 ∙ ap Some ((bytes_eq-Decides output.0 records.0).0 same) ∙ sym records.1))
-      by input output records false differ = inl (λ none. none-some _ (sym (rw (input.1, output.1, records.1, limit, differ) at none)))
+      by input output records false differ = inl (λ none. none-some _ (sym (rw (input.1, output.1, records.1, limit, threads, differ) at none)))
 
   check_given : is_given (codes "in") rows ≡ true → is_given (codes "sol") rows ≡ true → Asks (codes "check") rows
   check_given has_input has_solution =
@@ -94,28 +107,35 @@ module _ (rules : List Rule) (rows : List Row) (each : Each (HasFirst rules) row
       by records written true same = inr (inr (refl, records.1 ∙ ap Some ((bytes_eq-Decides records.0 written.0).0 same) ∙ sym written.1))
       by records written false differ = inl (λ none. none-some _ (sym (rw (records.1, written.1, differ) at none)))
 
+  gen_given : (n r k : ℕ) → needed_of 0 MOST_SEED (first_of (codes "seed") rows) ≡ Some n → needed_of 1 MOST_LINES (first_of (codes "rows") rows) ≡ Some r
+      → needed_of 1 MOST_LINES (first_of (codes "cols") rows) ≡ Some k → Asks (codes "gen") rows
+  gen_given n r k seed lines columns = inl (λ none. none-some _ (sym (rw (seed, lines, columns) at none)))
+
 presolve_known : Each (IsKnown presolve_command.rules) presolve_command.rules
-unfolding presolve_command line_app first_app check_app presolve_app dual_app limited_app presolve_words postsolve_app postsolve_words migrate_app
-presolve_known = ((refl, refl), ((refl, refl), ((refl, refl), ((refl, refl), ((refl, refl), ((refl, refl), ((refl, refl), ((refl, refl), tt))))))))
+unfolding presolve_command line_app first_app check_app presolve_app ordered_app dual_app limited_app threaded_app presolve_words postsolve_app postsolve_words migrate_app gen_words gen_app
+presolve_known = ((refl, refl), ((refl, refl), ((refl, refl), ((refl, refl), ((refl, refl), ((refl, refl), ((refl, refl), ((refl, refl), ((refl, refl), ((refl, refl), tt))))))))))
 
 presolve_asks : AsksWhereGiven presolve_command
-unfolding presolve_command line_app first_app check_app presolve_app dual_app limited_app presolve_words postsolve_app postsolve_words migrate_app
+unfolding presolve_command line_app first_app check_app presolve_app ordered_app dual_app limited_app threaded_app presolve_words postsolve_app postsolve_words migrate_app gen_words gen_app
 presolve_asks word answers differs = (
   presolve_known,
   λ rows each given.
       let input = both (is_given (codes "in") rows) _ given in
       let output = both (is_given (codes "out") rows) _ input.1 in
       let records = both (is_given (codes "rec") rows) _ output.1 in
-      let limit = limit_given presolve_command.rules rows each (λ a v found passes. ap (λ (r : Rule). value_passes r v) (same_Some _ a found) ∙ passes) in
-      presolve_given presolve_command.rules rows each limit.0 limit.1 input.0 output.0 records.0,
+      let limit = number_given presolve_command.rules rows each (codes "limit") MOST_RECORDS MOST_RECORDS
+      (λ a v found passes. ap (λ (r : Rule). value_passes r v) (same_Some _ a found) ∙ passes) in
+      let threads = number_given presolve_command.rules rows each (codes "threads") MOST_THREADS 1
+      (λ a v found passes. ap (λ (r : Rule). value_passes r v) (same_Some _ a found) ∙ passes) in
+      presolve_given presolve_command.rules rows each limit.0 threads.0 limit.1 threads.1 input.0 output.0 records.0,
 )
 
 check_known : Each (IsKnown check_command.rules) check_command.rules
-unfolding check_command line_app first_app check_app presolve_app dual_app limited_app presolve_words postsolve_app postsolve_words migrate_app
+unfolding check_command line_app first_app check_app presolve_app ordered_app dual_app limited_app threaded_app presolve_words postsolve_app postsolve_words migrate_app gen_words gen_app
 check_known = ((refl, refl), ((refl, refl), ((refl, refl), ((refl, refl), tt))))
 
 check_asks : AsksWhereGiven check_command
-unfolding check_command line_app first_app check_app presolve_app dual_app limited_app presolve_words postsolve_app postsolve_words migrate_app
+unfolding check_command line_app first_app check_app presolve_app ordered_app dual_app limited_app threaded_app presolve_words postsolve_app postsolve_words migrate_app gen_words gen_app
 check_asks word answers differs = (
   check_known,
   λ rows each given.
@@ -125,11 +145,11 @@ check_asks word answers differs = (
 )
 
 postsolve_known : Each (IsKnown postsolve_command.rules) postsolve_command.rules
-unfolding postsolve_command line_app first_app check_app presolve_app dual_app limited_app presolve_words postsolve_app postsolve_words migrate_app
+unfolding postsolve_command line_app first_app check_app presolve_app ordered_app dual_app limited_app threaded_app presolve_words postsolve_app postsolve_words migrate_app gen_words gen_app
 postsolve_known = ((refl, refl), ((refl, refl), ((refl, refl), ((refl, refl), ((refl, refl), tt)))))
 
 postsolve_asks : AsksWhereGiven postsolve_command
-unfolding postsolve_command line_app first_app check_app presolve_app dual_app limited_app presolve_words postsolve_app postsolve_words migrate_app
+unfolding postsolve_command line_app first_app check_app presolve_app ordered_app dual_app limited_app threaded_app presolve_words postsolve_app postsolve_words migrate_app gen_words gen_app
 postsolve_asks word answers differs = (
   postsolve_known,
   λ rows each given.
@@ -141,17 +161,38 @@ postsolve_asks word answers differs = (
 )
 
 migrate_known : Each (IsKnown migrate_command.rules) migrate_command.rules
-unfolding migrate_command line_app first_app check_app presolve_app dual_app limited_app presolve_words postsolve_app postsolve_words migrate_app
+unfolding migrate_command line_app first_app check_app presolve_app ordered_app dual_app limited_app threaded_app presolve_words postsolve_app postsolve_words migrate_app gen_words gen_app
 migrate_known = ((refl, refl), ((refl, refl), ((refl, refl), tt)))
 
 migrate_asks : AsksWhereGiven migrate_command
-unfolding migrate_command line_app first_app check_app presolve_app dual_app limited_app presolve_words postsolve_app postsolve_words migrate_app
+unfolding migrate_command line_app first_app check_app presolve_app ordered_app dual_app limited_app threaded_app presolve_words postsolve_app postsolve_words migrate_app gen_words gen_app
 migrate_asks word answers differs = (
   migrate_known,
   λ rows each given.
       let records = both (is_given (codes "rec") rows) _ given in
       let written = both (is_given (codes "new") rows) _ records.1 in
       migrate_given migrate_command.rules rows each records.0 written.0,
+)
+
+gen_known : Each (IsKnown gen_command.rules) gen_command.rules
+unfolding gen_command line_app first_app check_app presolve_app ordered_app dual_app limited_app threaded_app presolve_words postsolve_app postsolve_words migrate_app gen_words gen_app
+gen_known = ((refl, refl), ((refl, refl), ((refl, refl), ((refl, refl), tt))))
+
+gen_asks : AsksWhereGiven gen_command
+unfolding gen_command line_app first_app check_app presolve_app ordered_app dual_app limited_app threaded_app presolve_words postsolve_app postsolve_words migrate_app gen_words gen_app
+gen_asks word answers differs = (
+  gen_known,
+  λ rows each given.
+      let seed = both (is_given (codes "seed") rows) _ given in
+      let lines = both (is_given (codes "rows") rows) _ seed.1 in
+      let columns = both (is_given (codes "cols") rows) _ lines.1 in
+      let n = needed_given gen_command.rules rows each (codes "seed") 0 MOST_SEED
+      (λ a v found passes. ap (λ (r : Rule). value_passes r v) (same_Some _ a found) ∙ passes) seed.0 in
+      let r = needed_given gen_command.rules rows each (codes "rows") 1 MOST_LINES
+      (λ a v found passes. ap (λ (r : Rule). value_passes r v) (same_Some _ a found) ∙ passes) lines.0 in
+      let k = needed_given gen_command.rules rows each (codes "cols") 1 MOST_LINES
+      (λ a v found passes. ap (λ (r : Rule). value_passes r v) (same_Some _ a found) ∙ passes) columns.0 in
+      gen_given gen_command.rules rows each n.0 r.0 k.0 n.1 r.1 k.1,
 )
 
 -- the word that answers to the command for help
@@ -167,10 +208,10 @@ help_asks s label word answers differs =
 
 -- each command of the line asks for something
 pub commands_ask : Each AsksWhereGiven (built line_app).subs
-unfolding presolve_command check_command postsolve_command migrate_command line_app first_app check_app presolve_app dual_app limited_app presolve_words postsolve_app postsolve_words migrate_app
-commands_ask = (presolve_asks, (check_asks, (postsolve_asks, (migrate_asks, (help_asks (built_leaf help_shape) refl, tt)))))
+unfolding presolve_command check_command postsolve_command migrate_command gen_command line_app first_app check_app presolve_app ordered_app dual_app limited_app threaded_app presolve_words postsolve_app postsolve_words migrate_app gen_words gen_app
+commands_ask = (presolve_asks, (check_asks, (postsolve_asks, (migrate_asks, (gen_asks, (help_asks (built_leaf help_shape) refl, tt))))))
 
 -- the line has the command for help
 pub line_has_help : (built line_app).top.disable_help_subcommand ≡ false
-unfolding line_app first_app check_app presolve_app dual_app limited_app presolve_words postsolve_app postsolve_words migrate_app
+unfolding line_app first_app check_app presolve_app ordered_app dual_app limited_app threaded_app presolve_words postsolve_app postsolve_words migrate_app gen_words gen_app
 line_has_help = refl

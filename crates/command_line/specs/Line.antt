@@ -6,9 +6,10 @@ use Rattle.std.specs.Str.Parse.{digits_value, without_leading_plus}
 use Rattle.clap.specs.Words.{Row, Text, first_of, Kinds}
 use Rattle.clap.specs.ValueTests.{accepts}
 use Rattle.clap.specs.declared.builder.value_parser.ValueParser.TheVariants.{Unsigned}
-use Rattle.command_words.specs.Names.{PresolveNames, CheckNames, PostsolveNames, MigrateNames, Request, Presolve, Check, Postsolve, Migrate}
+use Rattle.command_words.specs.Names.{PresolveNames, CheckNames, PostsolveNames, MigrateNames, Request, Presolve, Check, Postsolve, Migrate, Gen}
+use Rattle.command_words.specs.declared.words.GenNumbers.{GenNumbers}
 use Rattle.command_words.specs.declared.words.PresolveOptions.{PresolveOptions}
-use Rattle.command_words.specs.declared.words.TheConstants.{MOST_RECORDS}
+use Rattle.command_words.specs.declared.words.TheConstants.{MOST_LINES, MOST_RECORDS, MOST_SEED, MOST_THREADS}
 use Rattle.command_app.specs.Line.{faults, found_in}
 
 -- an option is given where clap's value is `true`
@@ -16,22 +17,41 @@ abbrev pub is_on : Option Text → Bool
 is_on None = false
 is_on (Some text) = bytes_eq text (codes "true")
 
--- the number that a text says, where clap's parser of numbers takes it as one from 1 to the most
-unfoldable pub limit_in : Text → Option ℕ
-limit_in text = if accepts false (Unsigned 1 MOST_RECORDS) text then Some (digits_value 10 (without_leading_plus text)) else None
+-- the number that a text says, where clap's parser of numbers takes it as one from the least to the most
+unfoldable pub number_in : ℕ → ℕ → Text → Option ℕ
+number_in least most text = if accepts false (Unsigned least most) text then Some (digits_value 10 (without_leading_plus text)) else None
+
+-- the number from 1 to the most that is given, or else another
+abbrev pub number_of : ℕ → ℕ → Option Text → Option ℕ
+number_of most other None = Some other
+number_of most other (Some text) = number_in 1 most text
+
+-- the number from the least to the most that is given
+abbrev pub needed_of : ℕ → ℕ → Option Text → Option ℕ
+needed_of least most None = None
+needed_of least most (Some text) = number_in least most text
 
 -- the limit that is given, or else the most
-abbrev pub limit_of : Option Text → Option ℕ
-limit_of None = Some MOST_RECORDS
-limit_of (Some text) = limit_in text
+abbrev pub limit_of : List Row → Option ℕ
+limit_of rows = number_of MOST_RECORDS MOST_RECORDS (first_of (codes "limit") rows)
 
-abbrev pub options_of : List Row → Option PresolveOptions
-options_of rows = option_map (λ limit. record {
+-- the number of threads that is given, or else one
+abbrev pub threads_of : List Row → Option ℕ
+threads_of rows = number_of MOST_THREADS 1 (first_of (codes "threads") rows)
+
+abbrev pub options_with : List Row → Option ℕ → Option ℕ → Option PresolveOptions
+options_with rows (Some limit) (Some threads) = Some (record {
   dual = is_on (first_of (codes "dual") rows);
   fractions = is_on (first_of (codes "fractions") rows);
   fixed = is_on (first_of (codes "fixed") rows);
   limit = limit;
-}) (limit_of (first_of (codes "limit") rows))
+  threads = threads;
+  ordered = is_on (first_of (codes "ordered") rows);
+})
+options_with rows limit threads = None
+
+abbrev pub options_of : List Row → Option PresolveOptions
+options_of rows = options_with rows (limit_of rows) (threads_of rows)
 
 -- three names, of which OUT and REC differ, and the options
 abbrev pub presolve_names : Option Text → Option Text → Option Text → Option PresolveOptions → Option PresolveNames
@@ -67,13 +87,22 @@ migrate_names records written = None
 abbrev pub migrate_of : List Row → Option MigrateNames
 migrate_of rows = migrate_names (first_of (codes "rec") rows) (first_of (codes "new") rows)
 
+-- three numbers
+abbrev pub gen_numbers : Option ℕ → Option ℕ → Option ℕ → Option GenNumbers
+gen_numbers (Some seed) (Some rows) (Some columns) = Some (record { seed = seed; rows = rows; columns = columns })
+gen_numbers seed rows columns = None
+
+abbrev pub gen_of : List Row → Option GenNumbers
+gen_of rows = gen_numbers (needed_of 0 MOST_SEED (first_of (codes "seed") rows)) (needed_of 1 MOST_LINES (first_of (codes "rows") rows)) (needed_of 1 MOST_LINES (first_of (codes "cols") rows))
+
 -- by the name of the subcommand
 abbrev pub request_of : Text → List Row → Option Request
 request_of name rows =
     if bytes_eq name (codes "presolve") then option_map Presolve (presolve_of rows)
     else (if bytes_eq name (codes "check") then option_map Check (check_of rows)
     else (if bytes_eq name (codes "postsolve") then option_map Postsolve (postsolve_of rows)
-    else (if bytes_eq name (codes "migrate") then option_map Migrate (migrate_of rows) else None)))
+    else (if bytes_eq name (codes "migrate") then option_map Migrate (migrate_of rows)
+    else (if bytes_eq name (codes "gen") then option_map Gen (gen_of rows) else None))))
 
 abbrev pub selected_in : Option (Text × List Row) → Option Request
 selected_in None = None

@@ -2,16 +2,16 @@
 ghost use Rattle.std.specs.Prelude.{◌≡◌, ◌≢◌, ◌≤◌, ◌⊎◌, codes, IfSome, None, [], Some, Err, false, option_map, IfOk, OnOk};
 ghost use Rattle.std.specs.Str.Parse.{digits_value, without_leading_plus};
 ghost use Rattle.clap.specs.Words.{IsUnsignedIn, first_of, found_of, rows_of, subcommand_rows_of};
-ghost use Rattle.command_words.specs.Names.{HasLimit, NamesDiffer};
+ghost use Rattle.command_words.specs.Names.{AreInRange, HasRange, IsSize, NamesDiffer};
 ghost use Rattle.command_app.specs.Line.{faults, is_taken, texts};
-ghost use Rattle.command_line.specs.Line.{asked, check_of, is_on, limit_in, limit_of, migrate_of, options_of, postsolve_of, presolve_of, request_of, selected, selected_in};
+ghost use Rattle.command_line.specs.Line.{asked, check_of, gen_of, is_on, migrate_of, needed_of, number_in, number_of, options_of, postsolve_of, presolve_of, request_of, selected, selected_in, threads_of};
 ghost use Rattle.command_words.specs.Seen.{check_names_of, migrate_names_of, names_of, postsolve_names_of, seen};
 
 use clap::ArgMatches;
 use command_app::matches;
 use command_words::{
-    CheckWords, MOST_RECORDS, MigrateWords, PostsolveWords, PresolveOptions, PresolveWords,
-    Refusal, Request,
+    CheckWords, GenNumbers, MOST_LINES, MOST_RECORDS, MOST_SEED, MOST_THREADS, MigrateWords,
+    PostsolveWords, PresolveOptions, PresolveWords, Refusal, Request,
 };
 use std::alloc::Global;
 
@@ -32,14 +32,14 @@ fn is_given(found: &ArgMatches, id: &str) -> bool
     }
 }
 
-// The number that a text says, where it is from 1 to `MOST_RECORDS`.
-fn number_in(text: &str) -> Option<u64>
-    ensures given { IfSome result (λ number. IsUnsignedIn 1 MOST_RECORDS text.now × (number ≡ digits_value 10 (without_leading_plus text.now))) }
-    ensures none { result ≡ None → IsUnsignedIn 1 MOST_RECORDS text.now → ⊥ }
+// The value of a text of digits, where it is from `least` to `most`.
+fn value_in(text: &str, least: u64, most: u64) -> Option<u64>
+    ensures given { IfSome result (λ number. IsUnsignedIn least most text.now × (number ≡ digits_value 10 (without_leading_plus text.now))) }
+    ensures none { result ≡ None → IsUnsignedIn least most text.now → ⊥ }
 {
     match text.parse::<u64>() {
         Ok(number) => {
-            if 1 <= number && number <= MOST_RECORDS {
+            if least <= number && number <= most {
                 Some(number)
             } else {
                 None
@@ -49,36 +49,59 @@ fn number_in(text: &str) -> Option<u64>
     }
 }
 
-// The limit that a text says.
-fn limit_in(text: &str) -> Option<u64>
-    ensures said { result ≡ limit_in text.now }
-    ensures within { IfSome result (λ limit. (1 ≤ limit) × (limit ≤ MOST_RECORDS)) }
+// The number from `least` to `most` that a text says.
+fn number_in(text: &str, least: u64, most: u64) -> Option<u64>
+    ensures said { result ≡ number_in least most text.now }
+    ensures within { IfSome result (λ number. (least ≤ number) × (number ≤ most)) }
 {
-    number_in(text)
+    value_in(text, least, most)
 }
 
-// The limit that is given, or the greatest.
-fn limit(found: &ArgMatches) -> Option<u64>
-    ensures said { result ≡ limit_of (first_of (codes "limit") (rows_of (found_of found.now))) }
-    ensures within { IfSome result (λ limit. (1 ≤ limit) × (limit ≤ MOST_RECORDS)) }
+// The number from `least` to `most` that is given.
+fn needed(found: &ArgMatches, id: &str, least: u64, most: u64) -> Option<u64>
+    ensures said { result ≡ needed_of least most (first_of id.now (rows_of (found_of found.now))) }
+    ensures within { IfSome result (λ number. (least ≤ number) × (number ≤ most)) }
 {
-    match value(found, "limit") {
-        Some(text) => limit_in(text),
-        None => Some(MOST_RECORDS),
+    let text = value(found, id)?;
+    number_in(text, least, most)
+}
+
+// The number from 1 to `most` that is given behind a name, or else another.
+fn number(found: &ArgMatches, id: &str, most: u64, other: u64) -> Option<u64>
+    requires some { 1 ≤ other }
+    requires few { other ≤ most }
+    ensures said { result ≡ number_of most other (first_of id.now (rows_of (found_of found.now))) }
+    ensures within { IfSome result (λ number. (1 ≤ number) × (number ≤ most)) }
+{
+    match value(found, id) {
+        Some(text) => number_in(text, 1, most),
+        None => Some(other),
     }
+}
+
+// The number of threads that is given, or one.
+fn threads(found: &ArgMatches) -> Option<u32>
+    ensures said { result ≡ threads_of (rows_of (found_of found.now)) }
+    ensures within { IfSome result (λ threads. (1 ≤ threads) × (threads ≤ MOST_THREADS)) }
+{
+    let threads = number(found, "threads", MOST_THREADS, 1)?;
+    Some(threads as u32)
 }
 
 // The options for `presolve`.
 fn options(found: &ArgMatches) -> Option<PresolveOptions>
     ensures given { result ≡ options_of (rows_of (found_of found.now)) }
-    ensures limited { IfSome result (λ options. (1 ≤ options.limit) × (options.limit ≤ MOST_RECORDS)) }
+    ensures range { IfSome result AreInRange }
 {
-    let limit = limit(found)?;
+    let limit = number(found, "limit", MOST_RECORDS, MOST_RECORDS)?;
+    let threads = threads(found)?;
     Some(PresolveOptions {
         dual: is_given(found, "dual"),
         fractions: is_given(found, "fractions"),
         fixed: is_given(found, "fixed"),
         limit,
+        threads,
+        ordered: is_given(found, "ordered"),
     })
 }
 
@@ -86,7 +109,7 @@ fn options(found: &ArgMatches) -> Option<PresolveOptions>
 fn presolve<'a>(found: &ArgMatches<'a>) -> Option<PresolveWords<'a>>
     ensures names { option_map names_of result ≡ presolve_of (rows_of (found_of found.now)) }
     ensures differ { IfSome result (λ words. words.output.now ≢ words.records.now) }
-    ensures limited { IfSome result (λ words. (1 ≤ words.options.limit) × (words.options.limit ≤ MOST_RECORDS)) }
+    ensures range { IfSome result (λ words. AreInRange words.options) }
 {
     let input = value(found, "in");
     let output = value(found, "out");
@@ -148,6 +171,21 @@ fn migrate<'a>(found: &ArgMatches<'a>) -> Option<MigrateWords<'a>>
     Some(MigrateWords { records, written })
 }
 
+// The numbers for `gen`.
+fn generator(found: &ArgMatches) -> Option<GenNumbers>
+    ensures given { result ≡ gen_of (rows_of (found_of found.now)) }
+    ensures range { IfSome result IsSize }
+{
+    let seed = needed(found, "seed", 0, MOST_SEED)?;
+    let rows = needed(found, "rows", 1, MOST_LINES)?;
+    let columns = needed(found, "cols", 1, MOST_LINES)?;
+    Some(GenNumbers {
+        seed,
+        rows: rows as u32,
+        columns: columns as u32,
+    })
+}
+
 // The command's name and what it was given.
 fn command<'m, 'a>(found: &'m ArgMatches<'a>) -> Option<(&'a str, &'m ArgMatches<'a>)>
     ensures { option_map (λ p. (p.0.now, rows_of (found_of p.1.now))) result ≡ subcommand_rows_of found.now }
@@ -159,13 +197,14 @@ fn command<'m, 'a>(found: &'m ArgMatches<'a>) -> Option<(&'a str, &'m ArgMatches
 fn named_request<'a>(name: &str, given: &ArgMatches<'a>) -> Option<Request<'a>>
     ensures named { option_map seen result ≡ request_of name.now (rows_of (found_of given.now)) }
     ensures differ { IfSome result (λ request. NamesDiffer (seen request)) }
-    ensures limited { IfSome result (λ request. HasLimit (seen request)) }
+    ensures range { IfSome result (λ request. HasRange (seen request)) }
 {
     match name {
         "presolve" => Some(Request::Presolve(presolve(given)?)),
         "check" => Some(Request::Check(check(given)?)),
         "postsolve" => Some(Request::Postsolve(postsolve(given)?)),
         "migrate" => Some(Request::Migrate(migrate(given)?)),
+        "gen" => Some(Request::Gen(generator(given)?)),
         _ => None,
     }
 }
@@ -174,7 +213,7 @@ fn named_request<'a>(name: &str, given: &ArgMatches<'a>) -> Option<Request<'a>>
 fn selected_request<'a>(found: &ArgMatches<'a>) -> Option<Request<'a>>
     ensures selected { option_map seen result ≡ selected_in (subcommand_rows_of found.now) }
     ensures differ { IfSome result (λ request. NamesDiffer (seen request)) }
-    ensures limited { IfSome result (λ request. HasLimit (seen request)) }
+    ensures range { IfSome result (λ request. HasRange (seen request)) }
 {
     let (name, given) = command(found)?;
     named_request(name, given)
@@ -183,12 +222,13 @@ fn selected_request<'a>(found: &ArgMatches<'a>) -> Option<Request<'a>>
 /// The command that the words ask for; the first word is the program's own name.
 ///
 /// # Errors
-/// `Words` where `clap` names a fault in them, as at a limit that is no number from 1 to `MOST_RECORDS`, or OUT and REC are equal words, or
-/// REC and NEW. `NoMemory`.
+/// `Words` where `clap` names a fault in them, as at a limit that is no number from 1 to `MOST_RECORDS`, a number of threads that is
+/// none from 1 to `MOST_THREADS`, or a number for `gen` that is not in its range; or OUT and REC are equal words, or REC and NEW.
+/// `NoMemory`.
 pub fn read<'a>(alloc: Global, words: &'a [String]) -> Result<Request<'a>, Refusal>
     ensures asked { IfOk result (λ request. asked (texts words.entry.now) ≡ Some (seen request)) }
     ensures differ { IfOk result (λ request. NamesDiffer (seen request)) }
-    ensures limited { IfOk result (λ request. HasLimit (seen request)) }
+    ensures range { IfOk result (λ request. HasRange (seen request)) }
     ensures refused { result ≡ Err Refusal.Words → asked (texts words.entry.now) ≡ None }
     ensures taken { OnOk result (faults (texts words.entry.now) ≡ []) }
     ensures untaken { result ≡ Err Refusal.Words → (is_taken (texts words.entry.now) ≡ false) ⊎ (selected (texts words.entry.now) ≡ None) }

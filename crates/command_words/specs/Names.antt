@@ -1,7 +1,8 @@
--- The commands of the program, with the names and options that they are given.
+-- The commands of the program, with the names, options and numbers that they are given.
 use Rattle.std.specs.Prelude.{◌≢◌, ◌≤◌, ℕ, List, Bool}
 use Rattle.command_words.specs.declared.words.PresolveOptions.{PresolveOptions}
-use Rattle.command_words.specs.declared.words.TheConstants.{MOST_RECORDS}
+use Rattle.command_words.specs.declared.words.GenNumbers.{GenNumbers}
+use Rattle.command_words.specs.declared.words.TheConstants.{MOST_LINES, MOST_RECORDS, MOST_THREADS}
 
 -- bytes
 abbrev pub Text : Type 0
@@ -38,6 +39,7 @@ pub data Request : Type 0 where
   Check : CheckNames → Request
   Postsolve : PostsolveNames → Request
   Migrate : MigrateNames → Request
+  Gen : GenNumbers → Request
 
 -- OUT and REC of presolve differ, and so do REC and NEW of migrate
 abbrev pub NamesDiffer : Request → Type 0
@@ -45,10 +47,26 @@ NamesDiffer (Presolve names) = names.output ≢ names.records
 NamesDiffer (Check names) = Unit {0}
 NamesDiffer (Postsolve names) = Unit {0}
 NamesDiffer (Migrate names) = names.records ≢ names.written
+NamesDiffer (Gen numbers) = Unit {0}
 
--- a run may make at least one record, and no more than the most
-abbrev pub HasLimit : Request → Type 0
-HasLimit (Presolve names) = (1 ≤ names.options.limit) × (names.options.limit ≤ MOST_RECORDS)
-HasLimit (Check names) = Unit {0}
-HasLimit (Postsolve names) = Unit {0}
-HasLimit (Migrate names) = Unit {0}
+-- presolve may make at least one record and has at least one thread, and no more than the most of each
+pub record AreInRange (options : PresolveOptions) : Type 0 where
+  pub some_records : 1 ≤ options.limit
+  pub few_records : options.limit ≤ MOST_RECORDS
+  pub some_threads : 1 ≤ options.threads
+  pub few_threads : options.threads ≤ MOST_THREADS
+
+-- a program is made with at least one row and one column, and with no more than the most
+pub record IsSize (numbers : GenNumbers) : Type 0 where
+  pub some_rows : 1 ≤ numbers.rows
+  pub few_rows : numbers.rows ≤ MOST_LINES
+  pub some_columns : 1 ≤ numbers.columns
+  pub few_columns : numbers.columns ≤ MOST_LINES
+
+-- the numbers that a command is given are in range
+abbrev pub HasRange : Request → Type 0
+HasRange (Presolve names) = AreInRange names.options
+HasRange (Check names) = Unit {0}
+HasRange (Postsolve names) = Unit {0}
+HasRange (Migrate names) = Unit {0}
+HasRange (Gen numbers) = IsSize numbers

@@ -1,5 +1,5 @@
 -- A request as its names.
-use Rattle.command_words.specs.Names.{PresolveNames, CheckNames, PostsolveNames, MigrateNames, Request, Presolve, Check, Postsolve, Migrate}
+use Rattle.command_words.specs.Names.{PresolveNames, CheckNames, PostsolveNames, MigrateNames, Request, Presolve, Check, Postsolve, Migrate, Gen}
 use Rattle.command_words.specs.declared.words.PresolveWords.{PresolveWords}
 use Rattle.command_words.specs.declared.words.CheckWords.{CheckWords}
 use Rattle.command_words.specs.declared.words.PostsolveWords.{PostsolveWords}
@@ -24,3 +24,4 @@ seen (words.Presolve p) = Presolve (names_of p)
 seen (words.Check c) = Check (check_names_of c)
 seen (words.Postsolve p) = Postsolve (postsolve_names_of p)
 seen (words.Migrate m) = Migrate (migrate_names_of m)
+seen (words.Gen g) = Gen g

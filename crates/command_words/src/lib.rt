@@ -4,6 +4,6 @@
 mod words;
 
 pub use words::{
-    CheckWords, MOST_RECORDS, MigrateWords, PostsolveWords, PresolveOptions, PresolveWords,
-    Refusal, Request,
+    CheckWords, GenNumbers, MOST_LINES, MOST_RECORDS, MOST_SEED, MOST_THREADS, MigrateWords,
+    PostsolveWords, PresolveOptions, PresolveWords, Refusal, Request,
 };

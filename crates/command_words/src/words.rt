@@ -2,6 +2,15 @@
 /// The most records that a run may be allowed to make; so many where no limit is given.
 pub const MOST_RECORDS: u64 = 1_000_000_000;
 
+/// The most threads that a run may be given; one where no number is given.
+pub const MOST_THREADS: u64 = 64;
+
+/// The greatest seed that a program may be made from.
+pub const MOST_SEED: u64 = 18_446_744_073_709_551_615;
+
+/// The most rows, and the most columns, that a program may be made with.
+pub const MOST_LINES: u64 = 100_000;
+
 /// The options of `presolve`.
 #[derive(Clone, Copy, Debug, PartialEq, Eq)]
 pub struct PresolveOptions {
@@ -13,6 +22,10 @@ pub struct PresolveOptions {
     pub fixed: bool,
     /// How many reductions may be applied: from 1 to `MOST_RECORDS`.
     pub limit: u64,
+    /// How many threads there are: from 1 to `MOST_THREADS`.
+    pub threads: u32,
+    /// They have to write what one thread would write.
+    pub ordered: bool,
 }
 
 /// The names that `presolve IN OUT REC` works on, of which `output` and `records` differ, and the options.
@@ -50,6 +63,17 @@ pub struct MigrateWords<'a> {
     pub written: &'a str,
 }
 
+/// The numbers of `gen SEED ROWS COLS`.
+#[derive(Clone, Copy, Debug, PartialEq, Eq)]
+pub struct GenNumbers {
+    /// Up to `MOST_SEED`.
+    pub seed: u64,
+    /// From 1 to `MOST_LINES`.
+    pub rows: u32,
+    /// From 1 to `MOST_LINES`.
+    pub columns: u32,
+}
+
 /// A command with its words.
 #[derive(Clone, Copy, Debug)]
 pub enum Request<'a> {
@@ -57,6 +81,7 @@ pub enum Request<'a> {
     Check(CheckWords<'a>),
     Postsolve(PostsolveWords<'a>),
     Migrate(MigrateWords<'a>),
+    Gen(GenNumbers),
 }
 
 /// Why there is no request.

@@ -23,11 +23,8 @@ impl<'a, R: Eprint> Progress<'a, R> {
         }
     }
 
-    /// The sizes that were kept. The line on standard error is ended.
+    /// The sizes that were kept.
     pub fn end(self) -> SizeLog {
-        if self.is_shown {
-            let _ = eprintln!(self.rt; "");
-        }
         self.log
     }
 }
@@ -41,5 +38,11 @@ impl<'a, R: Eprint> Onlooker for Progress<'a, R> {
             let _ = eprint!(self.rt; "\rround {round}: {applied} reductions");
         }
         Ok(())
+    }
+
+    fn after_run(&mut self) {
+        if self.is_shown {
+            let _ = eprintln!(self.rt; "");
+        }
     }
 }

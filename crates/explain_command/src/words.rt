@@ -97,6 +97,8 @@ pub fn read<'a>(alloc: Global, words: &'a [String]) -> Result<Words<'a>, Refusal
             fractions: is_given(&found, "fractions"),
             fixed: is_given(&found, "fixed"),
             limit: limit_in(&found),
+            threads: 1,
+            ordered: false,
         },
         all: is_given(&found, "all"),
         column: found.get_str("column"),

@@ -1,7 +1,9 @@
+pub mod Coefficients
 pub mod Drawing
 pub mod Entries
 pub mod Listing
 pub mod Making
 pub mod Naming
+pub mod Points
 pub mod Summing
 pub mod Writing

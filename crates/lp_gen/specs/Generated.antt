@@ -1,10 +1,11 @@
 -- The program that is made from a seed.
 use Rattle.std.specs.Prelude.{ℕ, ◌+◌, ◌*◌, map, codes}
 use Rattle.std.specs.List.{range_with_len}
-use Rattle.rational.specs.Number.{zero_ℚ}
+use Rattle.rational.specs.Number.{zero_ℚ, one_ℚ}
 use Rattle.lp_model.specs.declared.program.Sense.TheVariants.{Min}
 use Rattle.lp_model.specs.declared.program.RowDef.{RowDef}
 use Rattle.lp_model.specs.ProgramData.{ProgramData}
+use Rattle.lp_model.specs.Vectors.{Vector}
 use Rattle.lp_gen.specs.Draws.{state_after, drawn}
 use Rattle.lp_gen.specs.Columns.{column_of, coefficient_sum}
 use Rattle.lp_gen.specs.Rows.{kind_of, row_with}
@@ -30,3 +31,7 @@ generated seed rows columns = record {
   rows = map (row_of seed rows columns) (range_with_len 0 rows);
   columns = map (column_of (columns_seed seed rows) rows) (range_with_len 0 columns);
 }
+
+-- the point of all ones
+abbrev pub ones : Vector
+ones j = one_ℚ

@@ -3,6 +3,7 @@
 
 mod columns;
 mod draws;
+pub mod laws;
 mod parts;
 mod program;
 mod rows;

@@ -1,7 +1,7 @@
 -- Which names tell what they told, by how a run ended.
 use Rattle.std.proofs.Common.{◌≡◌, ℕ, List, inl, inr, Option, Some, None, refl, ap}
 use Rattle.file_ports.specs.Ports.{Moment, Told, KeepsOthers}
-use Rattle.command_words.specs.Names.{MigrateNames, PostsolveNames, PresolveNames, Request, Presolve, Check, Postsolve, Migrate}
+use Rattle.command_words.specs.Names.{MigrateNames, PostsolveNames, PresolveNames, Request, Presolve, Check, Postsolve, Migrate, Gen}
 use Rattle.endings.specs.Ending.{status_of, text_of}
 use Rattle.endings.specs.Moments.{IsQuiet, KeepsAllBut}
 use Rattle.endings.specs.declared.ending.Ending.{Ending}
@@ -78,6 +78,7 @@ quiet (Some (Presolve names)) ending before now ends done unwritten = quiet_pres
 quiet (Some (Check names)) ending before now ends done unwritten = ends.quiet
 quiet (Some (Postsolve names)) ending before now ends done unwritten = quiet_postsolve names ending before now ends done unwritten
 quiet (Some (Migrate names)) ending before now ends done unwritten = quiet_migrate names ending before now ends done unwritten
+quiet (Some (Gen numbers)) ending before now ends done unwritten = ends.quiet
 
 -- ---- at any status
 told_still : (before now : Moment) → IsQuiet before now → (other : List ℕ) → now.told other ≡ before.told other
@@ -138,3 +139,4 @@ kept (Some (Presolve names)) ending before now ends = kept_presolve names ending
 kept (Some (Check names)) ending before now ends = ends.quiet
 kept (Some (Postsolve names)) ending before now ends = kept_postsolve names ending before now ends
 kept (Some (Migrate names)) ending before now ends = kept_migrate names ending before now ends
+kept (Some (Gen numbers)) ending before now ends = ends.quiet

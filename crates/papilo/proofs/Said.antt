@@ -1,19 +1,20 @@
 -- What a run says at a status, of how it ended.
 use Rattle.std.proofs.Common.{◌≡◌, ℕ, List, ◌≤◌, ◌⊎◌, inl, inr, Option, Some, None, refl, arith, subst}
 use Rattle.file_ports.specs.Ports.{Moment}
-use Rattle.command_words.specs.Names.{Request, Presolve, Check, Postsolve, Migrate}
+use Rattle.command_words.specs.Names.{Request, Presolve, Check, Postsolve, Migrate, Gen}
 use Rattle.endings.specs.Ending.{status_of}
 use Rattle.endings.specs.declared.ending.Ending.{Ending}
 use Rattle.endings.specs.declared.ending.Ending.TheVariants.{Done, Usage, Refused, ReadFault, WriteFault, NoMemory, NoRoom, RecordsRefused, SolutionRefused, Violated, Infeasible, UnboundedOrInfeasible}
 use Rattle.papilo.specs.Runs.{AreThere, Ends, IsDoneInOrder, IsUnwritten}
 
--- a presolve has one worker
+-- the workers of a presolve are in order
 pub in_order : (asked : Option Request) → IsDoneInOrder asked
 in_order None = tt
-in_order (Some (Presolve names)) = inl refl
+in_order (Some (Presolve names)) = inr refl
 in_order (Some (Check names)) = tt
 in_order (Some (Postsolve names)) = tt
 in_order (Some (Migrate names)) = tt
+in_order (Some (Gen numbers)) = tt
 
 -- the same at an equal status
 pub ends_at : (asked : Option Request) (status other : ℕ) (printed : List ℕ) (before now : Moment) → status ≡ other → Ends asked status printed before now → Ends asked other printed before now
@@ -25,6 +26,7 @@ unwritten_at (Some (Presolve names)) printed before now h = h.says.0
 unwritten_at (Some (Check names)) printed before now h = h.says
 unwritten_at (Some (Postsolve names)) printed before now h = h.says.0
 unwritten_at (Some (Migrate names)) printed before now h = h.says.0
+unwritten_at (Some (Gen numbers)) printed before now h = h.says
 
 pub unwritten : (asked : Option Request) (status : ℕ) (printed : List ℕ) (before now : Moment) → status ≡ 4 → Ends asked status printed before now → IsUnwritten asked before now
 unwritten asked status printed before now is h = unwritten_at asked printed before now (ends_at asked status 4 printed before now is h)
@@ -35,6 +37,7 @@ asked_at (Presolve names) printed before now h = h.says
 asked_at (Check names) printed before now h = h.says
 asked_at (Postsolve names) printed before now h = h.says
 asked_at (Migrate names) printed before now h = h.says
+asked_at (Gen numbers) printed before now h = h.says
 
 pub not_refused : (request : Request) (status : ℕ) (printed : List ℕ) (before now : Moment) → Ends (Some request) status printed before now → status ≡ 1 → ⊥
 not_refused request status printed before now h is = asked_at request printed before now (ends_at (Some request) status 1 printed before now is h)
@@ -45,6 +48,7 @@ there (Some (Presolve names)) status printed before now h a b = h.read a b
 there (Some (Check names)) status printed before now h a b = h.read a b
 there (Some (Postsolve names)) status printed before now h a b = h.read a b
 there (Some (Migrate names)) status printed before now h a b = h.read a b
+there (Some (Gen numbers)) status printed before now h a b = tt
 
 -- the statuses that there are
 pub status_known : (ending : Ending) (status : ℕ) → status ≡ status_of ending → (status ≤ 9) ⊎ (status ≡ 20) ⊎ (status ≡ 21)

@@ -1,4 +1,4 @@
-//! The whole presolver over what its caller hands in: words, files, a sink and a gate.
+//! The whole presolver over what its caller hands in: words, files, a sink, a gate and an onlooker.
 //!
 //! [`run::run`] does what the words ask for. Its contract is what the program promises: the program of `papilo_cli` only hands it the
 //! system's files and standard output, and `cases` hands it files in memory.

@@ -1,4 +1,4 @@
-//! The whole program, over files, a sink and a gate that its caller hands in.
+//! The whole program, over files, a sink, a gate and an onlooker that its caller hands in.
 
 ghost use Rattle.std.specs.Prelude.{◌≡◌, ◌≢◌, ◌≤◌, ◌⊎◌, ℕ, List};
 ghost use Rattle.file_ports.specs.Ports.{Rose, Grown};
@@ -12,45 +12,52 @@ use check_command::check;
 use command_words::{Refusal, Request};
 use endings::Ending;
 use file_ports::{Files, Sink};
+use gen_command::generate;
 use migrate_command::migrate;
 use postsolve_command::postsolve;
 use presolve_command::presolve;
+use presolve_rounds::Onlooker;
 use std::alloc::Global;
 use std::thread::Threads;
 use worker_gate::Gate;
 
 // Does what the words ask for.
-fn ending_of<R: Threads + Sync, F: Files>(
+fn ending_of<R: Threads + Sync, F: Files, O: Onlooker>(
     rt: &R,
     alloc: Global,
     words: &[String],
     files: &mut F,
+    onlooker: &mut O,
 ) -> Ending
     ensures ends { Ends (asked (texts words.now)) (status_of result) (text_of result) (F.moment files.old) (F.moment files.new) }
     ensures refused { status_of result ≡ 1 → AreRefused (texts words.now) }
 {
     match command_line::read(alloc, words) {
         Ok(Request::Presolve(words)) => {
-            presolve(rt, alloc, &words, files).unwrap_or(Ending::NoMemory)
+            presolve(rt, alloc, &words, files, onlooker).unwrap_or(Ending::NoMemory)
         }
         Ok(Request::Check(words)) => check(alloc, &words, files).unwrap_or(Ending::NoMemory),
         Ok(Request::Postsolve(words)) => {
             postsolve(alloc, &words, files).unwrap_or(Ending::NoMemory)
         }
         Ok(Request::Migrate(words)) => migrate(alloc, &words, files).unwrap_or(Ending::NoMemory),
+        Ok(Request::Gen(numbers)) => {
+            generate(rt, alloc, numbers, onlooker).unwrap_or(Ending::NoMemory)
+        }
         Err(Refusal::Words) => Ending::Usage,
         Err(Refusal::NoMemory) => Ending::NoMemory,
     }
 }
 
-/// Does what the words ask for, prints once, and answers the exit status.
-pub fn run<R: Threads + Sync, F: Files, S: Sink, G: Gate>(
+/// Does what the words ask for, prints once, and answers the exit status. The onlooker is told of the rounds of a presolve.
+pub fn run<R: Threads + Sync, F: Files, S: Sink, G: Gate, O: Onlooker>(
     rt: &R,
     alloc: Global,
     words: &[String],
     files: &mut F,
     out: &mut S,
     _gate: &G,
+    onlooker: &mut O,
 ) -> u8
     ensures ends { (status : ℕ) × (printed : List ℕ) × Ends (asked (texts words.now)) status printed (F.moment files.old) (F.moment files.new)
         × Prints result status printed (S.taken out.old) (S.taken out.new) (S.faults out.old) (S.faults out.new) }
@@ -70,7 +77,7 @@ pub fn run<R: Threads + Sync, F: Files, S: Sink, G: Gate>(
     ensures kept { KeepsUnasked (asked (texts words.now)) (F.moment files.old) (F.moment files.new) }
     ensures read { result ≢ 3 → result ≢ 4 → result ≢ 5 → AreThere (asked (texts words.now)) (F.moment files.old) }
 {
-    let ending = ending_of(rt, alloc, words, files);
+    let ending = ending_of(rt, alloc, words, files, onlooker);
     match out.put(ending.text()) {
         Ok(()) => ending.status(),
         Err(_) => 4,

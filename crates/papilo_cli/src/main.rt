@@ -1,8 +1,12 @@
 //! An exact presolver for linear and mixed-integer programs in the MPS format.
 #![tactic(auto)]
 
+mod progress;
+
+use crate::progress::Progress;
 use file_ports::{HostFiles, HostOut};
 use papilo::run::run;
+use std::io::IsTerminal;
 use std::process::ExitCode;
 use std::{env, io};
 use worker_gate::OpenGate;
@@ -18,5 +22,15 @@ fn main(rt: HostRuntime) -> ExitCode {
     let words: Vec<String> = words;
     let mut files = HostFiles::new(&rt);
     let mut out = HostOut::new(io::writer(&rt));
-    ExitCode::from(run(&rt, alloc, &words, &mut files, &mut out, &OpenGate))
+    let mut progress = Progress::new(&rt, rt.stderr().is_terminal());
+    let status = run(
+        &rt,
+        alloc,
+        &words,
+        &mut files,
+        &mut out,
+        &OpenGate,
+        &mut progress,
+    );
+    ExitCode::from(status)
 }

@@ -13,7 +13,7 @@ use Rattle.presolve_model.specs.Conclusions.{Concluded}
 use Rattle.presolve_rounds.specs.Conclusions.{Concludes}
 use Rattle.presolve_model.specs.declared.conclusion.End.{End}
 use Rattle.presolve_model.specs.declared.conclusion.Options.{Options}
-use Rattle.presolve_model.specs.Workers.{one_worker, Workers}
+use Rattle.presolve_model.specs.Workers.{Workers}
 use Rattle.presolve_rounds.specs.declared.outcome.Presolved.{Presolved}
 use Rattle.presolve_rounds.specs.declared.outcome.Presolved.TheVariants.{Reduced}
 use Rattle.presolve_rounds.specs.declared.outcome.Presolved.TheVariants as presolved
@@ -39,12 +39,12 @@ abbrev told_by : PresolveOptions → Numbers → Options
 told_by options numbers = record { numbers = numbers; limit = options.limit; dual = options.dual }
 
 pub made_reduced : (options : PresolveOptions) (form : Form) (numbers : Numbers) (workers : Workers) (text : List ℕ) (program : ProgramData) (r : Result Texts NotReduced)
-    → form ≡ form_of options → numbers ≡ numbers_in form → workers ≡ one_worker
+    → form ≡ form_of options → numbers ≡ numbers_in form → workers ≡ workers_for options
     → IsProgramOf form text program → IsMade (told_by options numbers) workers program r → IsReduced options text r
 made_reduced options form numbers workers text program r same taken alone =
     subst (λ (n : Numbers). IsProgramOf form text program → IsMade (told_by options n) workers program r → IsReduced options text r) (sym taken)
     (subst (λ (w : Workers). IsProgramOf form text program → IsMade (told_by options (numbers_in form)) w program r → IsReduced options text r) (sym alone)
-    (subst (λ (f : Form). IsProgramOf f text program → IsMade (told_by options (numbers_in f)) one_worker program r → IsReduced options text r) (sym same) (reduced_so options text program r)))
+    (subst (λ (f : Form). IsProgramOf f text program → IsMade (told_by options (numbers_in f)) (workers_for options) program r → IsReduced options text r) (sym same) (reduced_so options text program r)))
 
 -- what is said of what a read gave is said of what is told
 pub said_read : (Said : List ℕ → Type 0) (limit : ℕ) (told : Told) (held text : List ℕ) → Gives told held → length held ≤ limit → text ≡ held → Said text → Reads limit told Said

@@ -14,7 +14,8 @@ use Rattle.record_round_trip.specs.Ranges.{HasRange}
 use Rattle.whole_way.specs.Laws.{TextsComeBack}
 use Rattle.whole_way.specs.Texts.{TextsFit}
 use Rattle.whole_way.proofs.Naming.{plain_kept}
-use Rattle.presolve_command.specs.Texts.{AreTexts, ComesBack, Outcome, ReadsBack}
+use Rattle.presolve_command.specs.Texts.{AreTexts, ComesBack, ReadsBack}
+use Rattle.presolve_report.specs.Outcomes.{Outcome}
 
 pub reads_back : (numbers : Numbers) (o : Outcome) (text : List ℕ) → CarriesNames o.source o.program o.records → HaveNames o.source o.program o.records
     → Writable numbers o.program → EntriesAscend o.program → text ≡ mps_text o.program → ReadsBack numbers o text

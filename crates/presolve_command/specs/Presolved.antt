@@ -8,7 +8,8 @@ use Rattle.endings.specs.Moments.{FailsToRead, FailsToWrite, IsQuiet, IsThere, K
 use Rattle.endings.specs.ProgramTexts.{IsProgramOf, SaysFaultOf}
 use Rattle.endings.specs.declared.reads.TheConstants.{INPUT_LIMIT}
 use Rattle.presolve_model.specs.Workers.{IsInOrder}
-use Rattle.presolve_command.specs.Texts.{Outcome, IsConcluded, options_for, TextIsInfeasible, TextIsNotTaken, TextIsUnboundedOrInfeasible, workers_for}
+use Rattle.presolve_report.specs.Outcomes.{Outcome}
+use Rattle.presolve_command.specs.Texts.{IsConcluded, options_for, TextIsInfeasible, TextIsNotTaken, TextIsUnboundedOrInfeasible, workers_for}
 
 -- what presolve concludes is what comes of the ordered run: so are its workers
 abbrev pub IsDoneInOrder : PresolveNames → Type 0

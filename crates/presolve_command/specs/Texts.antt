@@ -1,6 +1,5 @@
 -- The texts that a presolve writes and prints.
-use Rattle.std.specs.Prelude.{◌≡◌, ℕ, ◌-◌, ◌^◌, true, false, List, length, min, None, Result, Ok, Err}
-use Rattle.std.specs.List.{sum_by}
+use Rattle.std.specs.Prelude.{◌≡◌, ℕ, true, false, List, None, Result, Ok, Err}
 use Rattle.lp_model.specs.ProgramData.{ProgramData}
 use Rattle.lp_model.specs.Meaning.{meaning}
 use Rattle.lp_model.specs.Optimality.{Continuous}
@@ -16,44 +15,21 @@ use Rattle.presolve_model.specs.declared.instance.Verdict.{Verdict}
 use Rattle.presolve_model.specs.Accounts.{ReducesPairsTo}
 use Rattle.presolve_model.specs.Conclusions.{Concluded, Decided}
 use Rattle.presolve_model.specs.Meanings.{says_no_point}
-use Rattle.presolve_model.specs.Workers.{one_worker, Workers}
+use Rattle.presolve_model.specs.Workers.{Workers}
 use Rattle.presolve_model.specs.declared.conclusion.Options.{Options}
 use Rattle.mps_writer.specs.MpsText.{mps_text}
 use Rattle.record_values.specs.declared.version.TextVersion.TheVariants.{Second}
 use Rattle.record_file.specs.RecordText.{record_text}
-use Rattle.undo_records.specs.Postsolve.{Postsolve}
 use Rattle.record_round_trip.specs.Ranges.{HasRange}
 use Rattle.whole_way.specs.Texts.{TextsFit}
+use Rattle.presolve_report.specs.Outcomes.{Outcome, Tells}
+use Rattle.presolve_report.specs.Report.{report_text}
 use Rattle.endings.specs.Continuity.{NamesFirstWhole}
 use Rattle.endings.specs.Forms.{form_of, numbers_of}
 use Rattle.endings.specs.ProgramTexts.{HasNoFault, IsFaultOf, IsProgramOf, program_in}
-use Rattle.presolve_command.specs.declared.report.Report.{Report}
 use Rattle.presolve_command.specs.declared.reduce.Texts.{Texts}
 use Rattle.presolve_command.specs.declared.reduce.NotReduced.{NotReduced}
 use Rattle.presolve_command.specs.declared.reduce.NotReduced.TheVariants.{Fault, NotContinuous, Infeasible, UnboundedOrInfeasible, NoMemory}
-use Rattle.presolve_command.specs.Report.{report_text}
-
--- a program, what is left of it, the records of how that came about, and the report
-pub record Outcome : Type 0 where
-  pub source : ProgramData
-  pub program : ProgramData
-  pub records : Postsolve
-  pub report : Report
-
--- how many entries a program's columns have; the count stands still at its type's end
-abbrev pub entries_of : ProgramData → ℕ
-entries_of program = min (sum_by (λ column. length column.entries) program.columns) (2 ^ 64 - 1)
-
--- the report counts the rows, columns and entries of the program and of what is left, and the records, and gives their offset
-pub record Tells (outcome : Outcome) : Type 0 where
-  pub rows_before : outcome.report.rows.before ≡ length outcome.source.rows
-  pub rows_after : outcome.report.rows.after ≡ length outcome.program.rows
-  pub columns_before : outcome.report.columns.before ≡ length outcome.source.columns
-  pub columns_after : outcome.report.columns.after ≡ length outcome.program.columns
-  pub entries_before : outcome.report.entries.before ≡ entries_of outcome.source
-  pub entries_after : outcome.report.entries.after ≡ entries_of outcome.program
-  pub undone : outcome.report.records ≡ length outcome.records.undos
-  pub offset : outcome.report.offset ≡ outcome.records.offset
 
 -- the texts of an outcome
 pub record AreTexts (outcome : Outcome) (program records printed : List ℕ) : Type 0 where
@@ -126,9 +102,9 @@ IsMade options workers program (Err NoMemory) = Unit {0}
 abbrev pub options_for : PresolveOptions → Options
 options_for options = record { numbers = numbers_of options; limit = options.limit; dual = options.dual }
 
--- the workers among whom the words have the work shared out
+-- the workers among whom the words have the work shared out: whatever their number, they make what the ordered run makes
 abbrev pub workers_for : PresolveOptions → Workers
-workers_for options = one_worker
+workers_for options = record { threads = options.threads; ordered = true }
 
 -- a text has no fault, and its program is not taken: this line names its first column that has to be whole
 abbrev pub TextIsNotTaken : PresolveOptions → List ℕ → List ℕ → Type 0

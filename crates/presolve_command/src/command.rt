@@ -1,8 +1,9 @@
-//! The command `presolve IN OUT REC [--limit N] [--dual] [--fractions] [--fixed]`.
+//! The command `presolve IN OUT REC [--threads T] [--limit N] [--dual] [--fractions] [--ordered] [--fixed]`.
 
-ghost use Rattle.std.specs.Prelude.{◌≡◌, ◌≢◌, IfOk, OnOk, OnErr};
+ghost use Rattle.std.specs.Prelude.{◌≡◌, ◌≢◌, ◌≤◌, IfOk, OnOk, OnErr};
 ghost use Rattle.file_ports.specs.Ports.{Written};
 ghost use Rattle.command_words.specs.Seen.{names_of};
+ghost use Rattle.command_words.specs.declared.words.TheConstants.{MOST_THREADS};
 ghost use Rattle.endings.specs.Ending.{status_of, text_of};
 ghost use Rattle.endings.specs.Moments.{IsQuiet, KeepsAllBut};
 ghost use Rattle.presolve_command.specs.Presolved.{EndsPresolve, FailsBetween, IsDoneInOrder};
@@ -11,6 +12,7 @@ use crate::reduce::{NotReduced, Texts, reduce};
 use command_words::PresolveWords;
 use endings::{Ending, INPUT_LIMIT, fault_line};
 use file_ports::{Failed, Files, ReadErr};
+use presolve_rounds::Onlooker;
 use std::alloc::{AllocError, Global};
 use std::thread::Threads;
 
@@ -32,14 +34,17 @@ fn write_both<F: Files>(
 }
 
 /// Reads a program, writes the reduced one and its records; nothing where it has no feasible point, or none of least cost, or duals are
-/// asked for and a column has to be whole. All that is written and printed is made before the first write.
-pub fn presolve<R: Threads + Sync, F: Files>(
+/// asked for and a column has to be whole. All that is written and printed is made before the first write. The onlooker is told of the rounds.
+pub fn presolve<R: Threads + Sync, F: Files, O: Onlooker>(
     rt: &R,
     alloc: Global,
     words: &PresolveWords<'_>,
     files: &mut F,
+    onlooker: &mut O,
 ) -> Result<Ending, AllocError>
-    requires { words.now.output.now ≢ words.now.records.now }
+    requires differ { words.now.output.now ≢ words.now.records.now }
+    requires some_threads { 1 ≤ words.now.options.threads }
+    requires few_threads { words.now.options.threads ≤ MOST_THREADS }
     ensures ends { IfOk result (λ e. EndsPresolve (names_of words.now) (status_of e) (text_of e) (F.moment files.old) (F.moment files.new)) }
     ensures no_memory { OnErr result (IsQuiet (F.moment files.old) (F.moment files.new)) }
     ensures in_order { IsDoneInOrder (names_of words.now) }
@@ -52,7 +57,7 @@ pub fn presolve<R: Threads + Sync, F: Files>(
         }
         Err(ReadErr::NoMemory) => return Err(AllocError),
     };
-    let texts = match reduce(rt, alloc, &text, words.options) {
+    let texts = match reduce(rt, alloc, &text, words.options, onlooker) {
         Ok(texts) => texts,
         Err(NotReduced::Fault(fault)) => return Ok(Ending::Refused(fault_line(alloc, fault)?)),
         Err(NotReduced::NotContinuous(line)) => return Ok(Ending::Refused(line)),

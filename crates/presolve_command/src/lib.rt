@@ -3,6 +3,5 @@
 
 mod command;
 mod reduce;
-mod report;
 
 pub use command::presolve;

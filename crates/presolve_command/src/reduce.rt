@@ -1,22 +1,23 @@
 //! What a presolve makes of a text.
 
-ghost use Rattle.std.specs.Prelude.{◌≡◌, ◌<◌, ◌≤◌, ◌^◌, ◌-◌, true, length, min, IfOk, MatchOption};
-ghost use Rattle.std.specs.List.{sum_by};
+ghost use Rattle.std.specs.Prelude.{◌≡◌, ◌<◌, ◌≤◌, ◌^◌, true, length, IfOk, MatchOption};
+ghost use Rattle.command_words.specs.declared.words.TheConstants.{MOST_THREADS};
 ghost use Rattle.lp_model.specs.Meaning.{meaning};
 ghost use Rattle.lp_model.specs.ProgramData.{ProgramData};
 ghost use Rattle.lp_check.specs.FirstWhole.{IsFirstWhole};
-ghost use Rattle.presolve_command.specs.Texts.{AreTexts, IsMade, IsReduced, IsTaken, Tells, entries_of};
+ghost use Rattle.presolve_command.specs.Texts.{AreTexts, IsMade, IsReduced, IsTaken};
 ghost use Rattle.lp_model.specs.Writable.{EntriesAscend, Writable};
 ghost use Rattle.mps_writer.specs.MpsText.{mps_text, WidthsFit};
+ghost use Rattle.presolve_report.specs.Outcomes.{Tells};
 
-use crate::report::{Change, Report, report_of};
 use command_words::PresolveOptions;
 use endings::{ProgramError, ProgramFault, form_of, not_continuous_text, read_program};
 use lp_check::first_whole_column;
-use lp_model::{ColumnDef, Program};
+use lp_model::Program;
 use mps_writer::{WriteError, write_mps};
 use presolve_model::{Options, Workers};
-use presolve_rounds::{Presolved, ReducedProgram};
+use presolve_report::{Report, report_for, report_of, size_of};
+use presolve_rounds::{Onlooker, Presolved, ReducedProgram};
 use record_file::write_records;
 use record_round_trip::records_have_range;
 use record_values::TextVersion;
@@ -58,39 +59,6 @@ impl From<AllocError> for NotReduced {
     }
 }
 
-// How many entries these columns have.
-fn count_entries(columns: &[ColumnDef]) -> u64
-    ensures { result ≡ min (sum_by (λ column. length column.entries) columns.now) (2 ^ 64 - 1) }
-{
-    let mut count: u64 = 0;
-    let mut rest = columns;
-    while let [column, after @ ..] = rest {
-        count = count.saturating_add(column.entries.as_slice().len() as u64);
-        rest = after;
-    }
-    count
-}
-
-// How many rows, columns and entries there are.
-#[derive(Clone, Copy)]
-struct Size {
-    rows: u64,
-    columns: u64,
-    entries: u64,
-}
-
-fn size_of(program: &Program) -> Size
-    ensures rows { result.rows ≡ length program.now.rows }
-    ensures columns { result.columns ≡ length program.now.columns }
-    ensures entries { result.entries ≡ entries_of program.now }
-{
-    Size {
-        rows: program.rows().len() as u64,
-        columns: program.columns().len() as u64,
-        entries: count_entries(program.columns()),
-    }
-}
-
 fn program_text(alloc: Global, program: &Program) -> Result<Vec<u8>, AllocError>
     requires { WidthsFit program.now.rows }
     ensures text { IfOk result (λ text. text.items ≡ mps_text program.now) }
@@ -99,33 +67,6 @@ fn program_text(alloc: Global, program: &Program) -> Result<Vec<u8>, AllocError>
         Ok(text) => Ok(text),
         Err(WriteError::Past) => unreachable!(),
         Err(WriteError::NoMemory) => Err(AllocError),
-    }
-}
-
-// The report of a presolve of a program of this size.
-fn report_for(made: &ReducedProgram, before: Size) -> Report
-    ensures told { (source : ProgramData) → before.rows ≡ length source.rows → before.columns ≡ length source.columns → before.entries ≡ entries_of source
-        → Tells (record { source = source; program = made.now.program; records = made.now.records; report = result }) }
-    ensures end { result.end ≡ made.now.end }
-{
-    let left = size_of(&made.program);
-    let records = &made.records;
-    Report {
-        rows: Change {
-            before: before.rows,
-            after: left.rows,
-        },
-        columns: Change {
-            before: before.columns,
-            after: left.columns,
-        },
-        entries: Change {
-            before: before.entries,
-            after: left.entries,
-        },
-        records: records.undos().len() as u64,
-        offset: records.offset(),
-        end: made.end,
     }
 }
 
@@ -159,12 +100,13 @@ fn column_in_the_way(program: &Program, options: &Options) -> Option<u32>
 }
 
 // Reduces a program, and makes the texts of what is left.
-fn reduce_program<R: Threads + Sync>(
+fn reduce_program<R: Threads + Sync, O: Onlooker>(
     rt: &R,
     alloc: Global,
     program: Program,
     options: &Options,
     workers: &Workers,
+    onlooker: &mut O,
 ) -> Result<Texts, NotReduced>
     requires few_rows { length program.rows < 2 ^ 32 }
     requires few_columns { length program.columns < 2 ^ 32 }
@@ -175,7 +117,7 @@ fn reduce_program<R: Threads + Sync>(
 {
     let before = size_of(&program);
     texts_come_back();
-    match presolve(rt, alloc, program, options, workers) {
+    match presolve(rt, alloc, program, options, workers, onlooker) {
         Ok(Presolved::Reduced(made)) => {
             records_have_range(&made.records);
             let report = report_for(&made, before);
@@ -189,12 +131,13 @@ fn reduce_program<R: Threads + Sync>(
 }
 
 // Reduces a program that is taken: where duals are asked for, no column may have to be whole.
-fn reduce_taken<R: Threads + Sync>(
+fn reduce_taken<R: Threads + Sync, O: Onlooker>(
     rt: &R,
     alloc: Global,
     program: Program,
     options: &Options,
     workers: &Workers,
+    onlooker: &mut O,
 ) -> Result<Texts, NotReduced>
     requires few_rows { length program.rows < 2 ^ 32 }
     requires few_columns { length program.columns < 2 ^ 32 }
@@ -207,7 +150,7 @@ fn reduce_taken<R: Threads + Sync>(
             let line = not_continuous_text(alloc, &program, column)?;
             Err(NotReduced::NotContinuous(line))
         }
-        None => reduce_program(rt, alloc, program, options, workers),
+        None => reduce_program(rt, alloc, program, options, workers, onlooker),
     }
 }
 
@@ -216,13 +159,16 @@ fn reduce_taken<R: Threads + Sync>(
 /// # Errors
 /// The first fault of the text, the first column that has to be whole where duals are asked for, that the program has no feasible point,
 /// that it has none or none of least cost, or want of memory.
-pub fn reduce<R: Threads + Sync>(
+pub fn reduce<R: Threads + Sync, O: Onlooker>(
     rt: &R,
     alloc: Global,
     text: &[u8],
     options: PresolveOptions,
+    onlooker: &mut O,
 ) -> Result<Texts, NotReduced>
-    requires { length text.now < 2 ^ 32 }
+    requires few_bytes { length text.now < 2 ^ 32 }
+    requires some_threads { 1 ≤ options.threads }
+    requires few_threads { options.threads ≤ MOST_THREADS }
     ensures { IsReduced options text.now result }
 {
     let form = form_of(options);
@@ -231,8 +177,9 @@ pub fn reduce<R: Threads + Sync>(
         limit: options.limit,
         dual: options.dual,
     };
+    let workers = Workers::new(options.threads, true);
     match read_program(alloc, text, form) {
-        Ok(program) => reduce_taken(rt, alloc, program, &told, &Workers::one()),
+        Ok(program) => reduce_taken(rt, alloc, program, &told, &workers, onlooker),
         Err(ProgramError::Fault(fault)) => Err(NotReduced::Fault(fault)),
         Err(ProgramError::NoMemory) => Err(NotReduced::NoMemory),
     }

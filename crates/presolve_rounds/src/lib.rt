@@ -13,5 +13,5 @@ mod source;
 pub use onlooker::{NoOnlooker, Onlooker};
 pub use outcome::{DecidedProgram, Presolved, ReducedProgram};
 pub use passes::{InTurn, Passes};
-pub use reduce::{opened, presolve, presolve_by};
+pub use reduce::{opened, presolve_by};
 pub use rounds::{run, run_by};

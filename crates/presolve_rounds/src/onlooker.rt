@@ -3,13 +3,16 @@
 use std::alloc::{AllocError, Global};
 use txn_book::Book;
 
-/// Is told of a run after each of its rounds. It promises nothing but to return, so no result rests on it.
+/// Is told of a run after each of its rounds, and at its end. It promises nothing but to return, so no result rests on it.
 pub trait Onlooker {
     /// A round has ended, and left this book.
     ///
     /// # Errors
     /// Memory ran out; the run ends with that.
     fn after_round(&mut self, alloc: Global, book: &Book) -> Result<(), AllocError>;
+
+    /// No round follows: the run has ended, or memory ran out in it.
+    fn after_run(&mut self);
 }
 
 /// Does not look.
@@ -20,4 +23,6 @@ impl Onlooker for NoOnlooker {
     fn after_round(&mut self, _alloc: Global, _book: &Book) -> Result<(), AllocError> {
         Ok(())
     }
+
+    fn after_run(&mut self) {}
 }

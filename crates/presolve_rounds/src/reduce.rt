@@ -11,9 +11,9 @@ ghost use Rattle.presolve_rounds.specs.Running.{EndsWith};
 ghost use Rattle.presolve_rounds.specs.Sources.{given, IsKept};
 
 use crate::labels::records_of;
-use crate::onlooker::NoOnlooker;
+use crate::onlooker::Onlooker;
 use crate::outcome::{DecidedProgram, Presolved, ReducedProgram};
-use crate::passes::{InTurn, Passes};
+use crate::passes::Passes;
 use crate::rounds::run_by;
 use crate::source::{Source, source_of};
 use lp_model::Program;
@@ -110,16 +110,17 @@ fn concluded(
 }
 
 /// Reduces a program by the rules that there are, until it is decided, or no rule is left that could be applied, or the limit is reached. The
-/// rounds are gone over in this way, in order.
+/// rounds are gone over in this way, in order. The onlooker is told after each of them, and behind the last.
 ///
 /// # Errors
 /// For want of memory.
-pub fn presolve_by<P: Passes>(
+pub fn presolve_by<P: Passes, O: Onlooker>(
     alloc: Global,
     passes: &P,
     program: Program,
     options: &Options,
     workers: &Workers,
+    onlooker: &mut O,
 ) -> Result<Presolved, AllocError>
     requires able { P.ready passes.now }
     requires few_rows { length program.rows < 2 ^ 32 }
@@ -130,7 +131,7 @@ pub fn presolve_by<P: Passes>(
 {
     let mut book = opened(alloc, &program, options)?;
     let source = source_of(alloc, program);
-    let end = run_by(alloc, passes, &mut book, &mut NoOnlooker)?;
+    let end = run_by(alloc, passes, &mut book, onlooker)?;
     match end {
         Some(end) => {
             let made = reduced(alloc, &source, options.dual, workers, book, end)?;
@@ -141,23 +142,4 @@ pub fn presolve_by<P: Passes>(
             Ok(concluded(&source, options, workers, made))
         }
     }
-}
-
-/// The same on one thread, however many workers there are.
-///
-/// # Errors
-/// For want of memory.
-pub fn presolve(
-    alloc: Global,
-    program: Program,
-    options: &Options,
-    workers: &Workers,
-) -> Result<Presolved, AllocError>
-    requires few_rows { length program.rows < 2 ^ 32 }
-    requires few_columns { length program.columns < 2 ^ 32 }
-    requires ascends { EntriesAscend program }
-    requires writable { Writable options.now.numbers program }
-    ensures { IfOk result (λ made. Concludes options.now workers.now program made) }
-{
-    presolve_by(alloc, &InTurn, program, options, workers)
 }

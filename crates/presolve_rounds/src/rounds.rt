@@ -210,7 +210,7 @@ fn run_with<P: Passes, O: Onlooker>(
 }
 
 /// Rounds until nothing can be applied, a verdict was, or the limit is reached, each gone over in this way. None where the book is decided.
-/// The onlooker is told after each round.
+/// The onlooker is told after each round, and behind the last.
 ///
 /// # Errors
 /// Memory ran out.
@@ -228,7 +228,9 @@ pub fn run_by<P: Passes, O: Onlooker>(
     ensures end { IfOk result (λ end. EndsWith end book.new) }
 {
     let mut groups = Parallels::of(alloc, book.problem())?;
-    run_with(alloc, passes, book, &mut groups, onlooker)
+    let end = run_with(alloc, passes, book, &mut groups, onlooker);
+    onlooker.after_run();
+    end
 }
 
 /// The same on one thread, each instance looked at in its turn.

@@ -108,4 +108,6 @@ impl Onlooker for SizeLog {
         self.sizes.push(RoundSize { round, size })?;
         Ok(())
     }
+
+    fn after_run(&mut self) {}
 }

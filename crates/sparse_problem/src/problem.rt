@@ -98,12 +98,30 @@ impl Problem {
         Some(kept.crossed)
     }
 
+    /// The sums of a row of which none are kept, if its numbers have room.
+    pub fn missing_sums(&self, i: u32) -> Option<KeptSums>
+        ensures { IfSome result (AreSumsOf (spans_of self.now i)) }
+    {
+        if kept_of(self.kept.as_slice(), i).is_some() {
+            return None;
+        }
+        sums_of_row(&self.parts, i)
+    }
+
+    /// Keeps these sums of a row. The problem stays the same.
+    pub fn keep(&mut self, i: u32, sums: KeptSums)
+        requires { AreSumsOf (spans_of self.old i) sums }
+        ensures { self.new ≡ self.old }
+    {
+        put(&mut self.kept, i, Some(sums));
+    }
+
     /// Makes the sums of a row, if none are kept and its numbers have room. The problem stays the same.
     fn keep_row(&mut self, i: u32)
         ensures { self.new ≡ self.old }
     {
-        if kept_of(self.kept.as_slice(), i).is_none() {
-            put(&mut self.kept, i, sums_of_row(&self.parts, i));
+        if let Some(sums) = self.missing_sums(i) {
+            self.keep(i, sums);
         }
     }
 

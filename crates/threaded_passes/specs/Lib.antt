@@ -1,2 +1,4 @@
 pub mod Listing
 pub mod Pieces
+pub mod Sums
+pub mod Shares

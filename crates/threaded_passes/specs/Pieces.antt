@@ -1,7 +1,6 @@
 -- Pieces of what a round tests.
 use Rattle.std.specs.Prelude.{ℕ, List}
 use Rattle.std.specs.List.{filter, flat_map}
-use Rattle.std.specs.declared.vec.Vec.{Vec}
 use Rattle.problem_model.specs.Sparse.{Sparse}
 use Rattle.presolve_model.specs.declared.instance.Instance.{Instance}
 use Rattle.presolve_model.specs.declared.instance.Rule.{Rule}
@@ -24,6 +23,3 @@ of_pieces opens p pieces = flat_map (instances_in opens p) pieces
 -- those of a piece that are enabled
 abbrev pub enabled_in : Open → Sparse → PieceData → List Instance
 enabled_in opens p piece = filter (enabled_on p) (instances_in opens p piece)
-
-abbrev pub items_of : {X Z : Type 0} → Vec X Z → List X
-items_of v = v.items

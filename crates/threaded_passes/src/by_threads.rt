@@ -5,6 +5,7 @@ ghost use Rattle.threaded_passes.specs.Listing.{listed_order, turned_order};
 
 use crate::found::enabled_by_threads;
 use crate::listed::visit_listed;
+use crate::sums::keep_sums_by_threads;
 use presolve_model::Rule;
 use presolve_rounds::Passes;
 use presolve_rounds::pass::{Walk, visit_rules};
@@ -76,7 +77,8 @@ impl<'a, R: Threads + Sync> Passes for ByThreads<'a, R> {
         ids: &Around,
         watch: &mut Watch,
     ) -> Result<(), AllocError> {
-        book.keep_sums(ids.of(Rule::BoundTightening));
+        let rows = ids.of(Rule::BoundTightening);
+        keep_sums_by_threads(self.rt, alloc, self.threads, book, rows)?;
         let found = enabled_by_threads(
             self.rt,
             alloc,

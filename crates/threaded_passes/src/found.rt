@@ -1,29 +1,28 @@
 //! The instances that are enabled as a round begins, found by threads.
 
-ghost use Rattle.std.specs.Prelude.{◌≡◌, map, IfOk};
-ghost use Rattle.std.specs.List.{filter, flat_map};
+ghost use Rattle.std.specs.Prelude.{◌≡◌, ◌<◌, length, IfOk, IfSome};
+ghost use Rattle.std.specs.List.{AllZip, filter};
 ghost use Rattle.line_groups.specs.Groups.{AreGroupsOf};
 ghost use Rattle.presolve_model.specs.Enabled.{enabled_on};
 ghost use Rattle.presolve_model.specs.Tallies.{open_on};
 ghost use Rattle.place_laws.specs.Choosing.{instances_of};
-ghost use Rattle.threaded_passes.specs.Pieces.{enabled_in, items_of};
+ghost use Rattle.threaded_passes.specs.Pieces.{enabled_in};
+ghost use Rattle.threaded_passes.specs.Shares.{AreInTurn, IsListAt, IsShare, IsShareOrLost};
 
-use crate::pieces::{Piece, cost_of, pieces_of};
+use crate::pieces::{LEAST_COST, Piece, cost_of, pieces_of};
+use crate::shares::firsts_of;
 use instances::{Tally, add_enabled};
 use line_groups::Parallels;
 use presolve_model::{Instance, Rule};
-use rayon::prelude::*;
 use round_marks::around::Around;
 use round_marks::found::enabled_of;
 use sparse_problem::Problem;
 use std::alloc::{AllocError, Global};
 use std::thread::Threads;
+use thread_maps::map_in_threads;
 
 /// Pieces for each thread. The more there are, the more evenly they cost.
 const PIECES: u64 = 8;
-
-/// Tests that cost less are made by one thread: starting others would take longer.
-const LEAST_COST: u64 = 20_000;
 
 /// The enabled instances of a piece that are open.
 fn found_in(
@@ -45,20 +44,30 @@ fn found_in(
     Ok(found)
 }
 
-/// Lists behind one another.
-fn join_all(alloc: Global, lists: &[Vec<Instance>]) -> Result<Vec<Instance>, AllocError>
-    ensures { IfOk result (λ all. all.items ≡ flat_map items_of lists.now) }
+/// What is found in the pieces of a share: each so many-th, from the first one on.
+fn found_in_share(
+    alloc: Global,
+    problem: &Problem,
+    groups: &Parallels,
+    tally: &Tally,
+    pieces: &[Piece],
+    first: u32,
+    step: u32,
+) -> Result<Vec<Vec<Instance>>, AllocError>
+    requires groups { AreGroupsOf groups.now problem.now }
+    requires step { 0 < step }
+    ensures { IfOk result (λ lists. IsShare (open_on tally.now) problem.now pieces.now step first lists.items) }
 {
-    let mut all = Vec::new(alloc);
-    let mut rest = lists;
-    while let [list, after @ ..] = rest {
-        all.extend_from_slice(list.as_slice())?;
-        rest = after;
+    let mut lists = Vec::new(alloc);
+    let mut place = first as usize;
+    while place < pieces.len() {
+        lists.push(found_in(alloc, problem, groups, tally, &pieces[place])?)?;
+        place += step as usize;
     }
-    Ok(all)
+    Ok(lists)
 }
 
-/// What is found in each piece, each thread testing at least so many in a row.
+/// What is found in each share, each in a thread of its own.
 fn lists_of<R: Threads + Sync>(
     rt: &R,
     alloc: Global,
@@ -66,25 +75,59 @@ fn lists_of<R: Threads + Sync>(
     groups: &Parallels,
     tally: &Tally,
     pieces: &[Piece],
-    least: usize,
-) -> Result<Vec<Vec<Instance>>, AllocError>
-    requires { AreGroupsOf groups.now problem.now }
-    ensures { IfOk result (λ lists. map items_of lists.items ≡ map (enabled_in (open_on tally.now) problem.now) pieces.now) }
+    firsts: &[u32],
+    step: u32,
+) -> Result<Vec<Result<Vec<Vec<Instance>>, AllocError>>, AllocError>
+    requires groups { AreGroupsOf groups.now problem.now }
+    requires step { 0 < step }
+    ensures { IfOk result (λ lists. AllZip (IsShareOrLost (open_on tally.now) problem.now pieces.now step) firsts.now lists.items) }
 {
-    let all: Result<Result<Vec<Vec<Instance>>, AllocError>, AllocError> = pieces
-        .par_iter()
-        .with_min_len(least)
-        .map(
-            |piece: &Piece| -> Result<Vec<Instance>, AllocError>
-                requires { AreGroupsOf groups.now problem.now }
-                ensures { IfOk result (λ found. found.items ≡ enabled_in (open_on tally.entry.now) problem.entry.now piece.now) }
-            { found_in(alloc, problem, groups, tally, piece) },
-        )
-        .collect(rt, alloc);
-    match all {
-        Ok(lists) => lists,
-        Err(_) => Err(AllocError),
+    map_in_threads(
+        rt,
+        alloc,
+        firsts,
+        |first: &u32| -> Result<Vec<Vec<Instance>>, AllocError>
+            requires groups { AreGroupsOf groups.now problem.now }
+            requires step { 0 < step }
+            ensures { IsShareOrLost (open_on tally.entry.now) problem.entry.now pieces.entry.now step first.now result }
+        { found_in_share(alloc, problem, groups, tally, pieces, *first, step) },
+    )
+}
+
+/// What was found in the piece at a place. `None` where memory ran out.
+fn list_at(lists: &[Result<Vec<Vec<Instance>>, AllocError>], place: usize) -> Option<&[Instance]>
+    requires { 0 < length lists.now }
+    ensures { IfSome result (λ list. IsListAt lists.now place list.now) }
+{
+    let found = match &lists[place % lists.len()] {
+        Ok(found) => found.as_slice(),
+        Err(_) => return None,
+    };
+    let turn = place / lists.len();
+    if turn < found.len() {
+        Some(found[turn].as_slice())
+    } else {
+        None
     }
+}
+
+/// What was found in so many pieces, one list behind the other.
+fn join_all(
+    alloc: Global,
+    count: usize,
+    lists: &[Result<Vec<Vec<Instance>>, AllocError>],
+) -> Result<Vec<Instance>, AllocError>
+    requires { 0 < length lists.now }
+    ensures { IfOk result (λ all. AreInTurn lists.now count all.items) }
+{
+    let mut all = Vec::new(alloc);
+    for place in 0..count {
+        match list_at(lists, place) {
+            Some(list) => all.extend_from_slice(list)?,
+            None => return Err(AllocError),
+        }
+    }
+    Ok(all)
 }
 
 /// The enabled instances of rules at these rows and columns that are open, each rule's in turn, found by at most so many threads.
@@ -110,7 +153,16 @@ pub fn enabled_by_threads<R: Threads + Sync>(
     }
     let most = cost / (threads as u64 * PIECES);
     let pieces = pieces_of(alloc, problem, ids, rules, most)?;
-    let least = pieces.as_slice().len() / threads as usize + 1;
-    let lists = lists_of(rt, alloc, problem, groups, tally, pieces.as_slice(), least)?;
-    join_all(alloc, lists.as_slice())
+    let firsts = firsts_of(alloc, threads)?;
+    let lists = lists_of(
+        rt,
+        alloc,
+        problem,
+        groups,
+        tally,
+        pieces.as_slice(),
+        firsts.as_slice(),
+        threads,
+    )?;
+    join_all(alloc, pieces.as_slice().len(), lists.as_slice())
 }

@@ -55,6 +55,9 @@ impl Piece {
     }
 }
 
+/// What costs less is done by one thread: starting others would take longer.
+pub const LEAST_COST: u64 = 20_000;
+
 /// The entries that a test of a rule of dominated columns looks at in a row, at most.
 const MOST_IN_PAIRS: usize = 64;
 

@@ -5,4 +5,5 @@ mod Layers
 mod OneCheck
 mod OnePostsolve
 mod OneMigrate
+mod OneGen
 mod OnePresolve

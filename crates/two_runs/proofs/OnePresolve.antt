@@ -22,8 +22,9 @@ use Rattle.endings.specs.ProgramTexts.{IsFaultOf, IsProgramOf, program_in}
 use Rattle.endings.specs.declared.forms.ProgramFault.TheVariants.{Mps}
 use Rattle.endings.specs.declared.reads.TheConstants.{INPUT_LIMIT}
 use Rattle.presolve_command.specs.Presolved.{IsInfeasible, IsMadeOf, IsPresolved, IsUnboundedOrInfeasible, RefusesProgram, SaysFault, SaysNotTaken, SaysPresolve}
-use Rattle.presolve_command.specs.Report.{report_text}
-use Rattle.presolve_command.specs.Texts.{entries_of, IsConcluded, IsNotTaken, IsTaken, options_for, Outcome, ProgramIsInfeasible, ProgramIsUnboundedOrInfeasible, Tells, TextIsInfeasible, TextIsNotTaken, TextIsUnboundedOrInfeasible, workers_for}
+use Rattle.presolve_report.specs.Report.{report_text}
+use Rattle.presolve_report.specs.Outcomes.{entries_of, Outcome, Tells}
+use Rattle.presolve_command.specs.Texts.{IsConcluded, IsNotTaken, IsTaken, options_for, ProgramIsInfeasible, ProgramIsUnboundedOrInfeasible, TextIsInfeasible, TextIsNotTaken, TextIsUnboundedOrInfeasible, workers_for}
 use Rattle.two_runs.specs.Runs.{Holds}
 use Rattle.two_runs.specs.SameAnswers.{IsOfBytes, LeaveTheSame, PresolvesAreOne}
 use Rattle.two_runs.proofs.Joined.{held_written}
@@ -40,7 +41,7 @@ pub record OneConclusion : Type 0 where
       → Concluded options v program r t e → Decided options w program h x → ⊥
 
 -- ---- outcomes of one program
-report_same : (o q : Outcome) → Tells o → Tells q → o.source ≡ q.source → o.program ≡ q.program → o.records ≡ q.records → o.report.end ≡ q.report.end → o.report ≡ q.report
+pub report_same : (o q : Outcome) → Tells o → Tells q → o.source ≡ q.source → o.program ≡ q.program → o.records ≡ q.records → o.report.end ≡ q.report.end → o.report ≡ q.report
 report_same o q x y s p r e =
     let e1 = x.rows_before ∙ ap (λ (z : ProgramData). length z.rows) s ∙ sym y.rows_before in
     let e2 = x.rows_after ∙ ap (λ (z : ProgramData). length z.rows) p ∙ sym y.rows_after in
@@ -133,7 +134,7 @@ module _ (one : OneConclusion) (names : PresolveNames) (input : List ℕ) where
   workers = workers_for names.options
 
   abbrev OfText : ℕ → List ℕ → Type 0
-  OfText s said = Layer INPUT_LIMIT input program_over (first_fault (dialect_in (form_of names.options)) input) program_line 2 s said (OfProgram one options workers (inl refl) program s said)
+  OfText s said = Layer INPUT_LIMIT input program_over (first_fault (dialect_in (form_of names.options)) input) program_line 2 s said (OfProgram one options workers (inr refl) program s said)
 
   module _ (before : Moment) (at_input : Holds before names.input input) where
     refused : (s : ℕ) (said : List ℕ) (now : Moment) → s ≡ 2 → SaysFault names said before now → OfText s said
@@ -184,7 +185,7 @@ module _ (one : OneConclusion) (names : PresolveNames) (input : List ℕ) where
 module _ (one : OneConclusion) (names : PresolveNames) (input said more : List ℕ) (before now then later : Moment) (i : Holds before names.input input) (j : Holds then names.input input)
     (a : IsPresolved names said before now) (b : IsPresolved names more then later) where
   both_same : (a.program ≡ b.program) × (a.records ≡ b.records) × (said ≡ more)
-  both_same = outcomes_same one (options_for names.options) (workers_for names.options) (inl refl) (program_in (form_of names.options) input) a.program a.records said b.program b.records more
+  both_same = outcomes_same one (options_for names.options) (workers_for names.options) (inr refl) (program_in (form_of names.options) input) a.program a.records said b.program b.records more
       (made one names input before i a.program a.records said a.made) (made one names input then j b.program b.records more b.made)
 
   output_same : LeaveTheSame now later names.output
@@ -198,7 +199,7 @@ module _ (one : OneConclusion) (names : PresolveNames) (input said more : List �
 pub presolve_same : OneConclusion → PresolvesAreOne
 presolve_same one names s t said more before now then later (input, i, j) b c x y =
     let same = layer_same INPUT_LIMIT input program_over (first_fault (dialect_in (form_of names.options)) input) program_line 2 s t said more (told_of one names input before i s said now b x.says) (told_of one names input then j t more later c y.says)
-    (program_same one (options_for names.options) (workers_for names.options) (inl refl) (program_in (form_of names.options) input) s t said more) in
+    (program_same one (options_for names.options) (workers_for names.options) (inr refl) (program_in (form_of names.options) input) s t said more) in
     record {
       status = same.0;
       printed = same.1;

@@ -8,8 +8,8 @@ use Rattle.lp_model.specs.Optimality.{Meets}
 use Rattle.lp_model.specs.ProgramData.{ProgramData}
 use Rattle.lp_model.specs.Vectors.{vector_of}
 use Rattle.endings.specs.SolutionTexts.{fault_of}
-use Rattle.presolve_command.specs.Report.{report_text}
-use Rattle.presolve_command.specs.declared.report.Report.{Report}
+use Rattle.presolve_report.specs.Report.{report_text}
+use Rattle.presolve_report.specs.declared.report.Report.{Report}
 use Rattle.whole_way.specs.ComingBack.{IsBest}
 use Rattle.two_runs.specs.Runs.{AreRun, CanBeWritten, duals_in, original, point_in, reduced, Way}
 

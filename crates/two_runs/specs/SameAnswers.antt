@@ -6,6 +6,8 @@ use Rattle.presolve_command.specs.Presolved.{EndsPresolve}
 use Rattle.check_command.specs.Checked.{EndsCheck}
 use Rattle.postsolve_command.specs.Postsolved.{EndsPostsolve}
 use Rattle.migrate_command.specs.Migrated.{EndsMigrate}
+use Rattle.command_words.specs.declared.words.GenNumbers.{GenNumbers}
+use Rattle.gen_command.specs.Generating.{EndsGen}
 use Rattle.two_runs.specs.Runs.{Holds}
 
 -- a name holds the same bytes at both moments
@@ -80,3 +82,12 @@ MigratesAreOne = (names : MigrateNames) (s t : ℕ) (said more : List ℕ) (befo
     → EndsMigrate names s said before now
     → EndsMigrate names t more then later
     → MigratesAlike names s t said more now later
+
+-- gen of the same numbers ends alike and prints the same, where memory did not run out
+abbrev pub GensAreOne : Type 0
+GensAreOne = (numbers : GenNumbers) (s t : ℕ) (said more : List ℕ) (before now then later : Moment)
+    → s ≢ 5
+    → t ≢ 5
+    → EndsGen numbers s said before now
+    → EndsGen numbers t more then later
+    → (s ≡ t) × (said ≡ more)

@@ -5,7 +5,7 @@ ghost use Rattle.rational.specs.Number.{Number};
 ghost use Rattle.lp_model.specs.ProgramData.{ProgramData};
 ghost use Rattle.undo_records.specs.Postsolve.{Postsolve};
 ghost use Rattle.postsolve_command.specs.Lifted.{IsLifted, Stops};
-ghost use Rattle.two_runs.specs.SameAnswers.{ChecksAreOne, MigratesAreOne, PostsolvesAreOne, PresolvesAreOne};
+ghost use Rattle.two_runs.specs.SameAnswers.{ChecksAreOne, GensAreOne, MigratesAreOne, PostsolvesAreOne, PresolvesAreOne};
 
 use lp_check::laws::{verdicts_are_one, verdicts_with_duals_are_one};
 use run_laws::conclusions_are_one;
@@ -46,3 +46,10 @@ pub fn postsolves_are_one()
 pub fn migrates_are_one()
     ensures { MigratesAreOne }
 {}
+
+/// The same of `gen`, with the same numbers: it writes nothing.
+pub fn gens_are_one()
+    ensures { GensAreOne }
+{
+    conclusions_are_one();
+}

@@ -21,12 +21,15 @@ ghost use Rattle.problem_model.specs.Noted.{AreNoted};
 ghost use Rattle.problem_model.specs.Reading.{Agrees};
 ghost use Rattle.problem_model.specs.Showing.{shown};
 ghost use Rattle.problem_model.specs.Writing.{IsWritable};
+ghost use Rattle.row_spans.specs.Spans.{spans_of};
+ghost use Rattle.kept_sums.specs.KeptSums.{AreSumsOf};
 ghost use Rattle.txn_book.specs.Applying.{Applies, outcome_of};
 
 use crate::row_lists::RowLists;
 use applying::after;
 use fractions::Numbers;
 use instances::{Proposal, Tally, Version, numbers_for};
+use kept_sums::KeptSums;
 use line_groups::Parallels;
 use presolve_model::{Instance, Outcome, Part, Reduction, Refusal, Verdict};
 use sparse_problem::Problem;
@@ -154,6 +157,14 @@ impl Book {
         ensures { self.new ≡ self.old }
     {
         self.problem.keep_sums(rows);
+    }
+
+    /// Keeps these sums of a row of the present problem. The book stays the same.
+    pub fn keep(&mut self, row: u32, sums: KeptSums)
+        requires { AreSumsOf (spans_of self.old.problem row) sums }
+        ensures { self.new ≡ self.old }
+    {
+        self.problem.keep(row, sums);
     }
 
     /// How often each bound was tightened.

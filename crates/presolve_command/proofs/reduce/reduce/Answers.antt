@@ -13,7 +13,7 @@ pub reduce_taken-requires-clause-writable : goal.reduce_taken-requires-clause-wr
 reduce_taken-requires-clause-writable g c κs within = subst (λ (n : Numbers). Writable n c.in-Ok.program) (sym c.numbers.ensures) c.in-Ok.ensures.writable
 
 pub returns-in-Ok : goal.returns-in-Ok
-returns-in-Ok g c = made_reduced c.args.options c.form_of-form.result c.numbers.result c.one.result c.args.text.now c.in-Ok.program c.reduce_taken.result c.form_of-form.ensures c.numbers.ensures c.one.ensures.one c.in-Ok.ensures.read c.reduce_taken.ensures
+returns-in-Ok g c = made_reduced c.args.options c.form_of-form.result c.numbers.result c.new-workers.result c.args.text.now c.in-Ok.program c.reduce_taken.result c.form_of-form.ensures c.numbers.ensures c.new-workers.ensures c.in-Ok.ensures.read c.reduce_taken.ensures
 
 pub returns-in-Err-Fault : goal.returns-in-Err-Fault
 returns-in-Err-Fault g c =

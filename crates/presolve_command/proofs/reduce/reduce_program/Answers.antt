@@ -2,7 +2,7 @@ use Rattle.std.proofs.Common.{refl}
 use Rattle.mps_round_trip.proofs.Widths.{widths_fit}
 use Rattle.presolve_command.proofs.Made.{concluded_of, concluded_with, infeasible_of, unbounded_of}
 use Rattle.presolve_command.proofs.PlainKept.{comes_back, reads_back}
-use Rattle.presolve_command.specs.Texts.{Outcome}
+use Rattle.presolve_report.specs.Outcomes.{Outcome}
 use Rattle.presolve_command.proofs.reduce.reduce_program.Goals as goal
 
 pub returns-in_ok-texts-in-Ok-Reduced : goal.returns-in_ok-texts-in-Ok-Reduced

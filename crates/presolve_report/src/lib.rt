@@ -1,0 +1,8 @@
+//! The report of a presolve: what it counts, and its lines.
+#![tactic(auto)]
+
+mod report;
+mod sizes;
+
+pub use report::{Change, Report, report_of};
+pub use sizes::{Size, report_for, size_of};
