@@ -9,7 +9,7 @@ ghost use Rattle.place_laws.specs.Choosing.{instances_of};
 ghost use Rattle.threaded_passes.specs.Pieces.{enabled_in};
 ghost use Rattle.threaded_passes.specs.Shares.{AreInTurn, IsListAt, IsShare, IsShareOrLost};
 
-use crate::pieces::{LEAST_COST, Piece, cost_of, pieces_of};
+use crate::pieces::{Piece, pieces_of};
 use crate::shares::firsts_of;
 use instances::{Tally, add_enabled};
 use line_groups::Parallels;
@@ -22,7 +22,7 @@ use std::thread::Threads;
 use thread_maps::map_in_threads;
 
 /// Pieces for each thread. The more there are, the more evenly they cost.
-const PIECES: u64 = 8;
+const PIECES: u64 = 16;
 
 /// The enabled instances of a piece that are open.
 fn found_in(
@@ -130,7 +130,8 @@ fn join_all(
     Ok(all)
 }
 
-/// The enabled instances of rules at these rows and columns that are open, each rule's in turn, found by at most so many threads.
+/// The enabled instances of rules at these rows and columns that are open, each rule's in turn, found by at most so many threads, which share what
+/// that costs, about.
 ///
 /// # Errors
 /// Memory ran out.
@@ -143,12 +144,12 @@ pub fn enabled_by_threads<R: Threads + Sync>(
     tally: &Tally,
     ids: &Around,
     rules: &[Rule],
+    cost: u64,
 ) -> Result<Vec<Instance>, AllocError>
     requires { AreGroupsOf groups.now problem.now }
     ensures { IfOk result (λ found. found.items ≡ filter (enabled_on problem.now) (instances_of (open_on tally.now) problem.now ids.now rules.now)) }
 {
-    let cost = cost_of(problem, ids, rules);
-    if threads < 2 || cost < LEAST_COST {
+    if threads < 2 {
         return enabled_of(alloc, problem, groups, tally, ids, rules);
     }
     let most = cost / (threads as u64 * PIECES);

@@ -56,7 +56,7 @@ impl Piece {
 }
 
 /// What costs less is done by one thread: starting others would take longer.
-pub const LEAST_COST: u64 = 20_000;
+pub const LEAST_COST: u64 = 200_000;
 
 /// The entries that a test of a rule of dominated columns looks at in a row, at most.
 const MOST_IN_PAIRS: usize = 64;

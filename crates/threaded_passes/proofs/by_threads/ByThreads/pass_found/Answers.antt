@@ -11,7 +11,7 @@ use Rattle.presolve_rounds.specs.Walking.{IsPassed}
 use Rattle.presolve_rounds.proofs.Running.{both_passed}
 use Rattle.threaded_passes.specs.Listing.{AreListed, listed_order, turned_order}
 use Rattle.threaded_passes.proofs.Listing.{all_visited, found_listed, listed_passed}
-use Rattle.threaded_passes.proofs.by_threads.ByThreadsPasses.pass.Goals as goal
+use Rattle.threaded_passes.proofs.by_threads.ByThreads.pass_found.Goals as goal
 
 -- what was found is what is enabled as the round begins
 found_is : (a : Ledger) (p : Sparse) (t : Counts) (n : Around) (rules : List Rule) (es fs : List Instance) → p ≡ a.problem → t ≡ a.tally → rules ≡ listed_order → fs ≡ es → es ≡ filter (enabled_on p) (instances_of (open_on t) p n rules)
@@ -21,7 +21,7 @@ found_is a p t n rules es fs ep et er ef is = ef ∙ is ∙ (λ i. filter (enabl
 pub visit_listed-requires-clause-listed : goal.visit_listed-requires-clause-listed
 visit_listed-requires-clause-listed g c =
     let a : Ledger = c.args.walk.now.frozen.now.value in
-    let book : c.keep_sums_by_threads.new.book ≡ a = c.keep_sums_by_threads.ensures ∙ sym c.requires.begins in
+    let book : c.args.book.now ≡ a = sym c.requires.begins in
     subst (AreListed a) (sym (found_is a c.problem.result.now c.tally.result.now c.args.ids.now c.listed_rules.result c.in_ok-found.found.items c.as_slice.result.now
     (c.problem.ensures ∙ ap (λ (b : Ledger). b.problem) book) (c.tally.ensures ∙ ap (λ (b : Ledger). b.tally) book) c.listed_rules.ensures c.as_slice.ensures.value c.in_ok-found.ensures))
     (found_listed a c.args.ids.now listed_order)
@@ -29,14 +29,13 @@ visit_listed-requires-clause-listed g c =
 pub returns : goal.returns
 returns g c =
     let a : Ledger = c.args.walk.now.frozen.now.value in
-    let book : c.keep_sums_by_threads.new.book ≡ a = c.keep_sums_by_threads.ensures ∙ sym c.requires.begins in
+    let book : c.args.book.now ≡ a = sym c.requires.begins in
     let n = c.args.ids.now in
-    let listed = listed_passed a (instances_of (open_on a.tally) a.problem n listed_order) c.args.watch.now c.visit_listed.new.watch c.keep_sums_by_threads.new.book c.visit_listed.new.book (ap (λ (b : Ledger). b.problem) book)
-    (subst (λ (es : List Instance). IsPassed a es c.args.watch.now c.keep_sums_by_threads.new.book c.visit_listed.new.watch c.visit_listed.new.book)
+    let listed = listed_passed a (instances_of (open_on a.tally) a.problem n listed_order) c.args.watch.now c.visit_listed.new.watch c.args.book.now c.visit_listed.new.book (ap (λ (b : Ledger). b.problem) book)
+    (subst (λ (es : List Instance). IsPassed a es c.args.watch.now c.args.book.now c.visit_listed.new.watch c.visit_listed.new.book)
     (found_is a c.problem.result.now c.tally.result.now n c.listed_rules.result c.in_ok-found.found.items c.as_slice.result.now
     (c.problem.ensures ∙ ap (λ (b : Ledger). b.problem) book) (c.tally.ensures ∙ ap (λ (b : Ledger). b.tally) book) c.listed_rules.ensures c.as_slice.ensures.value c.in_ok-found.ensures)
     c.in_ok-visit_listed.ensures) in
     let turned = subst (λ (rs : List Rule). IsPassed a (instances_of (open_on a.tally) a.problem n rs) c.visit_listed.new.watch c.visit_listed.new.book c.visit_rules.new.watch c.visit_rules.new.book) c.turned_rules.ensures c.in_ok-visit_rules.ensures in
     subst (λ (es : List Instance). IsPassed a es c.args.watch.now c.args.book.now c.visit_rules.new.watch c.visit_rules.new.book) (all_visited (open_on a.tally) a.problem n)
-    (subst (λ (b : Ledger). IsPassed a (instances_of (open_on a.tally) a.problem n listed_order ++ instances_of (open_on a.tally) a.problem n turned_order) c.args.watch.now b c.visit_rules.new.watch c.visit_rules.new.book) c.keep_sums_by_threads.ensures
-    (both_passed a (instances_of (open_on a.tally) a.problem n listed_order) (instances_of (open_on a.tally) a.problem n turned_order) c.args.watch.now c.visit_listed.new.watch c.visit_rules.new.watch c.keep_sums_by_threads.new.book c.visit_listed.new.book c.visit_rules.new.book listed turned))
+    (both_passed a (instances_of (open_on a.tally) a.problem n listed_order) (instances_of (open_on a.tally) a.problem n turned_order) c.args.watch.now c.visit_listed.new.watch c.visit_rules.new.watch c.args.book.now c.visit_listed.new.book c.visit_rules.new.book listed turned)
