@@ -1,6 +1,8 @@
 //! Small problems for tests: a row with an upper side, in which the first of one or two columns stands.
 
-ghost use Rattle.std.specs.Prelude.{IfOk};
+ghost use Rattle.std.specs.Prelude.{◌≡◌, IfOk};
+ghost use Rattle.problem_model.specs.declared.part.Part.{Part as PartValue};
+ghost use Rattle.problem_model.specs.Parts.{changes_of};
 ghost use Rattle.problem_model.specs.Writing.{IsWritable};
 
 use fractions::Numbers;
@@ -9,6 +11,7 @@ use fractions::frac::Frac;
 use fractions::whole::Whole;
 use lp_model::{ColumnDef, Name, Program, RowDef, Sense, Term, Terms, is_name, names_differ};
 use program_laws::laws::written_programs_can_be_written;
+use run_laws::programs_have_not_changed;
 use sparse_problem::Problem;
 use std::alloc::{AllocError, Global};
 use std::process::Abort;
@@ -26,7 +29,8 @@ pub struct Model {
     pub second: bool,
 }
 
-fn number(rt: &impl Abort, (over, under): Quotient) -> Frac {
+/// A number.
+pub fn number(rt: &impl Abort, (over, under): Quotient) -> Frac {
     assert!(rt; over > i128::MIN && under > 0 && under < 1 << 127);
     Frac::ratio_of(Whole::new(over), under)
 }
@@ -37,7 +41,7 @@ fn bound(rt: &impl Abort, quotient: Quotient) -> Ext {
 }
 
 /// A name of these bytes.
-fn name_of(rt: &impl Abort, alloc: Global, bytes: &[u8]) -> Result<Name, AllocError> {
+pub fn name_of(rt: &impl Abort, alloc: Global, bytes: &[u8]) -> Result<Name, AllocError> {
     assert!(rt; is_name(bytes));
     Name::from_slice(alloc, bytes)
 }
@@ -89,31 +93,56 @@ fn columns(rt: &impl Abort, alloc: Global, model: &Model) -> Result<Vec<ColumnDe
     Ok(columns)
 }
 
-/// The program.
-fn program(rt: &impl Abort, alloc: Global, model: &Model) -> Result<Program, AllocError> {
-    let row = row(rt, alloc, model)?;
-    let rows = Vec::from_array(alloc, [row])?;
-    let columns = columns(rt, alloc, model)?;
+/// The program of these rows and columns, whose names differ.
+pub fn program_of(
+    rt: &impl Abort,
+    alloc: Global,
+    rows: Vec<RowDef>,
+    columns: Vec<ColumnDef>,
+) -> Result<Program, AllocError> {
     let objective = name_of(rt, alloc, b"COST")?;
     assert!(rt; names_differ(&objective, rows.as_slice(), columns.as_slice()));
     Ok(Program::new(Sense::Min, objective, Frac::zero(), rows, columns))
 }
 
-/// The problem, which can be written.
+/// The program.
+fn program(rt: &impl Abort, alloc: Global, model: &Model) -> Result<Program, AllocError> {
+    let row = row(rt, alloc, model)?;
+    let rows = Vec::from_array(alloc, [row])?;
+    let columns = columns(rt, alloc, model)?;
+    program_of(rt, alloc, rows, columns)
+}
+
+/// The problem of a program, which can be written, and of which no part has changed.
+pub fn problem_of(
+    rt: &impl Abort,
+    alloc: Global,
+    numbers: Numbers,
+    program: &Program,
+) -> Result<Problem, AllocError>
+    ensures writable { IfOk result (IsWritable numbers) }
+    ensures unchanged { IfOk result (λ p. (a : PartValue) → changes_of p a ≡ 0) }
+{
+    assert!(rt; program.rows().len() < 1 << 32);
+    assert!(rt; program.columns().len() < 1 << 32);
+    assert!(rt; program.is_writable(numbers));
+    assert!(rt; program.has_ascending_entries());
+    written_programs_can_be_written();
+    programs_have_not_changed();
+    let problem = Problem::from_program(alloc, program)?;
+    Ok(problem)
+}
+
+/// The same of the program of a model.
 pub fn problem(
     rt: &impl Abort,
     alloc: Global,
     numbers: Numbers,
     model: &Model,
 ) -> Result<Problem, AllocError>
-    ensures { IfOk result (IsWritable numbers) }
+    ensures writable { IfOk result (IsWritable numbers) }
+    ensures unchanged { IfOk result (λ p. (a : PartValue) → changes_of p a ≡ 0) }
 {
     let program = program(rt, alloc, model)?;
-    assert!(rt; program.rows().len() < 1 << 32);
-    assert!(rt; program.columns().len() < 1 << 32);
-    assert!(rt; program.is_writable(numbers));
-    assert!(rt; program.has_ascending_entries());
-    written_programs_can_be_written();
-    let problem = Problem::from_program(alloc, &program)?;
-    Ok(problem)
+    problem_of(rt, alloc, numbers, &program)
 }

@@ -38,6 +38,7 @@ pub stands_reduction : (b : Ledger) (w version : ℕ) (r : Reduction) → Stands
 stands_reduction b w version r s undecided room can = record {
   sound = s.sound;
   writable = s.writable;
+  unchanged = s.unchanged;
   replays = replays_grow b.numbers b.start b.history r s.replays (subst (λ q. CanApply b.numbers q r) s.problem can);
   problem = ap (changed r) s.problem ∙ sym (replay_grows b.start b.history r);
   records = ap₂ (λ us q. us ++ record_of r q ∷ []) s.records s.problem ∙ sym (records_grow b.start b.history r);
@@ -50,7 +51,7 @@ stands_reduction b w version r s undecided room can = record {
 
 -- a verdict that closes it
 pub stands_verdict : (b : Ledger) (w version : ℕ) (v : Verdict) → Stands b → enabled_on b.problem (at.Verdict v) ≡ true → Stands (with_instance b w version (at.Verdict v))
-stands_verdict b w version v s e = record { sound = s.sound; writable = s.writable; replays = s.replays; problem = s.problem; records = s.records; transactions = s.transactions; counts = s.counts; tally = s.tally; verdict = e; within = s.within }
+stands_verdict b w version v s e = record { sound = s.sound; writable = s.writable; unchanged = s.unchanged; replays = s.replays; problem = s.problem; records = s.records; transactions = s.transactions; counts = s.counts; tally = s.tally; verdict = e; within = s.within }
 
 pub stands_with : (b : Ledger) (w version : ℕ) (e : Instance) (rs : List Read) → Stands b → Enabled e rs → b.verdict ≡ None → HasRoom b e → Agrees b.problem rs → Fits e b.problem → CanWrite b e → Stands (with_instance b w version e)
 stands_with b w version (at.Reduction r) rs s on undecided room agrees fits writes =

@@ -1,8 +1,9 @@
 //! What was read of a problem.
 
-ghost use Rattle.std.specs.Prelude.{◌≡◌, ◌≢◌, ℕ, ◌<◌, length, take, Ok, IsOk, IfErr, IfOk, ◌↔◌, slice_get, Some};
+ghost use Rattle.std.specs.Prelude.{◌≡◌, ◌≢◌, ℕ, ◌<◌, length, take, Ok, IsOk, IfErr, IfOk, OnOk, ◌↔◌, slice_get, Some};
 ghost use Rattle.problem_model.specs.declared.part.Read.{Read};
 ghost use Rattle.problem_model.specs.Reading.{Agrees, DiffersAt, read_of};
+ghost use Rattle.instances.specs.Moved.{NumberDiffersAt, NumbersStand};
 
 use problem_commits::{read, stands};
 use problem_model::Read;
@@ -61,6 +62,24 @@ impl Reading {
     {
         for place in 0..self.reads.len() {
             if !stands(problem, &self.reads[place]) {
+                return Err(Differs { place });
+            }
+        }
+        Ok(())
+    }
+
+    /// Whether each part has changed as often as it had when it was read. Where an earlier problem of the same book was read, that tells
+    /// whether it stands as it was read.
+    ///
+    /// # Errors
+    /// The first part that has not.
+    pub fn moved(&self, problem: &Problem) -> Result<(), Differs>
+        ensures stands { OnOk result (NumbersStand problem.now self.now) }
+        ensures differs { IfErr result (λ d. NumberDiffersAt problem.now self.now d.place) }
+    {
+        for place in 0..self.reads.len() {
+            let read = &self.reads[place];
+            if problem.changes(read.part) != read.changes {
                 return Err(Differs { place });
             }
         }

@@ -31,7 +31,7 @@ along_allowed : (numbers : Numbers) (p : Sparse) (rs : List Reduction) → IsSpa
 along_allowed numbers p [] s h = tt
 along_allowed numbers p (r ∷ rs) s h = ((reductions_owe p r s h.0.enabled).allowed, along_allowed numbers (changed r p) rs (sound_changed p r s h.0.enabled) h.1)
 
-told_along : (numbers : Numbers) (p : Sparse) (rs : List Reduction) (a : Part) → IsSparse p → Replays numbers p rs → IsTold p (replay p rs) a
+pub told_along : (numbers : Numbers) (p : Sparse) (rs : List Reduction) (a : Part) → IsSparse p → Replays numbers p rs → IsTold p (replay p rs) a
 told_along numbers p rs a s h = subst (λ (q : Sparse). IsTold p q a) (sym (replay_is p rs)) (all_told p (edits_along p rs) a s (along_allowed numbers p rs s h))
 
 -- no number rises by more than there are reductions

@@ -5,6 +5,7 @@ use Rattle.lp_model.specs.Names.{names_of_rows, names_of_columns, WellNamed}
 use Rattle.lp_model.specs.Optimality.{Continuous}
 use Rattle.lp_model.specs.ProgramData.{ProgramData}
 use Rattle.lp_model.specs.Writable.{EntriesAscend, Writable}
+use Rattle.undo_records.specs.declared.side.Side.{Side}
 use Rattle.undo_records.specs.declared.undo.Undo.{Undo}
 use Rattle.undo_records.specs.Named.{AreNamed, AreTold, live_names}
 use Rattle.undo_records.specs.Postsolve.{Postsolve}
@@ -23,7 +24,7 @@ use Rattle.presolve_model.specs.Replay.{replay, Replays}
 use Rattle.presolve_model.specs.Ledger.{Ledger}
 use Rattle.presolve_model.specs.Ordered.{IsMadeInOrder, RunsTo}
 use Rattle.presolve_model.specs.Stuck.{IsUndecided, skipped_on, Stuck}
-use Rattle.presolve_model.specs.Tallies.{Open, open_by}
+use Rattle.presolve_model.specs.Tallies.{Open, open_by, tightenings}
 use Rattle.presolve_model.specs.Telling.{names_in}
 use Rattle.presolve_model.specs.Workers.{IsInOrder, Workers}
 
@@ -54,14 +55,15 @@ pub record HaveNames (program reduced : ProgramData) (told : Postsolve) : Type 0
   pub records : AreNamed told
 
 -- A program was reduced: the records walk from it to the reduced one, which they reduce it to, with duals too where no column has to be
--- whole, and the end is told of what was left. Each record has its transaction. The reduced program can be written. Where the workers' run
--- is in order, all of that is as the ordered run has it.
+-- whole, and the end is told of what was left. Each record has its transaction. No side of a column was tightened more than ten times. The
+-- reduced program can be written. Where the workers' run is in order, all of that is as the ordered run has it.
 pub record Concluded (options : Options) (workers : Workers) (program reduced : ProgramData) (told : Postsolve) (ended : End) : Type 0 where
   pub walked : Walked options.numbers program reduced told
   pub reduces : ReducesTo program reduced told
   pub pairs : Continuous (meaning program) → ReducesPairsTo program reduced told
   pub dual : told.duals ≡ options.dual
   pub transactions : AreTold told
+  pub few : (j : ℕ) (side : Side) → tightenings told.undos j side ≤ 10
   pub end : TellsEnd ended options told.undos (replay walked.start walked.history)
   pub names : CarriesNames program reduced told
   pub named : HaveNames program reduced told

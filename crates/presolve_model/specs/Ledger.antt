@@ -3,6 +3,8 @@ use Rattle.std.specs.Prelude.{◌≡◌, ℕ, ◌+◌, ◌≤◌, true, List, le
 use Rattle.fractions.specs.declared.Numbers.{Numbers}
 use Rattle.transactions.specs.Transactions.{Transaction}
 use Rattle.undo_records.specs.declared.undo.Undo.{Undo}
+use Rattle.problem_model.specs.declared.part.Part.{Part}
+use Rattle.problem_model.specs.Parts.{changes_of}
 use Rattle.problem_model.specs.Sparse.{Sparse}
 use Rattle.problem_model.specs.Problems.{IsSparse}
 use Rattle.problem_model.specs.Writing.{IsWritable}
@@ -35,11 +37,12 @@ closes (Some v) = 1
 abbrev pub instance_count : Ledger → ℕ
 instance_count b = length b.history + closes b.verdict
 
--- what the type keeps: the problem and the records are those of the history, which replays on the start, the transactions tell what its
--- reductions read, and the tally is that of the records; a verdict is enabled on the problem
+-- what the type keeps: no part of the start had changed; the problem and the records are those of the history, which replays on it, the
+-- transactions tell what its reductions read, and the tally is that of the records; a verdict is enabled on the problem
 pub record Stands (b : Ledger) : Type 0 where
   pub sound : IsSparse b.start
   pub writable : IsWritable b.numbers b.start
+  pub unchanged : (a : Part) → changes_of b.start a ≡ 0
   pub replays : Replays b.numbers b.start b.history
   pub problem : b.problem ≡ replay b.start b.history
   pub records : b.records ≡ records b.start b.history

@@ -27,7 +27,7 @@ ghost use Rattle.problem_model.specs.Showing.{shown};
 ghost use Rattle.problem_model.specs.Sparse.{Sparse};
 ghost use Rattle.problem_model.specs.Writing.{IsWritable};
 ghost use Rattle.edit_laws.specs.Sizes.{SameSize};
-ghost use Rattle.edit_laws.specs.Telling.{IsCounted};
+ghost use Rattle.edit_laws.specs.Telling.{IsCounted, IsTold};
 ghost use Rattle.presolve_model.specs.declared.instance.Instance.{Instance};
 ghost use Rattle.presolve_model.specs.declared.instance.Instance.TheVariants as at;
 ghost use Rattle.presolve_model.specs.declared.instance.Reduction.{Reduction};
@@ -134,9 +134,11 @@ pub fn tallies_follow_records()
     ensures same { (c : Counts) (us : List Undo) → IsTally c us → open_on c ≡ open_by us }
 {}
 
-/// Along a history numbers alone decide: where the number of each part that an instance reads is what it was, and not at the end of its
-/// type, the instance reads what it did, and is enabled where it was. And no number rises by more than there were reductions.
+/// Along a history numbers alone decide: where the number of a part is what it was, and not at the end of its type, the part holds what it
+/// did; where that is so of each part that an instance reads, the instance reads what it did, and is enabled where it was. And no number rises
+/// by more than there were reductions.
 pub fn numbers_decide()
+    ensures told { (numbers : Numbers) (p : Sparse) (rs : List Reduction) (a : Part) → IsSparse p → Replays numbers p rs → IsTold p (replay p rs) a }
     ensures same { (numbers : Numbers) (p : Sparse) (rs : List Reduction) (e : Instance) → IsSparse p → Replays numbers p rs → All (λ a. (changes_of p a < 2 ^ 64 - 1) × (changes_of (replay p rs) a ≡ changes_of p a)) (reads p e)
         → (reading_of (replay p rs) e ≡ reading_of p e) × (enabled_on (replay p rs) e ≡ enabled_on p e) }
     ensures few { (numbers : Numbers) (p : Sparse) (rs : List Reduction) (a : Part) → IsSparse p → Replays numbers p rs → changes_of (replay p rs) a ≤ changes_of p a + length rs }

@@ -9,16 +9,15 @@ use Rattle.undo_records.specs.Postsolve.{Postsolve}
 use Rattle.undo_records.specs.Walk.{lives}
 use Rattle.presolve_model.specs.declared.instance.Reduction.{Reduction}
 use Rattle.problem_model.specs.declared.line.Line.{Line}
-use Rattle.problem_model.specs.declared.part.Part.{Part}
-use Rattle.problem_model.specs.Parts.{changes_of}
 use Rattle.presolve_model.specs.Changes.{changed}
 use Rattle.presolve_model.specs.Ledger.{Ledger, Stands}
 use Rattle.problem_model.specs.Problems.{IsSparse}
 use Rattle.problem_model.specs.Programs.{IsProblemOf, written_program}
 use Rattle.presolve_model.specs.Replay.{records, replay}
 use Rattle.problem_model.specs.Sparse.{Sparse}
-use Rattle.presolve_model.specs.Tallies.{Open, open_by, open_on}
+use Rattle.presolve_model.specs.Tallies.{Open, open_by, open_on, tightenings}
 use Rattle.presolve_model.proofs.Tallying.{open_same}
+use Rattle.undo_records.specs.declared.side.Side.{Side}
 use Rattle.undo_records.specs.declared.undo.Undo.{Undo}
 use Rattle.presolve_model.specs.Stuck.{IsUndecided, skipped_on, Stuck}
 use Rattle.program_laws.specs.Chosen.{names_at}
@@ -28,7 +27,6 @@ use Rattle.program_laws.specs.Shapes.{IsOf}
 use Rattle.history_laws.proofs.Walks.{walked_pairs, walked_reduces}
 use Rattle.presolve_model.specs.Telling.{are_live, IsToldOf}
 use Rattle.round_laws.specs.Passing.{IsSameBook}
-use Rattle.round_laws.proofs.Numbers.{never_changed}
 use Rattle.run_laws.proofs.Telling.{are_told, problem_is_of, program_ascends, program_written, walked}
 use Rattle.presolve_model.specs.declared.conclusion.End.{End}
 use Rattle.presolve_model.specs.declared.conclusion.End.TheVariants.{Fixpoint, LimitReached}
@@ -73,9 +71,9 @@ undecided_at LimitReached b h = h.1
 
 -- ---- all of it
 pub concluded : (dual : Bool) (workers : Workers) (program : ProgramData) (b : Ledger) (told : Postsolve) (e : End) → EntriesAscend program → Writable b.numbers program → IsProblemOf program b.start → Stands b → EndsWith (Some e) b → IsToldOf dual program b told
-    → HaveNames program (written_program program b.problem) told → (IsInOrder workers → RunsTo (options_of dual b) program (Some e) b)
+    → ((j : ℕ) (side : Side) → tightenings b.records j side ≤ 10) → HaveNames program (written_program program b.problem) told → (IsInOrder workers → RunsTo (options_of dual b) program (Some e) b)
     → Concluded (options_of dual b) workers program (written_program program b.problem) told e
-concluded dual workers program b told e ascends writes o s h t named runs =
+concluded dual workers program b told e ascends writes o s h t few named runs =
     let is : IsOf program b.problem = problem_is_of program b o s in
     let sparse : IsSparse b.problem = subst IsSparse (sym s.problem) (sparse_replay b.numbers b.start b.history s.sound s.replays) in
     record {
@@ -84,6 +82,7 @@ concluded dual workers program b told e ascends writes o s h t named runs =
       pairs = walked_pairs b.numbers program (written_program program b.problem) told (walked dual program b told o s t) t.sense;
       dual = t.duals;
       transactions = are_told dual program b told o s t;
+      few = subst (λ (us : List Undo). (j : ℕ) (side : Side) → tightenings us j side ≤ 10) (sym t.undos) few;
       end = end_told dual e b told.undos (replay b.start b.history) t.undos (ap length (t.undos ∙ s.records) ∙ records_long b.start b.history) (open_same b.tally b.records s.tally) (sym s.problem) h;
       names = record {
         sense = t.sense;
@@ -104,9 +103,6 @@ abbrev options_with : Bool → Numbers → ℕ → Options
 options_with dual numbers limit = record { numbers = numbers; limit = limit; dual = dual }
 
 -- ---- the run of a program's problem
-pub counted_new : (program : ProgramData) (options : Options) (b : Ledger) → IsProblemOf program b.start → b ≡ new_book options b.start → (a : Part) → changes_of b.problem a ≤ length b.history
-counted_new program options b o e a = let n : changes_of b.problem a ≡ 0 = ap (λ (x : Ledger). changes_of x.problem a) e ∙ never_changed program b.start o a in omega (arith, n)
-
 pub runs_to : (program : ProgramData) (options : Options) (b c : Ledger) (o p : Option End) → IsProblemOf program b.start → b ≡ new_book options b.start → IsSameBook b c → o ≡ p → Ordered b o c → RunsTo (options_of options.dual c) program p c
 runs_to program options b c o p h e same f k = record {
   start = b.start;

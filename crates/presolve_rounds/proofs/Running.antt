@@ -29,6 +29,7 @@ use Rattle.presolve_model.specs.Scans.{all_ids, all_of, instances_at, proposal_o
 use Rattle.presolve_model.specs.Stuck.{skipped_on, Stuck}
 use Rattle.presolve_model.specs.Instances.{instances_from, reach_of, rests_on_reading, rule_at}
 use Rattle.presolve_model.specs.Tables.{heads}
+use Rattle.presolve_model.proofs.Histories.{counted_along}
 use Rattle.presolve_model.proofs.Readings.{reading_agrees}
 use Rattle.history_laws.proofs.Keeping.{sparse_replay}
 use Rattle.place_laws.specs.Choosing.{all_around, AreSorted, Around, HoldsAround, IsComplete, visited}
@@ -154,9 +155,15 @@ module _ (opens : Open) (f : Sparse) (w : ℕ) (n k m : Marks) (b c : Ledger) (e
 sparse_of : (b : Ledger) → Stands b → IsSparse b.problem
 sparse_of b s = subst IsSparse (sym s.problem) (sparse_replay b.numbers b.start b.history s.sound s.replays)
 
-pub ready_first : (b : Ledger) (s : Stamped) (n : Around) (w : Watched) → Stands b → ((a : Part) → changes_of b.problem a ≤ length b.history) → b.limit < 2 ^ 64 → s ≡ stamps_of b.problem → n ≡ all_around b.problem → w.forms ≡ forms_of b.problem → IsReady b s n w
-ready_first b s n w h counted short es en ew = record {
-  follows = follows_start b counted short (sparse_of b h);
+-- no part has changed more often than reductions were applied
+counted_of : (b : Ledger) → Stands b → (a : Part) → changes_of b.problem a ≤ length b.history
+counted_of b h a =
+    let few : changes_of b.problem a ≤ changes_of b.start a + length b.history = subst (λ (p : Sparse). changes_of p a ≤ changes_of b.start a + length b.history) (sym h.problem) (counted_along b.numbers b.start b.history a h.sound h.replays) in
+    omega (arith, few, h.unchanged a)
+
+pub ready_first : (b : Ledger) (s : Stamped) (n : Around) (w : Watched) → Stands b → b.limit < 2 ^ 64 → s ≡ stamps_of b.problem → n ≡ all_around b.problem → w.forms ≡ forms_of b.problem → IsReady b s n w
+ready_first b s n w h short es en ew = record {
+  follows = follows_start b (counted_of b h) short (sparse_of b h);
   stamps = subst (λ (x : Stamped). AreStampsOf x b.problem) (sym es) (stamped b.problem);
   forms = subst (λ (x : Formed). AreFormsOf x b.problem) (sym ew) (formed b.problem);
   sorted = subst AreSorted (sym en) (all_sorted b.problem);

@@ -1,10 +1,12 @@
 //! Presolve of a program.
 
-ghost use Rattle.std.specs.Prelude.{◌≡◌, ◌≢◌, ◌<◌, ◌^◌, length, IfOk, None, Some};
+ghost use Rattle.std.specs.Prelude.{◌≡◌, ◌≢◌, ◌<◌, ◌≤◌, ◌^◌, ℕ, length, IfOk, None, Some};
 ghost use Rattle.lp_model.specs.Writable.{EntriesAscend, Writable};
+ghost use Rattle.undo_records.specs.declared.side.Side.{Side};
 ghost use Rattle.problem_model.specs.Programs.{IsProblemOf};
 ghost use Rattle.presolve_model.specs.Conclusions.{Concluded, Decided};
 ghost use Rattle.presolve_model.specs.Ordered.{new_book, options_of, RunsTo};
+ghost use Rattle.presolve_model.specs.Tallies.{tightenings};
 ghost use Rattle.presolve_model.specs.Workers.{IsInOrder};
 ghost use Rattle.presolve_rounds.specs.Conclusions.{Concludes};
 ghost use Rattle.presolve_rounds.specs.Running.{EndsWith};
@@ -51,6 +53,7 @@ fn reduced(
     requires writable { Writable book.numbers (given source.now) }
     requires start { IsProblemOf (given source.now) book.start }
     requires end { EndsWith (Some end) book }
+    requires few { (j : ℕ) (side : Side) → tightenings book.records j side ≤ 10 }
     requires runs { IsInOrder workers.now → RunsTo (options_of dual book) (given source.now) (Some end) book }
     ensures { IfOk result (λ made. Concluded (options_of dual book) workers.now (given source.now) made.program made.records made.end) }
 {
@@ -132,6 +135,8 @@ pub fn presolve_by<P: Passes, O: Onlooker>(
     let mut book = opened(alloc, &program, options)?;
     let source = source_of(alloc, program);
     let end = run_by(alloc, passes, &mut book, onlooker)?;
+    // The law on ten tightenings asks that the limit fits its type.
+    let _ = book.limit();
     match end {
         Some(end) => {
             let made = reduced(alloc, &source, options.dual, workers, book, end)?;

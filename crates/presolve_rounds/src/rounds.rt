@@ -7,7 +7,6 @@
 
 ghost use Rattle.std.specs.Prelude.{◌≡◌, ◌≢◌, ◌<◌, ◌≤◌, length, Some, None, IfOk, OnOk};
 ghost use Rattle.problem_model.specs.declared.part.Part.{Part};
-ghost use Rattle.problem_model.specs.Parts.{changes_of};
 ghost use Rattle.line_groups.specs.Groups.{AreGroupsOf};
 ghost use Rattle.presolve_model.specs.Ordered.{Committed, Ordered, enabled_verdicts, round_list};
 ghost use Rattle.presolve_model.specs.Stuck.{skipped_on};
@@ -169,7 +168,6 @@ fn run_with<P: Passes, O: Onlooker>(
     requires able { P.ready passes.now }
     requires groups { AreGroupsOf groups.old book.old.problem }
     requires undecided { book.old.verdict ≡ None }
-    requires counted { (a : Part) → changes_of book.old.problem a ≤ length book.old.history }
     ensures book { OnOk result (IsSameBook book.old book.new) }
     ensures ordered { IfOk result (λ end. Ordered book.old end book.new) }
     ensures end { IfOk result (λ end. EndsWith end book.new) }
@@ -222,7 +220,6 @@ pub fn run_by<P: Passes, O: Onlooker>(
 ) -> Result<Option<End>, AllocError>
     requires able { P.ready passes.now }
     requires undecided { book.old.verdict ≡ None }
-    requires counted { (a : Part) → changes_of book.old.problem a ≤ length book.old.history }
     ensures book { OnOk result (IsSameBook book.old book.new) }
     ensures ordered { IfOk result (λ end. Ordered book.old end book.new) }
     ensures end { IfOk result (λ end. EndsWith end book.new) }
@@ -243,7 +240,6 @@ pub fn run<O: Onlooker>(
     onlooker: &mut O,
 ) -> Result<Option<End>, AllocError>
     requires undecided { book.old.verdict ≡ None }
-    requires counted { (a : Part) → changes_of book.old.problem a ≤ length book.old.history }
     ensures book { OnOk result (IsSameBook book.old book.new) }
     ensures ordered { IfOk result (λ end. Ordered book.old end book.new) }
     ensures end { IfOk result (λ end. EndsWith end book.new) }

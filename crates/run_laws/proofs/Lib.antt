@@ -2,6 +2,6 @@ pub mod Telling
 pub mod Runs
 pub mod OneProblem
 pub mod Concluding
-mod TenTimes
+pub mod TenTimes
 mod Apart
 mod Distinct

@@ -4,7 +4,6 @@ use Rattle.std.specs.List.{All, Contains, filter, flat_map}
 use Rattle.std.proofs.lemmas.Bool.{cases_eq, ltb-true, ne_eqb}
 use Rattle.std.proofs.lemmas.List.Elements.{All-append, All-cons, All-head, All-nil, All-tail, filter-append}
 use Rattle.lp_model.specs.ProgramData.{ProgramData}
-use Rattle.undo_records.specs.Postsolve.{Postsolve}
 use Rattle.undo_records.specs.declared.side.Side.{Side}
 use Rattle.undo_records.specs.declared.side.Side.TheVariants.{Lower, Upper}
 use Rattle.undo_records.specs.declared.undo.Undo.{Undo}
@@ -26,17 +25,15 @@ use Rattle.presolve_model.specs.declared.outcome.Outcome.{Outcome}
 use Rattle.presolve_model.specs.declared.outcome.Outcome.TheVariants.{Closed, Full, Stale, Past, NotDecimal, Applied, NoMemory}
 use Rattle.presolve_model.specs.Changes.{changed}
 use Rattle.presolve_model.specs.Commits.{Allows, HasRoom, IsOpen, left_by, with_instance}
-use Rattle.presolve_model.specs.Conclusions.{Concluded}
 use Rattle.presolve_model.specs.Enabled.{enabled_on, reading_of, reads}
 use Rattle.presolve_model.specs.Given.{Proposed}
 use Rattle.presolve_model.specs.Instances.{instances_from, is_open}
 use Rattle.presolve_model.specs.Ledger.{instance_count, Ledger}
 use Rattle.presolve_model.specs.Order.{reduction_order, verdict_order}
-use Rattle.presolve_model.specs.Ordered.{Closes, Committed, enabled_verdicts, IsMadeInOrder, new_book, round_list, Stops, StopsAfter}
+use Rattle.presolve_model.specs.Ordered.{Closes, Committed, enabled_verdicts, new_book, round_list, RunsTo, Stops, StopsAfter}
 use Rattle.presolve_model.specs.Scans.{all_ids, listed, proposal_of}
 use Rattle.presolve_model.specs.Tables.{record_of}
 use Rattle.presolve_model.specs.Tallies.{AreCountsOf, count_on, is_tightening, IsTally, Open, open_on, same_side, tightenings}
-use Rattle.presolve_model.specs.Workers.{IsInOrder, Workers}
 use Rattle.presolve_model.proofs.ByCases.{records_tallied, tallied_long}
 use Rattle.presolve_model.proofs.Listing.{listed_is}
 use Rattle.presolve_model.proofs.Tabled.{same_size}
@@ -55,7 +52,7 @@ use Rattle.round_laws.proofs.Turns.{follows_applied, follows_next, follows_start
 with_one : (us : List Undo) (u : Undo) (k : ℕ) (s : Side) → tightenings (us ++ u ∷ []) k s ≡ tightenings us k s + length (cond (is_tightening k s u) (u ∷ []) [])
 with_one us u k s = ap length (filter-append (is_tightening k s) us (u ∷ [])) ∙ length-append (filter (is_tightening k s) us) (filter (is_tightening k s) (u ∷ []))
 
-most_one : (us : List Undo) (u : Undo) (k : ℕ) (s : Side) → tightenings us k s ≤ 10 → (is_tightening k s u ≡ true → tightenings us k s < 10) → tightenings (us ++ u ∷ []) k s ≤ 10
+pub most_one : (us : List Undo) (u : Undo) (k : ℕ) (s : Side) → tightenings us k s ≤ 10 → (is_tightening k s u ≡ true → tightenings us k s < 10) → tightenings (us ++ u ∷ []) k s ≤ 10
 most_one us u k s most few = by (is_tightening k s u) refl (with_one us u k s)
   where
     by : (b : Bool) → is_tightening k s u ≡ b → tightenings (us ++ u ∷ []) k s ≡ tightenings us k s + length (cond b (u ∷ []) []) → tightenings (us ++ u ∷ []) k s ≤ 10
@@ -80,7 +77,7 @@ one_side Upper Lower e = absurd (let f = e in cc)
 one_side Upper Upper e = refl
 
 -- a record of a tightened bound is that of a reduction that tightens it
-record_tightens : (p : Sparse) (r : Reduction) (k : ℕ) (s : Side) → is_tightening k s (record_of r p) ≡ true → Tightens r k s
+pub record_tightens : (p : Sparse) (r : Reduction) (k : ℕ) (s : Side) → is_tightening k s (record_of r p) ≡ true → Tightens r k s
 unfolding record_of
 record_tightens p (EmptyRow i) k s e = absurd (let f = e in cc)
 record_tightens p (SingletonRow i) k s e = absurd (let f = e in cc)
@@ -125,7 +122,7 @@ within_more b v r k on free = record {
 
 -- ---- at its turn in a round
 -- what is fresh reads of each part what it read
-fresh_at : (f p : Sparse) (ps : List Part) → Agrees p (map (read_of f) ps) → (a : Part) → Contains ps a → read_of p a ≡ read_of f a
+pub fresh_at : (f p : Sparse) (ps : List Part) → Agrees p (map (read_of f) ps) → (a : Part) → Contains ps a → read_of p a ≡ read_of f a
 fresh_at f p [] h a c = absurd (none_in a c)
 fresh_at f p (b ∷ ps) h a (zero, l, e) = let same : read_of p b ≡ read_of f b = let g = h in cc in subst (λ (x : Part). read_of p x ≡ read_of f x) e same
 fresh_at f p (b ∷ ps) h a (suc k, l, e) = fresh_at f p ps (let g = h in cc) a (k, omega (arith, l), e)
@@ -224,10 +221,8 @@ new_within options p = record {
 new_follows : (options : Options) (program : ProgramData) (p : Sparse) → IsProblemOf program p → options.limit < 2 ^ 64 → Follows (open_on (new_book options p).tally) p (new_book options p)
 new_follows options program p o short = follows_start (new_book options p) (λ a. let n : changes_of p a ≡ 0 = never_changed program p o a in omega (arith, n)) short o.sound
 
-pub ten_at_most : (options : Options) (workers : Workers) (program reduced : ProgramData) (told : Postsolve) (ended : End) → options.limit < 2 ^ 64 → IsInOrder workers → Concluded options workers program reduced told ended → (j : ℕ) (side : Side) → tightenings told.undos j side ≤ 10
-ten_at_most options workers program reduced told ended short order c j side =
-    let made : IsMadeInOrder options program reduced told ended = c.ordered order in
-    let runs = made.runs in
-    let within : IsWithinTen made.book =
-    run_within runs.run.0 (new_book options runs.start) made.book ended (new_follows options program runs.start runs.opened short) (new_within options runs.start) runs.run.1 in
-    subst (λ (us : List Undo). tightenings us j side ≤ 10) (sym made.tells.undos) (within.most j side)
+pub ten_at_most : (options : Options) (program : ProgramData) (ended : End) (b : Ledger) → options.limit < 2 ^ 64 → RunsTo options program (Some ended) b → (j : ℕ) (side : Side) → tightenings b.records j side ≤ 10
+ten_at_most options program ended b short runs =
+    let within : IsWithinTen b =
+    run_within runs.run.0 (new_book options runs.start) b ended (new_follows options program runs.start runs.opened short) (new_within options runs.start) runs.run.1 in
+    within.most

@@ -9,6 +9,8 @@ ghost use Rattle.undo_records.specs.Named.{AreTold};
 ghost use Rattle.undo_records.specs.Postsolve.{Postsolve};
 ghost use Rattle.undo_records.specs.declared.side.Side.{Side};
 ghost use Rattle.undo_records.specs.Walk.{AreSound};
+ghost use Rattle.problem_model.specs.declared.part.Part.{Part};
+ghost use Rattle.problem_model.specs.Parts.{changes_of};
 ghost use Rattle.problem_model.specs.Problems.{IsSparse};
 ghost use Rattle.problem_model.specs.Programs.{IsProblemOf, written_program};
 ghost use Rattle.problem_model.specs.Sparse.{Sparse};
@@ -50,10 +52,15 @@ pub fn books_tell()
     ensures decided { (dual : Bool) (workers : Workers) (program : ProgramData) (b : Ledger) (v : Verdict) → IsProblemOf program b.start → Stands b → b.verdict ≡ Some v → (IsInOrder workers → RunsTo (options_of dual b) program None b) → Decided (options_of dual b) workers program b.history v }
 {}
 
-/// No side of a column is tightened more than ten times: of the records that presolve gives by workers whose run is in order, no more than ten
-/// are those of tightened bounds on it. The limit fits its type, as each limit does.
+/// No part of a program's problem has changed yet.
+pub fn programs_have_not_changed()
+    ensures { (program : ProgramData) (p : Sparse) → IsProblemOf program p → (a : Part) → changes_of p a ≡ 0 }
+{}
+
+/// No side of a column is tightened more than ten times by a run in order: of the records of the book with which it ends, no more than ten are
+/// those of tightened bounds on it. The limit fits its type, as each limit does.
 pub fn bounds_are_tightened_ten_times_at_most()
-    ensures { (options : Options) (workers : Workers) (program reduced : ProgramData) (told : Postsolve) (ended : End) → options.limit < 2 ^ 64 → IsInOrder workers → Concluded options workers program reduced told ended → (j : ℕ) (side : Side) → tightenings told.undos j side ≤ 10 }
+    ensures { (options : Options) (program : ProgramData) (ended : End) (b : Ledger) → options.limit < 2 ^ 64 → RunsTo options program (Some ended) b → (j : ℕ) (side : Side) → tightenings b.records j side ≤ 10 }
 {}
 
 /// The open reductions that are enabled on a problem stand once in the list that `skipped` counts.

@@ -8,6 +8,7 @@ use Rattle.presolve_model.specs.declared.instance.Reduction.{Reduction}
 use Rattle.problem_model.specs.declared.part.Part.{Part}
 use Rattle.problem_model.specs.declared.refusal.Refusal.{Refusal}
 use Rattle.problem_model.specs.Noted.{AreNoted}
+use Rattle.problem_model.specs.Parts.{changes_of}
 use Rattle.problem_model.specs.Reading.{read_of}
 use Rattle.problem_model.specs.declared.refusal.Refusal.TheVariants.{Past, NotDecimal, NoMemory}
 use Rattle.std.specs.Prelude.{Err}
@@ -43,11 +44,12 @@ stands_grown b w version r q h us ts c s undecided room on fits written eq eh eu
     subst Stands (sym (grown b w version r q h us ts c eq eh eu et ec)) (stands_reduction b w version r s undecided room (record { enabled = on; fits = fits; written = written }))
 
 -- a book to which nothing was done
-fresh : (p : Sparse) (numbers : Numbers) (limit : ℕ) → IsSparse p → IsWritable numbers p
+fresh : (p : Sparse) (numbers : Numbers) (limit : ℕ) → IsSparse p → IsWritable numbers p → ((a : Part) → changes_of p a ≡ 0)
     → Stands (record { start = p; problem = p; history = []; verdict = None; records = []; transactions = []; tally = no_counts (length p.matrix.columns); numbers = numbers; limit = limit })
-fresh p numbers limit s w = record {
+fresh p numbers limit s w none = record {
   sound = s;
   writable = w;
+  unchanged = none;
   replays = tt;
   problem = refl;
   records = refl;
@@ -58,10 +60,10 @@ fresh p numbers limit s w = record {
   within = omega arith;
 }
 
-pub stands_fresh : (p q : Sparse) (h : List Reduction) (us : List Undo) (ts : List Transaction) (c : Counts) (numbers : Numbers) (limit : ℕ) → IsSparse p → IsWritable numbers p → q ≡ p → h ≡ [] → us ≡ [] → ts ≡ [] → c ≡ no_counts (length p.matrix.columns)
+pub stands_fresh : (p q : Sparse) (h : List Reduction) (us : List Undo) (ts : List Transaction) (c : Counts) (numbers : Numbers) (limit : ℕ) → IsSparse p → IsWritable numbers p → ((a : Part) → changes_of p a ≡ 0) → q ≡ p → h ≡ [] → us ≡ [] → ts ≡ [] → c ≡ no_counts (length p.matrix.columns)
     → Stands (record { start = q; problem = p; history = h; verdict = None; records = us; transactions = ts; tally = c; numbers = numbers; limit = limit })
-stands_fresh p q h us ts c numbers limit s w eq eh eu et ec =
-    subst Stands (λ i. record { start = sym eq i; problem = p; history = sym eh i; verdict = None; records = sym eu i; transactions = sym et i; tally = sym ec i; numbers = numbers; limit = limit }) (fresh p numbers limit s w)
+stands_fresh p q h us ts c numbers limit s w none eq eh eu et ec =
+    subst Stands (λ i. record { start = sym eq i; problem = p; history = sym eh i; verdict = None; records = sym eu i; transactions = sym et i; tally = sym ec i; numbers = numbers; limit = limit }) (fresh p numbers limit s w none)
 
 -- the transactions as they were before a reduction that was refused
 kept_front : {X : Type 0} (n : ℕ) (xs : List X) (y : X) → length xs ≡ n → take n (xs ++ y ∷ []) ≡ xs

@@ -1,6 +1,6 @@
 //! Books.
 
-ghost use Rattle.std.specs.Prelude.{◌≡◌, ◌≢◌, ◌<◌, [], ◌∷◌, ◌++◌, ℕ, length, true, None, IfOk, IfSome, OnErr, OnOk};
+ghost use Rattle.std.specs.Prelude.{◌≡◌, ◌≢◌, ◌<◌, [], ◌∷◌, ◌++◌, ℕ, length, true, None, IfErr, IfOk, IfSome, OnErr, OnOk};
 ghost use Rattle.std.specs.Bool.{MatchBool};
 ghost use Rattle.rational.specs.Number.{◌-ℚ◌};
 ghost use Rattle.lp_model.specs.declared.program.Sense.TheVariants.{Min};
@@ -17,18 +17,21 @@ ghost use Rattle.presolve_model.specs.Scans.{proposal_of};
 ghost use Rattle.presolve_model.specs.Tallies.{no_counts};
 ghost use Rattle.presolve_model.specs.Transactions.{numbers_read};
 ghost use Rattle.presolve_model.specs.Worlds.{version_of};
+ghost use Rattle.problem_model.specs.declared.part.Part.{Part as PartValue};
 ghost use Rattle.problem_model.specs.Noted.{AreNoted};
-ghost use Rattle.problem_model.specs.Reading.{Agrees};
+ghost use Rattle.problem_model.specs.Parts.{changes_of};
+ghost use Rattle.problem_model.specs.Reading.{Agrees, DiffersAt};
 ghost use Rattle.problem_model.specs.Showing.{shown};
 ghost use Rattle.problem_model.specs.Writing.{IsWritable};
 ghost use Rattle.row_spans.specs.Spans.{spans_of};
 ghost use Rattle.kept_sums.specs.KeptSums.{AreSumsOf};
 ghost use Rattle.txn_book.specs.Applying.{Applies, outcome_of};
+ghost use Rattle.txn_book.specs.Sharing.{IsFrom};
 
 use crate::row_lists::RowLists;
 use applying::after;
 use fractions::Numbers;
-use instances::{Proposal, Tally, Version, numbers_for};
+use instances::{Differs, Proposal, Tally, Version, numbers_for};
 use kept_sums::KeptSums;
 use line_groups::Parallels;
 use presolve_model::{Instance, Outcome, Part, Reduction, Refusal, Verdict};
@@ -115,7 +118,7 @@ fn add_transaction(
 }
 
 impl Book {
-    /// A book of a problem, to which at most `limit` reductions are applied.
+    /// A book of a problem of which no part has changed yet, to which at most `limit` reductions are applied.
     ///
     /// # Errors
     /// Memory ran out.
@@ -125,7 +128,8 @@ impl Book {
         numbers: Numbers,
         limit: u64,
     ) -> Result<Book, AllocError>
-        requires { IsWritable numbers problem }
+        requires writable { IsWritable numbers problem }
+        requires unchanged { (a : PartValue) → changes_of problem a ≡ 0 }
         ensures { IfOk result (λ book. book ≡ record { start = problem; problem = problem; history = []; verdict = None; records = []; transactions = []; tally = no_counts (length problem.matrix.columns); numbers = numbers; limit = limit }) }
     {
         problem.is_sparse();
@@ -345,10 +349,16 @@ impl Book {
         self.apply_open(alloc, 0, version, instance, changed)
     }
 
-    /// Commits a proposal: applies its instance if no verdict stands, there is room, and each part stands as it was read. Anything else
-    /// leaves the book as it is. Who commits is kept in the transaction, and makes no other difference.
-    #[tactic(auto, using(presolve_model::proofs::Tabled::enabled_by))]
-    pub fn commit(&mut self, alloc: Global, by: u32, proposal: &Proposal) -> Outcome
+    /// Commits a proposal of which it is known whether each part stands as it was read.
+    fn commit_compared(
+        &mut self,
+        alloc: Global,
+        by: u32,
+        proposal: &Proposal,
+        compared: Result<(), Differs>,
+    ) -> Outcome
+        requires agrees { OnOk compared (Agrees self.old.problem proposal.now.reading) }
+        requires differs { IfErr compared (λ d. DiffersAt self.old.problem proposal.now.reading d.place) }
         ensures outcome { Allows self.old proposal.now result }
         ensures left { self.new ≡ left_by self.old by proposal.now result }
     {
@@ -359,13 +369,36 @@ impl Book {
         if self.is_full(instance) {
             return Outcome::Full;
         }
-        if let Err(differs) = proposal.reading().agrees(&self.problem) {
+        if let Err(differs) = compared {
             return Outcome::Stale {
                 place: differs.place,
             };
         }
         let mut changed = Vec::new(alloc);
         self.apply_open(alloc, by, proposal.version(), instance, &mut changed)
+    }
+
+    /// Commits a proposal: applies its instance if no verdict stands, there is room, and each part stands as it was read. Anything else
+    /// leaves the book as it is. Who commits is kept in the transaction, and makes no other difference.
+    pub fn commit(&mut self, alloc: Global, by: u32, proposal: &Proposal) -> Outcome
+        ensures outcome { Allows self.old proposal.now result }
+        ensures left { self.new ≡ left_by self.old by proposal.now result }
+    {
+        let compared = proposal.reading().agrees(&self.problem);
+        self.commit_compared(alloc, by, proposal, compared)
+    }
+
+    /// Commits a proposal that was read of an earlier problem of this book, and compares how often its parts have changed, and nothing else.
+    /// The answer and what it leaves are those of `commit`.
+    pub fn commit_numbered(&mut self, alloc: Global, by: u32, proposal: &Proposal) -> Outcome
+        requires { IsFrom self.old proposal.now }
+        ensures outcome { Allows self.old proposal.now result }
+        ensures left { self.new ≡ left_by self.old by proposal.now result }
+    {
+        // A history is never longer than its limit, and so no part stands at the end of what numbers of changes can be.
+        let _ = self.limit();
+        let compared = proposal.reading().moved(&self.problem);
+        self.commit_compared(alloc, by, proposal, compared)
     }
 
     /// Closes the book for good: its problem, its history, its verdict, its records and their transactions.

@@ -4,5 +4,6 @@
 
 mod book;
 mod row_lists;
+mod sharing;
 
 pub use book::{Book, Ended};

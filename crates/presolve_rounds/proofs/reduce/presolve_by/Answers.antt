@@ -1,4 +1,4 @@
-use Rattle.std.proofs.Common.{◌≡◌, Option, Some, None, sym, ap, ◌∙◌, subst}
+use Rattle.std.proofs.Common.{◌≡◌, arith, Option, Some, None, sym, ap, ◌∙◌, subst}
 use Rattle.fractions.specs.declared.Numbers.{Numbers}
 use Rattle.lp_model.specs.ProgramData.{ProgramData}
 use Rattle.lp_model.specs.Writable.{EntriesAscend, Writable}
@@ -8,17 +8,15 @@ use Rattle.presolve_model.specs.declared.conclusion.Options.{Options}
 use Rattle.presolve_model.specs.Conclusions.{Concluded, Decided}
 use Rattle.presolve_model.specs.Ledger.{Ledger}
 use Rattle.presolve_model.specs.Ordered.{options_of, RunsTo}
+use Rattle.run_laws.proofs.TenTimes.{ten_at_most}
 use Rattle.presolve_rounds.specs.Conclusions.{Concludes}
 use Rattle.presolve_rounds.specs.Running.{EndsWith}
 use Rattle.presolve_rounds.specs.Sources.{given}
-use Rattle.presolve_rounds.proofs.Concluding.{counted_new, runs_to, same_options}
+use Rattle.presolve_rounds.proofs.Concluding.{runs_to, same_options}
 use Rattle.presolve_rounds.proofs.reduce.presolve_by.Goals as goal
 
 pub run_by-requires-clause-undecided : goal.run_by-requires-clause-undecided
 run_by-requires-clause-undecided g c = ap (λ (b : Ledger). b.verdict) c.in_ok-book.ensures.new
-
-pub run_by-requires-clause-counted : goal.run_by-requires-clause-counted
-run_by-requires-clause-counted g c = counted_new c.args.program c.args.options.now c.in_ok-book.book c.in_ok-book.ensures.start c.in_ok-book.ensures.new
 
 pub reduced-requires-clause-ascends : goal.reduced-requires-clause-ascends
 reduced-requires-clause-ascends g c = subst EntriesAscend (sym c.source_of-source.ensures.given) c.requires.ascends
@@ -37,6 +35,13 @@ pub reduced-requires-clause-runs : goal.reduced-requires-clause-runs
 reduced-requires-clause-runs g c = λ in_order.
     subst (λ (x : ProgramData). RunsTo (options_of c.args.options.now.dual c.run_by.new.book) x (Some c.in-Some.end) c.run_by.new.book) (sym c.source_of-source.ensures.given)
     (runs_to c.args.program c.args.options.now c.in_ok-book.book c.run_by.new.book c.in_ok-end.end (Some c.in-Some.end) c.in_ok-book.ensures.start c.in_ok-book.ensures.new c.in_ok-end.ensures.book c.in-Some.is c.in_ok-end.ensures.ordered)
+
+pub reduced-requires-clause-few : goal.reduced-requires-clause-few
+reduced-requires-clause-few g c =
+    let b : Ledger = c.run_by.new.book in
+    let limit : b.limit ≡ c.args.options.now.limit = c.in_ok-end.ensures.book.limit ∙ ap (λ (x : Ledger). x.limit) c.in_ok-book.ensures.new in
+    ten_at_most (options_of c.args.options.now.dual b) c.args.program c.in-Some.end b (omega (arith, c.limit.ensures, c.limit.type_inv))
+    (runs_to c.args.program c.args.options.now c.in_ok-book.book b c.in_ok-end.end (Some c.in-Some.end) c.in_ok-book.ensures.start c.in_ok-book.ensures.new c.in_ok-end.ensures.book c.in-Some.is c.in_ok-end.ensures.ordered)
 
 pub returns-in-Some : goal.returns-in-Some
 returns-in-Some g c =

@@ -34,4 +34,4 @@ returns c =
     } in
     subst (λ (p : ProgramData). Concluded (options_of c.args.dual c.args.book) c.args.workers.now program p c.in_ok-records.records c.args.end)
     (sym written)
-    (concluded c.args.dual c.args.workers.now program c.args.book c.in_ok-records.records c.args.end c.requires.ascends c.requires.writable c.requires.start c.stands.ensures.stands c.requires.end c.in_ok-records.ensures named c.requires.runs)
+    (concluded c.args.dual c.args.workers.now program c.args.book c.in_ok-records.records c.args.end c.requires.ascends c.requires.writable c.requires.start c.stands.ensures.stands c.requires.end c.in_ok-records.ensures c.requires.few named c.requires.runs)

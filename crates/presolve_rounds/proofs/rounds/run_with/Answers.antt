@@ -17,7 +17,7 @@ loop-book-init g c = record {
   same = record { start = refl; numbers = refl; limit = refl };
   limit = c.limit-limit.ensures;
   undecided = c.requires.undecided;
-  ready = λ room. ready_first c.args.book.now c.in_ok-stamps.stamps c.in_ok-ids.ids c.in_ok-watch.watch c.stands.ensures.stands c.requires.counted (omega (arith, c.limit-limit.ensures, c.limit-limit.type_inv))
+  ready = λ room. ready_first c.args.book.now c.in_ok-stamps.stamps c.in_ok-ids.ids c.in_ok-watch.watch c.stands.ensures.stands (omega (arith, c.limit-limit.ensures, c.limit-limit.type_inv))
       (c.in_ok-stamps.ensures ∙ ap stamps_of c.problem.ensures) (c.in_ok-ids.ensures ∙ ap all_around c.problem-2.ensures) (ap (λ (x : Watched). x.forms) c.in_ok-watch.ensures ∙ ap forms_of c.problem-3.ensures);
   groups = c.requires.groups;
   ordered = λ e d h. h;

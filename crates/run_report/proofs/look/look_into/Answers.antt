@@ -1,14 +1,10 @@
 use Rattle.std.proofs.Common.{ap}
 use Rattle.presolve_model.specs.Ledger.{Ledger}
-use Rattle.presolve_rounds.proofs.Concluding.{counted_new}
 use Rattle.run_report.proofs.Holding.{run_looked, run_replayed}
 use Rattle.run_report.proofs.look.look_into.Goals as goal
 
 pub run-requires-clause-undecided : goal.run-requires-clause-undecided
 run-requires-clause-undecided g c = ap (λ (b : Ledger). b.verdict) c.in_ok-book.ensures.new
-
-pub run-requires-clause-counted : goal.run-requires-clause-counted
-run-requires-clause-counted g c = counted_new c.args.program.now c.args.options.now c.in_ok-book.book c.in_ok-book.ensures.start c.in_ok-book.ensures.new
 
 pub returns-clause-runs : goal.returns-clause-runs
 returns-clause-runs g c =
