@@ -3,8 +3,8 @@ use Rattle.presolve_model.specs.Ledger.{Ledger}
 use Rattle.run_report.proofs.Holding.{run_looked, run_replayed}
 use Rattle.run_report.proofs.look.look_into.Goals as goal
 
-pub run-requires-clause-undecided : goal.run-requires-clause-undecided
-run-requires-clause-undecided g c = ap (λ (b : Ledger). b.verdict) c.in_ok-book.ensures.new
+pub run-requires : goal.run-requires
+run-requires g c = record { undecided = ap (λ (b : Ledger). b.verdict) c.in_ok-book.ensures.new }
 
 pub returns-clause-runs : goal.returns-clause-runs
 returns-clause-runs g c =
