@@ -1,8 +1,12 @@
-//! Tests of what no clause says and no text reaches: books with two workers and with none. They stand in a crate of their own, since a crate
+//! Tests of what no clause says and no text reaches: books with two workers, with none, and with two passes. They stand in a crate of their own, since a crate
 //! with tests is proved twice.
 #![tactic(auto)]
 
 #[cfg(test)]
 mod models;
+#[cfg(test)]
+mod passes;
+#[cfg(test)]
+mod threads;
 #[cfg(test)]
 mod workers;

@@ -1,0 +1,119 @@
+//! Tasks.
+
+ghost use Rattle.std.specs.Prelude.{◌≡◌, ◌+◌, All, IfOk, length, OnOk};
+ghost use Rattle.shared_book.specs.History.{HasFrozen, StartsWith};
+ghost use Rattle.presolve_model.specs.Ledger.{Stands};
+ghost use Rattle.txn_book.specs.Sharing.{IsFrom};
+ghost use Rattle.book_turns.specs.Turns.{IsPass, left_of};
+ghost use Rattle.worker_tasks.specs.Tasks.{AreCommitted, found_of, HoldsChunk};
+
+use instances::{Chunk, Proposal, Version, scan_at};
+use presolve_model::{Outcome, Rule};
+use shared_book::{Pass, SharedBook};
+use std::alloc::{AllocError, Global};
+use std::marker::Model;
+use std::sync::Wait;
+use txn_book::Book;
+
+/// Some first ids of a rule, all of them in one chunk.
+#[derive(Drop)]
+pub struct Task {
+    rule: Rule,
+    chunk: Chunk,
+    ids: Vec<u32>,
+}
+
+impl Model for Task {
+    ghost use Rattle.worker_tasks.specs.Tasks.{TaskData};
+
+    ghost Value = { TaskData };
+
+    ghost view = { λ t. record { rule = t.rule; chunk = t.chunk; ids = t.ids.items } };
+}
+
+impl Task {
+    /// These ids of a chunk, for a rule.
+    pub fn new(rule: Rule, chunk: Chunk, ids: Vec<u32>) -> Task
+        ensures { result ≡ record { rule = rule; chunk = chunk; ids = ids.items } }
+    {
+        Task { rule, chunk, ids }
+    }
+
+    /// The rule.
+    pub fn rule(&self) -> Rule
+        ensures { result ≡ self.now.rule }
+    {
+        self.rule
+    }
+
+    /// The chunk.
+    pub fn chunk(&self) -> Chunk
+        ensures { result ≡ self.now.chunk }
+    {
+        self.chunk
+    }
+
+    /// The ids, in ascending order.
+    pub fn ids(&self) -> &[u32]
+        ensures { result.now ≡ self.now.ids }
+    {
+        self.ids.as_slice()
+    }
+}
+
+/// Commits proposals in their order, until memory runs out.
+fn commit_all<R: Wait>(
+    rt: &R,
+    alloc: Global,
+    book: &SharedBook<Book>,
+    pass: &mut Pass<Book>,
+    proposals: &[Proposal],
+) -> Result<(), AllocError>
+    requires pass { IsPass book.now pass.old }
+    requires taken { All (IsFrom (left_of book.now.start pass.old.seen)) proposals.now }
+    ensures pass { IsPass book.now pass.new }
+    ensures number { pass.new.number ≡ pass.old.number }
+    ensures seen { StartsWith pass.new.seen pass.old.seen }
+    ensures committed { OnOk result (AreCommitted book.now pass.old proposals.now pass.new) }
+    ensures turns { OnOk result (length pass.new.mine ≡ length pass.old.mine + length proposals.now) }
+{
+    let mut rest = proposals;
+    while let [proposal, after @ ..] = rest {
+        let outcome = book.commit(rt, alloc, pass, proposal);
+        if matches!(outcome, Outcome::NoMemory) {
+            return Err(AllocError);
+        }
+        rest = after;
+    }
+    Ok(())
+}
+
+/// A worker's task on a version that its pass froze: each enabled and open instance of the task's rule and chunk is committed, in instance
+/// order, a turn each. Gives their number.
+///
+/// # Errors
+/// Memory ran out. The first of them may have been committed then.
+pub fn do_task<R: Wait>(
+    rt: &R,
+    alloc: Global,
+    book: &SharedBook<Book>,
+    pass: &mut Pass<Book>,
+    version: &Version,
+    task: &Task,
+) -> Result<u64, AllocError>
+    requires stands { Stands book.now.start }
+    requires pass { IsPass book.now pass.old }
+    requires frozen { HasFrozen pass.old version.now }
+    requires holds { HoldsChunk version.now task.now }
+    ensures pass { IsPass book.now pass.new }
+    ensures number { pass.new.number ≡ pass.old.number }
+    ensures seen { StartsWith pass.new.seen pass.old.seen }
+    ensures count { IfOk result (λ count. count ≡ length (found_of version.now task.now)) }
+    ensures turns { IfOk result (λ count. length pass.new.mine ≡ length pass.old.mine + count) }
+    ensures committed { OnOk result (AreCommitted book.now pass.old (found_of version.now task.now) pass.new) }
+{
+    let found = scan_at(alloc, version, task.rule(), task.ids())?;
+    let proposals = found.as_slice();
+    commit_all(rt, alloc, book, pass, proposals)?;
+    Ok(proposals.len() as u64)
+}
