@@ -167,7 +167,7 @@ found_taken s p v e stands pass (before, after, seen) on free =
     (taken_along d after (proposal_of v.problem v.applied e) here (history_rest s.start before (Freeze (Ok v) ∷ after) h).1))
 
 -- each of some enabled and open instances
-each_taken : (s : Shared Ledger) (p : Known Ledger Turn) (v : Version) (es : List Instance) → Stands s.start → IsPass s p → HasFrozen p v → ((e : Instance) → Contains es e → is_open (open_on v.tally) e ≡ true)
+pub each_taken : (s : Shared Ledger) (p : Known Ledger Turn) (v : Version) (es : List Instance) → Stands s.start → IsPass s p → HasFrozen p v → ((e : Instance) → Contains es e → is_open (open_on v.tally) e ≡ true)
     → All (IsFrom (left_of s.start p.seen)) (map (proposal_of v.problem v.applied) (filter (enabled_on v.problem) es))
 each_taken s p v [] stands pass frozen free = All-nil (IsFrom (left_of s.start p.seen))
 each_taken s p v (e ∷ es) stands pass frozen free = by (enabled_on v.problem e) refl (each_taken s p v es stands pass frozen (λ x c. free x (suc c.0, (let l = c.1 in omega (arith, l)), c.2)))

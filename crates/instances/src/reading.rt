@@ -1,6 +1,6 @@
 //! What was read of a problem.
 
-ghost use Rattle.std.specs.Prelude.{◌≡◌, ◌≢◌, ℕ, ◌<◌, length, take, Ok, IsOk, IfErr, IfOk, OnOk, ◌↔◌, slice_get, Some};
+ghost use Rattle.std.specs.Prelude.{◌≡◌, ◌≢◌, ℕ, ◌<◌, length, take, Ok, IsOk, IfErr, IfOk, IfSome, OnOk, ◌↔◌, slice_get, Some};
 ghost use Rattle.problem_model.specs.declared.part.Read.{Read};
 ghost use Rattle.problem_model.specs.Reading.{Agrees, DiffersAt, read_of};
 ghost use Rattle.instances.specs.Moved.{NumberDiffersAt, NumbersStand};
@@ -10,11 +10,12 @@ use problem_model::Read;
 use sparse_problem::Problem;
 use std::alloc::{AllocError, Global};
 use std::marker::Model;
+use std::sync::Arc;
 
-/// What an instance read, part by part.
+/// What an instance read, part by part. It may be kept once for several instances.
 #[derive(Drop)]
 pub struct Reading {
-    reads: Vec<Read>,
+    reads: Arc<Vec<Read>>,
 }
 
 impl Model for Reading {
@@ -27,7 +28,9 @@ impl Model for Reading {
 
     ghost coded = { Prim.hlevel (codes, number_code) };
 
-    ghost view = { λ r. r.reads.items };
+    ghost use Rattle.std.specs.Arc.{arc_value};
+
+    ghost view = { λ r. (arc_value r.reads).items };
 }
 
 /// The first part that stands otherwise than it was read.
@@ -39,10 +42,24 @@ pub struct Differs {
 
 impl Reading {
     /// These parts as they were read.
-    pub fn of(reads: Vec<Read>) -> Reading
-        ensures { result ≡ reads.items }
+    ///
+    /// # Errors
+    /// Memory ran out.
+    pub fn of(alloc: Global, reads: Vec<Read>) -> Result<Reading, AllocError>
+        ensures { IfOk result (λ reading. reading ≡ reads.items) }
     {
-        Reading { reads }
+        let reads = Arc::new(alloc, reads)?;
+        Ok(Reading { reads })
+    }
+
+    /// The same reading, for one owner more. `None` where it has as many as can be counted.
+    pub fn share(&self) -> Option<Reading>
+        ensures { IfSome result (λ shared. shared ≡ self.now) }
+    {
+        match Arc::try_clone(&self.reads) {
+            Ok(reads) => Some(Reading { reads }),
+            Err(_) => None,
+        }
     }
 
     /// The parts, in the order in which they were read.
@@ -60,8 +77,9 @@ impl Reading {
         ensures agrees { IsOk result ↔ Agrees problem.now self.now }
         ensures differs { IfErr result (λ d. DiffersAt problem.now self.now d.place) }
     {
-        for place in 0..self.reads.len() {
-            if !stands(problem, &self.reads[place]) {
+        let reads = self.as_slice();
+        for place in 0..reads.len() {
+            if !stands(problem, &reads[place]) {
                 return Err(Differs { place });
             }
         }
@@ -77,8 +95,9 @@ impl Reading {
         ensures stands { OnOk result (NumbersStand problem.now self.now) }
         ensures differs { IfErr result (λ d. NumberDiffersAt problem.now self.now d.place) }
     {
-        for place in 0..self.reads.len() {
-            let read = &self.reads[place];
+        let reads = self.as_slice();
+        for place in 0..reads.len() {
+            let read = &reads[place];
             if problem.changes(read.part) != read.changes {
                 return Err(Differs { place });
             }
@@ -92,6 +111,6 @@ impl Reading {
         requires { place < length self.now }
         ensures { IfOk result (λ now. (r : Read) → slice_get self.now place ≡ Some r → now ≡ read_of problem.now r.part) }
     {
-        read(alloc, problem, self.reads[place].part)
+        read(alloc, problem, self.as_slice()[place].part)
     }
 }

@@ -1,9 +1,9 @@
 //! Scans of a version for enabled instances. Lines that are multiples of one another are found by the groups that it brings.
 
-ghost use Rattle.std.specs.Prelude.{◌≡◌, ◌+◌, ◌<◌, ◌^◌, ◌++◌, ◌∷◌, [], true, map, IfOk, length, OnOk};
+ghost use Rattle.std.specs.Prelude.{◌≡◌, ◌+◌, ◌<◌, ◌^◌, ◌++◌, ◌∷◌, [], true, map, IfOk, IfSome, length, OnOk};
 ghost use Rattle.std.specs.List.{filter, range_with_len};
 ghost use Rattle.line_groups.specs.Groups.{AreGroupsOf};
-ghost use Rattle.presolve_model.specs.Enabled.{enabled_on};
+ghost use Rattle.presolve_model.specs.Enabled.{enabled_on, reading_of};
 ghost use Rattle.presolve_model.specs.Instances.{id_count};
 ghost use Rattle.presolve_model.specs.Scans.{found_at, found_in, proposal_of};
 ghost use Rattle.presolve_model.specs.Tallies.{open_on};
@@ -11,7 +11,8 @@ ghost use Rattle.presolve_model.specs.Tallies.{open_on};
 use crate::chunk::Chunk;
 use crate::finding::add_enabled;
 use crate::proposal::Proposal;
-use crate::reads::reading_for;
+use crate::reading::Reading;
+use crate::reads::reading_beside;
 use crate::tally::Tally;
 use crate::version::Version;
 use line_groups::Parallels;
@@ -44,13 +45,34 @@ fn walk_over(version: &Version) -> Walk<'_>
     }
 }
 
-/// An enabled instance with its reading.
-fn proposal_for(alloc: Global, walk: &Walk<'_>, instance: Instance) -> Result<Proposal, AllocError>
-    requires { enabled_on walk.now.problem.now instance ≡ true }
-    ensures { IfOk result (λ proposal. proposal ≡ proposal_of walk.now.problem.now walk.now.version instance) }
+/// What a walk read last, and for which instance.
+type LastRead = Option<(Instance, Reading)>;
+
+/// An enabled instance with its reading, which may be that of the last one.
+fn proposal_for(
+    alloc: Global,
+    walk: &Walk<'_>,
+    instance: Instance,
+    last: &mut LastRead,
+) -> Result<Proposal, AllocError>
+    requires enabled { enabled_on walk.now.problem.now instance ≡ true }
+    requires last { IfSome last.old (λ l. l.1 ≡ reading_of walk.now.problem.now l.0) }
+    ensures last { IfSome last.new (λ l. l.1 ≡ reading_of walk.now.problem.now l.0) }
+    ensures proposal { IfOk result (λ proposal. proposal ≡ proposal_of walk.now.problem.now walk.now.version instance) }
 {
-    let reading = reading_for(alloc, walk.problem, instance)?;
+    let reading = reading_beside(alloc, walk.problem, last, instance)?;
+    *last = kept(instance, &reading);
     Ok(Proposal::new(instance, reading, walk.version))
+}
+
+/// An instance and its reading, which has one owner more.
+fn kept(instance: Instance, reading: &Reading) -> LastRead
+    ensures { IfSome result (λ l. (l.0 ≡ instance) × (l.1 ≡ reading.now)) }
+{
+    match reading.share() {
+        Some(shared) => Some((instance, shared)),
+        None => None,
+    }
 }
 
 /// Adds an instance, if it is enabled.
@@ -58,17 +80,20 @@ fn visit(
     alloc: Global,
     walk: &Walk<'_>,
     instance: Instance,
+    last: &mut LastRead,
     found: &mut Vec<Proposal>,
 ) -> Result<(), AllocError>
-    ensures { OnOk result (found.new.items ≡ found.old.items ++ map (proposal_of walk.now.problem.now walk.now.version) (filter (enabled_on walk.now.problem.now) (instance ∷ []))) }
+    requires { IfSome last.old (λ l. l.1 ≡ reading_of walk.now.problem.now l.0) }
+    ensures last { IfSome last.new (λ l. l.1 ≡ reading_of walk.now.problem.now l.0) }
+    ensures found { OnOk result (found.new.items ≡ found.old.items ++ map (proposal_of walk.now.problem.now walk.now.version) (filter (enabled_on walk.now.problem.now) (instance ∷ []))) }
 {
     if is_enabled(walk.problem, instance) {
-        found.push(proposal_for(alloc, walk, instance)?)?;
+        found.push(proposal_for(alloc, walk, instance, last)?)?;
     }
     Ok(())
 }
 
-/// Adds those of some instances that are enabled.
+/// Adds those of some instances that are enabled. What reads the same in a row is read once.
 fn visit_each(
     alloc: Global,
     walk: &Walk<'_>,
@@ -77,9 +102,10 @@ fn visit_each(
 ) -> Result<(), AllocError>
     ensures { OnOk result (found.new.items ≡ found.old.items ++ map (proposal_of walk.now.problem.now walk.now.version) (filter (enabled_on walk.now.problem.now) instances.now)) }
 {
+    let mut last = None;
     let mut rest = instances;
     while let [instance, after @ ..] = rest {
-        visit(alloc, walk, *instance, found)?;
+        visit(alloc, walk, *instance, &mut last, found)?;
         rest = after;
     }
     Ok(())

@@ -232,6 +232,13 @@ at_fixpoint b c n before room h none long e =
     let both : (length c.history < c.limit) × Stuck c.numbers (open_on c.tally) c.problem = subst (λ (y : Ledger). (length y.history < y.limit) × Stuck y.numbers (open_on y.tally) y.problem) (sym s.0) (room, s.1) in
     (both.0, both.1, e)
 
+-- it is stuck where nothing was applied, and its history has not become shorter
+pub stuck_after : (b c : Ledger) → b.verdict ≡ None → length b.history < b.limit → Committed b (round_list b) c → c.verdict ≡ None → length c.history ≡ length b.history → Stuck c.numbers (open_on c.tally) c.problem
+stuck_after b c before room h none long = (at_fixpoint b c (skipped_on (open_on c.tally) c.problem) before room h none long refl).1
+
+pub committed_grown : (b c : Ledger) → Committed b (round_list b) c → length b.history ≤ length c.history
+committed_grown b c h = committed_grows b c (round_list b) h
+
 -- ---- a book that is full
 pub full_undecided : (b : Ledger) → enabled_verdicts (open_on b.tally) b.problem ≡ [] → b.limit ≤ length b.history → length b.history ≤ b.limit → Ordered b (Some LimitReached) b × EndsWith (Some LimitReached) b
 full_undecided b none full within =

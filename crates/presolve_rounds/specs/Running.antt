@@ -6,6 +6,8 @@ use Rattle.presolve_model.specs.Tallies.{open_on}
 use Rattle.presolve_model.specs.Stuck.{IsUndecided, skipped_on, Stuck}
 use Rattle.presolve_model.specs.declared.conclusion.End.{End}
 use Rattle.presolve_model.specs.declared.conclusion.End.TheVariants.{Fixpoint, LimitReached}
+use Rattle.presolve_rounds.specs.declared.rounds.Swept.{Swept}
+use Rattle.presolve_rounds.specs.declared.rounds.Swept.TheVariants.{Ended, Applied}
 
 -- there is room in the book for more, none that is open can be applied, and so many open reductions are enabled
 abbrev pub IsAtFixpoint : Ledger → ℕ → Type 0
@@ -21,3 +23,8 @@ EndsWith (Some LimitReached) b = (length b.history ≡ b.limit) × IsUndecided b
 abbrev pub IsFirst : List Instance → Option Instance → Type 0
 IsFirst es None = es ≡ []
 IsFirst es (Some e) = (rest : List Instance) × (es ≡ e ∷ rest)
+
+-- a round over everything, before which so many reductions stood, ended the run, or applied something, and no verdict
+abbrev pub SweepsFrom : Swept → ℕ → Ledger → Type 0
+SweepsFrom (Ended end) n c = EndsWith end c
+SweepsFrom Applied n c = (c.verdict ≡ None) × (n < length c.history)

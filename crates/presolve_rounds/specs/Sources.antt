@@ -2,7 +2,6 @@
 use Rattle.std.specs.Prelude.{◌≡◌, [], map}
 use Rattle.lp_model.specs.ProgramData.{ProgramData}
 use Rattle.lp_model.specs.declared.program.ColumnDef.{ColumnDef}
-use Rattle.presolve_rounds.specs.declared.source.Source.{Source}
 
 -- a column without its entries
 abbrev pub emptied : ColumnDef → ColumnDef
@@ -12,10 +11,11 @@ emptied c = record c { entries = [] }
 abbrev pub without_entries : ProgramData → ProgramData
 without_entries program = record program { columns = map emptied program.columns }
 
--- the program that was given
-abbrev pub given : Source → ProgramData
-given source = source.given.value
+-- the program that was given, and what is kept of it
+pub record SourceData : Type 0 where
+  pub given : ProgramData
+  pub kept : ProgramData
 
--- what is kept of it is all but its entries
-abbrev pub IsKept : Source → Type 0
-IsKept source = source.kept ≡ without_entries (given source)
+-- what is kept is all but its entries
+abbrev pub IsKept : SourceData → Type 0
+IsKept source = source.kept ≡ without_entries source.given

@@ -6,7 +6,7 @@ ghost use Rattle.undo_records.specs.Walk.{lives};
 ghost use Rattle.problem_model.specs.Programs.{IsProblemOf};
 ghost use Rattle.presolve_model.specs.Telling.{names_in};
 ghost use Rattle.presolve_model.specs.Telling.{are_live, IsToldOf};
-ghost use Rattle.presolve_rounds.specs.Sources.{given, IsKept};
+ghost use Rattle.presolve_rounds.specs.Sources.{IsKept};
 
 use crate::source::Source;
 use entry_lines::Lines;
@@ -60,11 +60,11 @@ pub fn records_of(
     book: Book,
 ) -> Result<Records, AllocError>
     requires kept { IsKept source.now }
-    requires start { IsProblemOf (given source.now) book.start }
-    ensures { IfOk result (IsToldOf dual (given source.now) book) }
+    requires start { IsProblemOf source.now.given book.start }
+    ensures { IfOk result (IsToldOf dual source.now.given book) }
 {
     book.stands();
-    let program = &source.kept;
+    let program = source.kept();
     let _name = program.objective();
     let rows = row_labels(alloc, program.rows(), &book.problem().rows())?;
     let columns = column_labels(alloc, program.columns(), &book.problem().columns())?;

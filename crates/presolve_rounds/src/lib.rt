@@ -13,5 +13,6 @@ mod source;
 pub use onlooker::{NoOnlooker, Onlooker};
 pub use outcome::{DecidedProgram, Presolved, ReducedProgram};
 pub use passes::{InTurn, Passes};
-pub use reduce::{opened, presolve_by};
-pub use rounds::{run, run_by};
+pub use reduce::{conclude, opened, presolve_by};
+pub use rounds::{Swept, run, run_by, sweep};
+pub use source::{Source, source_of};

@@ -1,6 +1,6 @@
 //! Presolve of a program.
 
-ghost use Rattle.std.specs.Prelude.{◌≡◌, ◌≢◌, ◌<◌, ◌≤◌, ◌^◌, ℕ, length, IfOk, None, Some};
+ghost use Rattle.std.specs.Prelude.{◌≡◌, ◌≢◌, ◌<◌, ◌≤◌, ◌^◌, ℕ, length, IfOk, IfSome, None, Some};
 ghost use Rattle.lp_model.specs.Writable.{EntriesAscend, Writable};
 ghost use Rattle.undo_records.specs.declared.side.Side.{Side};
 ghost use Rattle.problem_model.specs.Programs.{IsProblemOf};
@@ -10,7 +10,7 @@ ghost use Rattle.presolve_model.specs.Tallies.{tightenings};
 ghost use Rattle.presolve_model.specs.Workers.{IsInOrder};
 ghost use Rattle.presolve_rounds.specs.Conclusions.{Concludes};
 ghost use Rattle.presolve_rounds.specs.Running.{EndsWith};
-ghost use Rattle.presolve_rounds.specs.Sources.{given, IsKept};
+ghost use Rattle.presolve_rounds.specs.Sources.{IsKept};
 
 use crate::labels::records_of;
 use crate::onlooker::Onlooker;
@@ -49,19 +49,19 @@ fn reduced(
     end: End,
 ) -> Result<ReducedProgram, AllocError>
     requires kept { IsKept source.now }
-    requires ascends { EntriesAscend (given source.now) }
-    requires writable { Writable book.numbers (given source.now) }
-    requires start { IsProblemOf (given source.now) book.start }
+    requires ascends { EntriesAscend source.now.given }
+    requires writable { Writable book.numbers source.now.given }
+    requires start { IsProblemOf source.now.given book.start }
     requires end { EndsWith (Some end) book }
     requires few { (j : ℕ) (side : Side) → tightenings book.records j side ≤ 10 }
-    requires runs { IsInOrder workers.now → RunsTo (options_of dual book) (given source.now) (Some end) book }
-    ensures { IfOk result (λ made. Concluded (options_of dual book) workers.now (given source.now) made.program made.records made.end) }
+    requires runs { IsInOrder workers.now → RunsTo (options_of dual book) source.now.given (Some end) book }
+    ensures { IfOk result (λ made. Concluded (options_of dual book) workers.now source.now.given made.program made.records made.end) }
 {
     let _ = workers;
     book.stands();
-    let reduced = book.problem().to_program(alloc, &source.kept)?;
+    let reduced = book.problem().to_program(alloc, source.kept())?;
     let records = records_of(alloc, source, dual, book)?;
-    let _name = source.kept.objective();
+    let _name = source.kept().objective();
     let _left = reduced.objective();
     records.is_named();
     Ok(ReducedProgram {
@@ -73,10 +73,10 @@ fn reduced(
 
 /// How a program was decided.
 fn decided(source: &Source, dual: bool, workers: &Workers, book: Book) -> DecidedProgram
-    requires start { IsProblemOf (given source.now) book.start }
+    requires start { IsProblemOf source.now.given book.start }
     requires decided { book.verdict ≢ None }
-    requires runs { IsInOrder workers.now → RunsTo (options_of dual book) (given source.now) None book }
-    ensures { Decided (options_of dual book) workers.now (given source.now) result.history.items result.verdict }
+    requires runs { IsInOrder workers.now → RunsTo (options_of dual book) source.now.given None book }
+    ensures { Decided (options_of dual book) workers.now source.now.given result.history.items result.verdict }
 {
     let _ = source;
     let _ = dual;
@@ -99,8 +99,8 @@ fn concluded(
     workers: &Workers,
     made: DecidedProgram,
 ) -> Presolved
-    requires { Decided options.now workers.now (given source.now) made.history.items made.verdict }
-    ensures { Concludes options.now workers.now (given source.now) result }
+    requires { Decided options.now workers.now source.now.given made.history.items made.verdict }
+    ensures { Concludes options.now workers.now source.now.given result }
 {
     let _ = source;
     let _ = options;
@@ -109,6 +109,40 @@ fn concluded(
         Presolved::Infeasible(made)
     } else {
         Presolved::UnboundedOrInfeasible(made)
+    }
+}
+
+/// What comes of a run that ended so, with this book, for a program of which that is kept.
+///
+/// # Errors
+/// For want of memory.
+pub fn conclude(
+    alloc: Global,
+    source: &Source,
+    options: &Options,
+    workers: &Workers,
+    book: Book,
+    end: Option<End>,
+) -> Result<Presolved, AllocError>
+    requires kept { IsKept source.now }
+    requires ascends { EntriesAscend source.now.given }
+    requires writable { Writable options.now.numbers source.now.given }
+    requires start { IsProblemOf source.now.given book.start }
+    requires opened { options_of options.now.dual book ≡ options.now }
+    requires end { EndsWith end book }
+    requires few { IfSome end (λ _. (j : ℕ) (side : Side) → tightenings book.records j side ≤ 10) }
+    requires runs { IsInOrder workers.now → RunsTo options.now source.now.given end book }
+    ensures { IfOk result (λ made. Concludes options.now workers.now source.now.given made) }
+{
+    match end {
+        Some(end) => {
+            let made = reduced(alloc, source, options.dual, workers, book, end)?;
+            Ok(Presolved::Reduced(made))
+        }
+        None => {
+            let made = decided(source, options.dual, workers, book);
+            Ok(concluded(source, options, workers, made))
+        }
     }
 }
 
@@ -137,14 +171,5 @@ pub fn presolve_by<P: Passes, O: Onlooker>(
     let end = run_by(alloc, passes, &mut book, onlooker)?;
     // The law on ten tightenings asks that the limit fits its type.
     let _ = book.limit();
-    match end {
-        Some(end) => {
-            let made = reduced(alloc, &source, options.dual, workers, book, end)?;
-            Ok(Presolved::Reduced(made))
-        }
-        None => {
-            let made = decided(&source, options.dual, workers, book);
-            Ok(concluded(&source, options, workers, made))
-        }
-    }
+    conclude(alloc, &source, options, workers, book, end)
 }

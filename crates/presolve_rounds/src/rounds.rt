@@ -9,12 +9,13 @@ ghost use Rattle.std.specs.Prelude.{◌≡◌, ◌≢◌, ◌<◌, ◌≤◌, le
 ghost use Rattle.problem_model.specs.declared.part.Part.{Part};
 ghost use Rattle.line_groups.specs.Groups.{AreGroupsOf};
 ghost use Rattle.presolve_model.specs.Ordered.{Committed, Ordered, enabled_verdicts, round_list};
-ghost use Rattle.presolve_model.specs.Stuck.{skipped_on};
+ghost use Rattle.presolve_model.specs.Stuck.{skipped_on, Stuck};
 ghost use Rattle.presolve_model.specs.Tallies.{open_on};
 ghost use Rattle.round_laws.specs.Passing.{IsSameBook};
+ghost use Rattle.round_marks.specs.Forming.{forms_of};
 ghost use Rattle.round_marks.specs.Marking.{AreReached};
 ghost use Rattle.presolve_rounds.specs.Readiness.{AreMarked, IsReady};
-ghost use Rattle.presolve_rounds.specs.Running.{EndsWith, IsFirst};
+ghost use Rattle.presolve_rounds.specs.Running.{EndsWith, IsFirst, SweepsFrom};
 
 use crate::onlooker::Onlooker;
 use crate::pass::Walk;
@@ -90,6 +91,27 @@ fn skipped(
     let ids = Around::of_parts(alloc, problem, groups, parts, parts, parts)?;
     let found = enabled_of(alloc, problem, groups, tally, &ids, &reduction_rules())?;
     Ok(count(found.as_slice()))
+}
+
+/// The same of a book, after a round that marked what is enabled.
+fn skipped_after(
+    alloc: Global,
+    book: &Book,
+    groups: &Parallels,
+    watch: &Watch,
+) -> Result<u64, AllocError>
+    requires groups { AreGroupsOf groups.now book.now.problem }
+    requires marked { AreMarked book.now watch.now.marks }
+    ensures { IfOk result (λ skipped. skipped ≡ skipped_on (open_on book.now.tally) book.now.problem) }
+{
+    let parts = watch.all(alloc)?;
+    skipped(
+        alloc,
+        book.problem(),
+        groups,
+        book.tally(),
+        parts.as_slice(),
+    )
 }
 
 /// The first of some instances.
@@ -193,18 +215,95 @@ fn run_with<P: Passes, O: Onlooker>(
             return Ok(None);
         }
         if book.applied() == applied {
-            let parts = watch.all(alloc)?;
-            let skipped = skipped(
-                alloc,
-                book.problem(),
-                groups,
-                book.tally(),
-                parts.as_slice(),
-            )?;
+            let skipped = skipped_after(alloc, book, groups, &watch)?;
             return Ok(Some(End::Fixpoint { skipped }));
         }
     }
     end_at_limit(alloc, book, groups)
+}
+
+/// What became of a round over everything.
+#[derive(Clone, Copy)]
+pub enum Swept {
+    /// The run ends with it.
+    Ended(Option<End>),
+    /// It applied something, and no verdict.
+    Applied,
+}
+
+/// One round over all instances of a book that has room.
+fn round_over_all<P: Passes>(
+    alloc: Global,
+    passes: &P,
+    book: &mut Book,
+    groups: &mut Parallels,
+    watch: &mut Watch,
+) -> Result<(), AllocError>
+    requires able { P.ready passes.now }
+    requires groups { AreGroupsOf groups.old book.old.problem }
+    requires forms { watch.old.forms ≡ forms_of book.old.problem }
+    ensures book { OnOk result (IsSameBook book.old book.new) }
+    ensures groups { OnOk result (AreGroupsOf groups.new book.new.problem) }
+    ensures committed { OnOk result (Committed book.old (round_list book.old) book.new) }
+    ensures marked { OnOk result (book.new.verdict ≡ None → length book.new.history < book.new.limit → AreMarked book.new watch.new.marks) }
+{
+    book.stands();
+    let _limit = book.limit();
+    let mut stamps = Stamps::of(alloc, book.problem())?;
+    let mut ids = Around::all_of(alloc, book.problem())?;
+    round(alloc, passes, book, &mut stamps, groups, &mut ids, watch)?;
+    Ok(())
+}
+
+/// What became of a round in which the book came to this, which had so many reductions before it.
+fn swept_to(
+    alloc: Global,
+    book: &Book,
+    applied: u64,
+    groups: &Parallels,
+    watch: &Watch,
+) -> Result<Swept, AllocError>
+    requires groups { AreGroupsOf groups.now book.now.problem }
+    requires marked { book.now.verdict ≡ None → length book.now.history < book.now.limit → AreMarked book.now watch.now.marks }
+    requires room { applied < book.now.limit }
+    requires grown { applied ≤ length book.now.history }
+    requires stuck { book.now.verdict ≡ None → length book.now.history ≡ applied → Stuck book.now.numbers (open_on book.now.tally) book.now.problem }
+    ensures { IfOk result (λ swept. SweepsFrom swept applied book.now) }
+{
+    if book.verdict().is_some() {
+        return Ok(Swept::Ended(None));
+    }
+    if book.applied() > applied {
+        return Ok(Swept::Applied);
+    }
+    let skipped = skipped_after(alloc, book, groups, watch)?;
+    Ok(Swept::Ended(Some(End::Fixpoint { skipped })))
+}
+
+/// One round over all instances, in this way. The onlooker is told after it.
+///
+/// # Errors
+/// Memory ran out.
+pub fn sweep<P: Passes, O: Onlooker>(
+    alloc: Global,
+    passes: &P,
+    book: &mut Book,
+    onlooker: &mut O,
+) -> Result<Swept, AllocError>
+    requires able { P.ready passes.now }
+    requires undecided { book.old.verdict ≡ None }
+    requires room { length book.old.history < book.old.limit }
+    ensures book { OnOk result (IsSameBook book.old book.new) }
+    ensures committed { OnOk result (Committed book.old (round_list book.old) book.new) }
+    ensures swept { IfOk result (λ swept. SweepsFrom swept (length book.old.history) book.new) }
+{
+    let applied = book.applied();
+    let mut groups = Parallels::of(alloc, book.problem())?;
+    let mut watch = Watch::of(alloc, book.problem())?;
+    round_over_all(alloc, passes, book, &mut groups, &mut watch)?;
+    onlooker.after_round(alloc, book)?;
+    let swept = swept_to(alloc, book, applied, &groups, &watch)?;
+    Ok(swept)
 }
 
 /// Rounds until nothing can be applied, a verdict was, or the limit is reached, each gone over in this way. None where the book is decided.

@@ -1,17 +1,39 @@
 //! The program that a run began with. Its entries are those of the problem that was made of it, and are kept there alone.
 
 ghost use Rattle.std.specs.Prelude.{◌≡◌, map};
-ghost use Rattle.presolve_rounds.specs.Sources.{emptied, given, IsKept};
+ghost use Rattle.presolve_rounds.specs.Sources.{emptied, IsKept};
 
 use lp_model::{ColumnDef, Program, Terms};
 use std::alloc::Global;
+use std::marker::Model;
 use std::snapshot::Snapshot;
 
 /// A program of which the entries are gone. What it was is known to contracts alone.
 #[derive(Drop)]
 pub struct Source {
-    pub given: Snapshot<Program>,
-    pub kept: Program,
+    given: Snapshot<Program>,
+    kept: Program,
+}
+
+impl Model for Source {
+    ghost use Rattle.std.specs.Coded.{codes};
+    ghost use Rattle.rational.specs.Lowest.{number_code};
+    ghost use Rattle.presolve_rounds.specs.Sources.{SourceData};
+
+    ghost Value = { SourceData };
+
+    ghost coded = { Prim.hlevel (codes, number_code) };
+
+    ghost view = { λ s. record { given = s.given.value; kept = s.kept } };
+}
+
+impl Source {
+    /// What is kept of it.
+    pub fn kept(&self) -> &Program
+        ensures { result.now ≡ self.now.kept }
+    {
+        &self.kept
+    }
 }
 
 /// Takes the entries out of a column.
@@ -32,7 +54,7 @@ fn empty_columns(alloc: Global, columns: &mut Vec<ColumnDef>)
 
 /// Lets the entries of a program go. Its names, sides, bounds and costs stay.
 pub fn source_of(alloc: Global, program: Program) -> Source
-    ensures given { given result ≡ program }
+    ensures given { result.given ≡ program }
     ensures kept { IsKept result }
 {
     let given = Snapshot::of(&program);

@@ -136,7 +136,10 @@ impl Watch {
     }
 
     /// Notes parts that have changed, in turn.
-    fn note(&mut self, problem: &Problem, changed: &[Part]) -> Result<(), AllocError>
+    ///
+    /// # Errors
+    /// Memory ran out.
+    pub fn note(&mut self, problem: &Problem, changed: &[Part]) -> Result<(), AllocError>
         ensures { OnOk result (Notes problem.now changed.now self.old self.new) }
     {
         let mut rest = changed;

@@ -11,6 +11,7 @@ use Rattle.problem_model.specs.declared.part.Part.{Part}
 use Rattle.problem_model.specs.declared.part.Part.TheVariants as part
 use Rattle.problem_model.specs.declared.part.Read.{Read}
 use Rattle.problem_model.specs.Parts.{changes_of}
+use Rattle.problem_model.specs.Problems.{IsSparse}
 use Rattle.problem_model.specs.Programs.{IsProblemOf}
 use Rattle.problem_model.specs.Reading.{Agrees, read_of}
 use Rattle.problem_model.specs.Sparse.{Sparse}
@@ -28,17 +29,19 @@ use Rattle.presolve_model.specs.Commits.{Allows, HasRoom, IsOpen, left_by, with_
 use Rattle.presolve_model.specs.Enabled.{enabled_on, reading_of, reads}
 use Rattle.presolve_model.specs.Given.{Proposed}
 use Rattle.presolve_model.specs.Instances.{instances_from, is_open}
-use Rattle.presolve_model.specs.Ledger.{instance_count, Ledger}
+use Rattle.presolve_model.specs.Ledger.{instance_count, Ledger, Stands}
 use Rattle.presolve_model.specs.Order.{reduction_order, verdict_order}
-use Rattle.presolve_model.specs.Ordered.{Closes, Committed, enabled_verdicts, new_book, round_list, RunsTo, Stops, StopsAfter}
+use Rattle.presolve_model.specs.Ordered.{Closes, Committed, enabled_verdicts, new_book, Ordered, round_list, RunsTo, Stops, StopsAfter}
 use Rattle.presolve_model.specs.Scans.{all_ids, listed, proposal_of}
 use Rattle.presolve_model.specs.Tables.{record_of}
 use Rattle.presolve_model.specs.Tallies.{AreCountsOf, count_on, is_tightening, IsTally, Open, open_on, same_side, tightenings}
 use Rattle.presolve_model.proofs.ByCases.{records_tallied, tallied_long}
+use Rattle.presolve_model.proofs.Histories.{counted_along}
 use Rattle.presolve_model.proofs.Listing.{listed_is}
 use Rattle.presolve_model.proofs.Tabled.{same_size}
 use Rattle.presolve_model.proofs.Tallying.{none_long, none_tallied}
 use Rattle.presolve_model.proofs.Tightened.{tightened_read}
+use Rattle.history_laws.proofs.Keeping.{sparse_replay}
 use Rattle.place_laws.specs.Standing.{IsFresh}
 use Rattle.place_laws.proofs.Places.{from_is}
 use Rattle.place_laws.proofs.ShortLists.{comes_from, none_in}
@@ -226,3 +229,21 @@ ten_at_most options program ended b short runs =
     let within : IsWithinTen b =
     run_within runs.run.0 (new_book options runs.start) b ended (new_follows options program runs.start runs.opened short) (new_within options runs.start) runs.run.1 in
     within.most
+
+-- ---- from a book that stands on
+stands_within : (b : Ledger) → Stands b → ((j : ℕ) (side : Side) → tightenings b.records j side ≤ 10) → IsWithinTen b
+stands_within b s few = record { counts = s.counts; tally = s.tally; most = few }
+
+stands_follows : (b : Ledger) → Stands b → b.limit < 2 ^ 64 → Follows (open_on b.tally) b.problem b
+stands_follows b s short = follows_start b counted short (subst IsSparse (sym s.problem) (sparse_replay b.numbers b.start b.history s.sound s.replays))
+  where
+    counted : (a : Part) → changes_of b.problem a ≤ length b.history
+    counted a =
+        let few : changes_of b.problem a ≤ changes_of b.start a + length b.history = subst (λ (p : Sparse). changes_of p a ≤ changes_of b.start a + length b.history) (sym s.problem) (counted_along b.numbers b.start b.history a s.sound s.replays) in
+        omega (arith, few, s.unchanged a)
+
+pub round_few : (b c : Ledger) → Stands b → b.limit < 2 ^ 64 → ((j : ℕ) (side : Side) → tightenings b.records j side ≤ 10) → Committed b (round_list b) c → (j : ℕ) (side : Side) → tightenings c.records j side ≤ 10
+round_few b c s short few done = (round_keeps b c (stands_follows b s short) (stands_within b s few) done).1.most
+
+pub run_few : (b c : Ledger) (ended : End) → Stands b → b.limit < 2 ^ 64 → ((j : ℕ) (side : Side) → tightenings b.records j side ≤ 10) → Ordered b (Some ended) c → (j : ℕ) (side : Side) → tightenings c.records j side ≤ 10
+run_few b c ended s short few (n, stops) = (run_within n b c ended (stands_follows b s short) (stands_within b s few) stops).most

@@ -21,7 +21,7 @@ ghost use Rattle.presolve_model.specs.declared.instance.Verdict.{Verdict};
 ghost use Rattle.presolve_model.specs.Accounts.{Walked};
 ghost use Rattle.presolve_model.specs.Conclusions.{Concluded, Decided};
 ghost use Rattle.presolve_model.specs.Ledger.{Ledger, Stands};
-ghost use Rattle.presolve_model.specs.Ordered.{options_of, Ordered, RunsTo};
+ghost use Rattle.presolve_model.specs.Ordered.{Committed, options_of, Ordered, round_list, RunsTo};
 ghost use Rattle.presolve_model.specs.Stuck.{enabled_reductions, IsUndecided};
 ghost use Rattle.presolve_model.specs.Tallies.{Open, tightenings};
 ghost use Rattle.presolve_model.specs.Telling.{IsToldOf};
@@ -61,6 +61,13 @@ pub fn programs_have_not_changed()
 /// those of tightened bounds on it. The limit fits its type, as each limit does.
 pub fn bounds_are_tightened_ten_times_at_most()
     ensures { (options : Options) (program : ProgramData) (ended : End) (b : Ledger) → options.limit < 2 ^ 64 → RunsTo options program (Some ended) b → (j : ℕ) (side : Side) → tightenings b.records j side ≤ 10 }
+{}
+
+/// From a book that stands on, whatever was done to it before: where no side of a column was tightened more than ten times, none is by a
+/// round in order, nor by a run in order to its end.
+pub fn tightenings_stay_few()
+    ensures round { (b c : Ledger) → Stands b → b.limit < 2 ^ 64 → ((j : ℕ) (side : Side) → tightenings b.records j side ≤ 10) → Committed b (round_list b) c → (j : ℕ) (side : Side) → tightenings c.records j side ≤ 10 }
+    ensures run { (b c : Ledger) (ended : End) → Stands b → b.limit < 2 ^ 64 → ((j : ℕ) (side : Side) → tightenings b.records j side ≤ 10) → Ordered b (Some ended) c → (j : ℕ) (side : Side) → tightenings c.records j side ≤ 10 }
 {}
 
 /// The open reductions that are enabled on a problem stand once in the list that `skipped` counts.

@@ -3,5 +3,7 @@
 #![tactic(auto)]
 
 mod task;
+mod work;
 
 pub use task::{Task, do_task};
+pub use work::Work;

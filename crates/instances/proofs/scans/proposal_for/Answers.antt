@@ -5,4 +5,4 @@ use Rattle.instances.proofs.Proposing.{reading_enables}
 use Rattle.instances.proofs.scans.proposal_for.Goals as goal
 
 pub new-requires : goal.new-requires
-new-requires c = subst (λ (rs : List Read). Enabled c.args.instance rs) (sym c.in_ok-reading.ensures) (reading_enables c.args.walk.now.problem.now c.args.instance c.requires)
+new-requires c = subst (λ (rs : List Read). Enabled c.args.instance rs) (sym c.in_ok-reading.ensures) (reading_enables c.args.walk.now.problem.now c.args.instance c.requires.enabled)

@@ -1,15 +1,11 @@
-use Rattle.std.proofs.Common.{◌≡◌, ◌<◌, length, None, Some, sym, refl, ap, ◌∙◌, subst, arith}
-use Rattle.line_groups.specs.Groups.{AreGroupsOf}
-use Rattle.presolve_model.specs.Stuck.{skipped_on}
+use Rattle.std.proofs.Common.{◌≡◌, ◌<◌, length, None, Some, sym, refl, ap, ◌∙◌, arith}
 use Rattle.place_laws.specs.Choosing.{all_around}
 use Rattle.run_laws.proofs.Runs.{run_more, run_stops}
 use Rattle.round_marks.specs.Forming.{forms_of}
-use Rattle.round_marks.specs.Marking.{all_marked, AreReached, Watched}
-use Rattle.presolve_model.specs.Tallies.{Counts, open_on}
+use Rattle.round_marks.specs.Marking.{Watched}
 use Rattle.round_marks.specs.Stamping.{stamps_of}
-use Rattle.presolve_rounds.proofs.Running.{at_fixpoint, marked_reached, more_applied, none_of, ready_first, same_twice, some_of}
+use Rattle.presolve_rounds.proofs.Running.{at_fixpoint, more_applied, none_of, ready_first, same_twice, some_of}
 use Rattle.presolve_rounds.proofs.rounds.run_with.Goals as goal
-use Rattle.problem_model.specs.Sparse.{Sparse}
 use Rattle.presolve_model.specs.declared.conclusion.End.TheVariants.{Fixpoint}
 
 pub loop-book-init : goal.loop-book-init
@@ -52,7 +48,7 @@ returns-then-applied-clause-end g c =
     let d = c.round.new.book in
     at_fixpoint b d c.in_ok-skipped.skipped c.loop-book.invariant.undecided (omega (arith, c.loop-book-test.true, c.applied.ensures, c.loop-book.invariant.limit)) c.in_ok-round.ensures.committed
     (none_of c.verdict.result d.verdict c.verdict.ensures c.if-is_some.ensures) (sym c.applied-in-loop-book.ensures ∙ c.if-applied.true ∙ c.applied-applied.ensures)
-    (c.in_ok-skipped.ensures ∙ (λ t. skipped_on (open_on (c.tally.ensures t)) (c.problem-then-applied.ensures t)))
+    c.in_ok-skipped.ensures
 
 pub returns-then-is_some-clause-ordered : goal.returns-then-is_some-clause-ordered
 returns-then-is_some-clause-ordered g c =
@@ -61,19 +57,13 @@ returns-then-is_some-clause-ordered g c =
     c.loop-book.invariant.ordered None d (run_stops b d None (omega (arith, c.loop-book-test.true, c.applied.ensures, c.loop-book.invariant.limit)) c.in_ok-round.ensures.committed
     (some_of c.verdict.result d.verdict c.verdict.ensures c.if-is_some.ensures))
 
-pub skipped-requires : goal.skipped-requires
-skipped-requires g c =
+pub skipped_after-requires-clause-marked : goal.skipped_after-requires-clause-marked
+skipped_after-requires-clause-marked g c =
     let b = c.loop-book.book in
     let d = c.round.new.book in
     let long : length d.history ≡ length b.history = sym c.applied-in-loop-book.ensures ∙ c.if-applied.true ∙ c.applied-applied.ensures in
-    let room : length d.history < d.limit = omega (arith, long, c.loop-book-test.true, c.applied.ensures, c.loop-book.invariant.limit, c.in_ok-round.ensures.book.limit) in
-    let marked = c.in_ok-round.ensures.marked (none_of c.verdict.result d.verdict c.verdict.ensures c.if-is_some.ensures) room in
-    let parts : c.as_slice.result.now ≡ all_marked c.round.new.watch.marks = c.as_slice.ensures.value ∙ c.in_ok-parts.ensures in
-    record {
-      groups = subst (AreGroupsOf c.round.new.groups) (sym c.problem-then-applied.ensures) c.in_ok-round.ensures.groups;
-      reached = subst (λ (t : Counts). AreReached (open_on t) c.problem-then-applied.result.now c.as_slice.result.now) (sym c.tally.ensures)
-          (subst (λ (p : Sparse). AreReached (open_on d.tally) p c.as_slice.result.now) (sym c.problem-then-applied.ensures) (subst (AreReached (open_on d.tally) d.problem) (sym parts) (marked_reached d c.round.new.watch.marks marked)));
-    }
+    c.in_ok-round.ensures.marked (none_of c.verdict.result d.verdict c.verdict.ensures c.if-is_some.ensures)
+    (omega (arith, long, c.loop-book-test.true, c.applied.ensures, c.loop-book.invariant.limit, c.in_ok-round.ensures.book.limit))
 
 pub returns-then-applied-clause-ordered : goal.returns-then-applied-clause-ordered
 returns-then-applied-clause-ordered g c =
@@ -81,7 +71,7 @@ returns-then-applied-clause-ordered g c =
     let d = c.round.new.book in
     let long : length d.history ≡ length b.history = sym c.applied-in-loop-book.ensures ∙ c.if-applied.true ∙ c.applied-applied.ensures in
     c.loop-book.invariant.ordered (Some (Fixpoint c.in_ok-skipped.skipped)) d (run_stops b d (Some (Fixpoint c.in_ok-skipped.skipped)) (omega (arith, c.loop-book-test.true, c.applied.ensures, c.loop-book.invariant.limit)) c.in_ok-round.ensures.committed
-    (none_of c.verdict.result d.verdict c.verdict.ensures c.if-is_some.ensures, long, c.in_ok-skipped.ensures ∙ (λ t. skipped_on (open_on (c.tally.ensures t)) (c.problem-then-applied.ensures t))))
+    (none_of c.verdict.result d.verdict c.verdict.ensures c.if-is_some.ensures, long, c.in_ok-skipped.ensures))
 
 pub round-requires-clause-groups : goal.round-requires-clause-groups
 round-requires-clause-groups g c = c.loop-book.invariant.groups

@@ -1,36 +1,52 @@
-use Rattle.std.proofs.Common.{◌≡◌, ℕ, List, length, sym, ap, ◌∙◌, subst}
-use Rattle.std.specs.List.{All}
+use Rattle.std.proofs.Common.{List, ◌++◌, length, ap, ◌∙◌, subst, arith}
+use Rattle.shared_book.proofs.Turns.{starts_trans}
+use Rattle.presolve_model.specs.declared.instance.Rule.{Rule}
 use Rattle.presolve_model.specs.Given.{Proposed}
 use Rattle.presolve_model.specs.Scans.{found_at}
 use Rattle.presolve_model.specs.Tallies.{open_on}
-use Rattle.txn_book.specs.Sharing.{IsFrom}
-use Rattle.book_turns.specs.Turns.{left_of}
-use Rattle.book_turns.proofs.Going.{scanned_taken}
-use Rattle.worker_tasks.specs.Tasks.{AreCommitted, found_of, HoldsChunk, TaskData}
+use Rattle.worker_tasks.specs.Tasks.{AreCommitted}
+use Rattle.worker_tasks.specs.Work.{instances_in}
 use Rattle.worker_tasks.proofs.Chunks.{found_is}
-use Rattle.presolve_model.specs.declared.instance.Rule.{Rule}
-use Rattle.presolve_model.specs.Worlds.{Version}
+use Rattle.worker_tasks.proofs.Tasking.{all_counted, all_committed, all_found, gone_more}
 use Rattle.worker_tasks.proofs.task.do_task.Goals as goal
 
--- what was found is what the task finds
-found_same : (v : Version) (t : TaskData) (r : Rule) (ids : List ℕ) (xs : List Proposed) → r ≡ t.rule → ids ≡ t.ids → xs ≡ found_at (open_on v.tally) v.problem v.applied r ids → HoldsChunk v t → xs ≡ found_of v t
-found_same v t r ids xs er ei is h = is ∙ (λ i. found_at (open_on v.tally) v.problem v.applied (er i) (ei i)) ∙ found_is v t h
-
-pub commit_all-requires-clause-taken : goal.commit_all-requires-clause-taken
-commit_all-requires-clause-taken g c =
-    let s = c.args.book.now in
-    let p = c.args.pass.now in
+pub loop-rest-preserved : goal.loop-rest-preserved
+loop-rest-preserved g c =
+    let i = c.loop-rest.invariant in
     let v = c.args.version.now in
     let t = c.args.task.now in
-    subst (All (IsFrom (left_of s.start p.seen))) (sym (c.as_slice-proposals.ensures.value ∙ found_same v t c.rule.result c.ids.result.now c.in_ok-found.found.items c.rule.ensures c.ids.ensures c.in_ok-found.ensures c.requires.holds))
-    (scanned_taken s p v t.rule t.chunk c.requires.stands c.requires.pass c.requires.frozen)
+    let found : Rule → List Proposed = λ r. found_at (open_on v.tally) v.problem v.applied r c.split_at.result.0.now in
+    record {
+      pass = c.do_at.ensures.pass;
+      number = c.do_at.ensures.number ∙ i.number;
+      seen = starts_trans c.args.pass.now.seen c.loop-rest.pass.seen c.do_at.new.pass.seen i.seen c.do_at.ensures.seen;
+      gone = gone_more (open_on v.tally) v.problem v.applied t.rule c.args.book.now t.ids c.loop-rest.rest.now c.split_at.result.0.now c.split_at.result.1.now c.args.pass.now c.loop-rest.pass c.do_at.new.pass c.args.work.now.found c.loop-rest.work.found c.do_at.new.work.found
+          c.loop-rest.answered c.in_ok-count.count c.in_ok-answered.answered c.split_at.ensures.front c.split_at.ensures.back c.in_ok-answered.ensures i.gone
+          (subst (λ (r : Rule). AreCommitted c.args.book.now c.loop-rest.pass (found r) c.do_at.new.pass) c.rule.ensures c.in_ok-count.ensures.committed)
+          (c.in_ok-count.ensures.count ∙ ap (λ (r : Rule). length (found r)) c.rule.ensures)
+          c.in_ok-count.ensures.turns
+          (c.in_ok-count.ensures.found ∙ ap (λ (r : Rule). c.loop-rest.work.found ++ instances_in (found r)) c.rule.ensures);
+      done = c.do_at.ensures.done ∙ i.done;
+      kept = λ e k. c.do_at.ensures.kept e (i.kept e k);
+    }
 
 pub returns-clause-count : goal.returns-clause-count
 returns-clause-count g c =
-    ap length (c.as_slice-proposals.ensures.value ∙ found_same c.args.version.now c.args.task.now c.rule.result c.ids.result.now c.in_ok-found.found.items c.rule.ensures c.ids.ensures c.in_ok-found.ensures c.requires.holds)
+    let v = c.args.version.now in
+    let t = c.args.task.now in
+    all_counted (open_on v.tally) v.problem v.applied t.rule c.args.book.now t.ids c.loop-rest.rest.now c.args.pass.now c.loop-rest.pass c.args.work.now.found c.loop-rest.work.found c.loop-rest.answered c.loop-rest.invariant.gone (omega (arith, c.loop-rest-test.false))
+    ∙ ap length (found_is v t c.requires.holds)
 
 pub returns-clause-committed : goal.returns-clause-committed
 returns-clause-committed g c =
-    subst (λ (xs : List Proposed). AreCommitted c.args.book.now c.args.pass.now xs c.commit_all.new.pass)
-    (c.as_slice-proposals.ensures.value ∙ found_same c.args.version.now c.args.task.now c.rule.result c.ids.result.now c.in_ok-found.found.items c.rule.ensures c.ids.ensures c.in_ok-found.ensures c.requires.holds)
-    c.in_ok-commit_all.ensures.committed
+    let v = c.args.version.now in
+    let t = c.args.task.now in
+    subst (λ (ps : List Proposed). AreCommitted c.args.book.now c.args.pass.now ps c.loop-rest.pass) (found_is v t c.requires.holds)
+    (all_committed (open_on v.tally) v.problem v.applied t.rule c.args.book.now t.ids c.loop-rest.rest.now c.args.pass.now c.loop-rest.pass c.args.work.now.found c.loop-rest.work.found c.loop-rest.answered c.loop-rest.invariant.gone (omega (arith, c.loop-rest-test.false)))
+
+pub returns-clause-found : goal.returns-clause-found
+returns-clause-found g c =
+    let v = c.args.version.now in
+    let t = c.args.task.now in
+    all_found (open_on v.tally) v.problem v.applied t.rule c.args.book.now t.ids c.loop-rest.rest.now c.args.pass.now c.loop-rest.pass c.args.work.now.found c.loop-rest.work.found c.loop-rest.answered c.loop-rest.invariant.gone (omega (arith, c.loop-rest-test.false))
+    ∙ ap (λ (ps : List Proposed). c.args.work.now.found ++ instances_in ps) (found_is v t c.requires.holds)

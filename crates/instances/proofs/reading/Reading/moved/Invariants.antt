@@ -4,4 +4,4 @@ use Rattle.instances.proofs.reading.Reading.moved.Given as goal
 
 -- the parts before this place have changed as often as they had
 abbrev pub invariant-loop-place : goal.invariant-loop-place
-invariant-loop-place l = NumbersStand l.problem (take l.place l.self-inside.reads.items)
+invariant-loop-place l = NumbersStand l.problem (take l.place l.reads)

@@ -1,0 +1,3 @@
+pub mod Chunking
+pub mod Ruling
+pub mod Noticing

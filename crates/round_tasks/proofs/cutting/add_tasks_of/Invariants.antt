@@ -1,0 +1,9 @@
+use Rattle.std.proofs.Common.{length}
+use Rattle.round_tasks.proofs.Chunking.{IsCut}
+use Rattle.round_tasks.proofs.cutting.add_tasks_of.Given as goal
+
+abbrev pub invariant-loop-rest : goal.invariant-loop-rest
+invariant-loop-rest l = IsCut l.version l.rule l.ids l.rest l.initial.tasks.items l.tasks.items l.is_whole
+
+abbrev pub decreases-loop-rest : goal.decreases-loop-rest
+decreases-loop-rest l = length l.rest

@@ -1,0 +1,5 @@
+pub mod Working
+pub mod Flags
+pub mod Leaving
+pub mod Later
+pub mod Complete

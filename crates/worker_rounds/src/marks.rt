@@ -1,0 +1,65 @@
+//! What a round of workers marks for the next one.
+
+ghost use Rattle.std.specs.Prelude.{◌≡◌, [], true, IfOk, OnOk};
+ghost use Rattle.place_laws.specs.Choosing.{AreSorted, HasEach};
+ghost use Rattle.presolve_model.specs.Tallies.{open_on};
+ghost use Rattle.round_marks.specs.Forming.{AreFormsOf};
+ghost use Rattle.worker_rounds.specs.Marking.{AreAllLeft, IsLater, Leaves, LeavesFound};
+
+use crate::workers::Worker;
+use instances::Version;
+use presolve_model::Instance;
+use round_marks::around::Around;
+use round_marks::watch::Watch;
+use round_tasks::changed_parts;
+use rule_table::head;
+use std::alloc::{AllocError, Global};
+
+/// Marks a part of each of these instances.
+fn leave_each(watch: &mut Watch, found: &[Instance]) -> Result<(), AllocError>
+    ensures { OnOk result (Leaves found.now watch.old watch.new) }
+{
+    for instance in found {
+        watch.leave(*instance, head(*instance))?;
+    }
+    Ok(())
+}
+
+/// Marks a part of each instance that workers found.
+///
+/// # Errors
+/// Memory ran out.
+pub fn leave_found(watch: &mut Watch, workers: &[Worker]) -> Result<(), AllocError>
+    ensures { OnOk result (LeavesFound workers.now watch.old watch.new) }
+{
+    for worker in workers {
+        leave_each(watch, worker.1.found())?;
+    }
+    Ok(())
+}
+
+/// The rows and columns at which the next round looks: those to which the parts lead that have changed from one version to the next, or that are
+/// marked already. What was enabled on the version before has a part that is marked.
+///
+/// # Errors
+/// Memory ran out.
+pub fn ids_after(
+    alloc: Global,
+    before: &Version,
+    after: &Version,
+    watch: &mut Watch,
+) -> Result<Around, AllocError>
+    requires later { IsLater before.now after.now }
+    requires left { AreAllLeft before.now watch.old.marks }
+    requires forms { AreFormsOf watch.old.forms before.now.problem }
+    requires awake { watch.old.marks.asleep ≡ [] }
+    ensures forms { OnOk result (AreFormsOf watch.new.forms after.now.problem) }
+    ensures awake { OnOk result (watch.new.marks.asleep ≡ []) }
+    ensures sorted { IfOk result AreSorted }
+    ensures each { IfOk result (HasEach (open_on after.now.tally) after.now.problem) }
+{
+    let changed = changed_parts(alloc, before.problem(), after.problem())?;
+    watch.note(after.problem(), changed.as_slice())?;
+    let ids = watch.around(alloc, after.problem(), after.groups())?;
+    Ok(ids)
+}
