@@ -1,13 +1,15 @@
-//! A reduction applied.
+//! A reduction applied: its change is prepared, which changes nothing, and then committed.
 
 ghost use Rattle.std.specs.Prelude.{◌≡◌, true, OnErr, OnOk};
+ghost use Rattle.fractions.specs.declared.Numbers.{Numbers as NumbersValue};
 ghost use Rattle.problem_model.specs.Noted.{AreNoted};
 ghost use Rattle.problem_model.specs.Writing.{IsWritable};
 ghost use Rattle.presolve_model.specs.After.{AfterAllows};
 ghost use Rattle.presolve_model.specs.Enabled.{enabled_on};
 ghost use Rattle.presolve_model.specs.declared.instance.Instance.TheVariants as at;
+ghost use Rattle.presolve_model.specs.declared.instance.Reduction.{Reduction as ReductionValue};
 ghost use Rattle.presolve_model.specs.declared.instance.Reduction.TheVariants.{BoundTightening};
-ghost use Rattle.applying.specs.Prepared.{IsPrepared};
+ghost use Rattle.applying.specs.Prepared.{IsPrepared, IsReady};
 
 use crate::admit::{admit, admit_edit};
 use activity_rules::bound_tightening::moved_bound;
@@ -66,11 +68,11 @@ fn admitted(
     }
 }
 
-/// The change of a reduction, of which all numbers may stand.
+/// The change of an enabled reduction, of which all numbers may stand. Nothing is changed yet: [`commit_prepared`] does that.
 ///
 /// # Errors
 /// Those of [`after`].
-fn prepared(
+pub fn prepared(
     alloc: Global,
     problem: &Problem,
     reduction: Reduction,
@@ -84,6 +86,30 @@ fn prepared(
             tightened(alloc, problem, row, column, side, numbers)
         }
         _ => admitted(alloc, problem, reduction, numbers),
+    }
+}
+
+/// Commits a change that [`prepared`] made of this problem, gives its record, and tells the parts that it touches behind those that were told
+/// before. All that can fail is computed before anything is changed. A problem whose numbers can be written stays one.
+///
+/// # Errors
+/// `NoMemory`. The problem, and what was told, is then as it was.
+pub fn commit_prepared(
+    problem: &mut Problem,
+    alloc: Global,
+    change: Change,
+    changed: &mut Vec<Part>,
+) -> Result<Undo, Refusal>
+    requires { (numbers : NumbersValue) × (r : ReductionValue) × IsReady numbers r problem.old change }
+    ensures answer { (numbers : NumbersValue) (r : ReductionValue) → IsReady numbers r problem.old change → AfterAllows numbers r problem.old result problem.new }
+    ensures writable { (numbers : NumbersValue) (r : ReductionValue) → IsReady numbers r problem.old change → IsWritable numbers problem.old → IsWritable numbers problem.new }
+    ensures noted { OnOk result (AreNoted problem.old problem.new changed.old.items changed.new.items) }
+    ensures untold { OnErr result (changed.new.items ≡ changed.old.items) }
+{
+    problem.is_sparse();
+    match commit(problem, alloc, change.edits.as_slice(), changed) {
+        Ok(()) => Ok(change.undo),
+        Err(_) => Err(Refusal::NoMemory),
     }
 }
 
@@ -107,13 +133,6 @@ pub fn after(
     ensures noted { OnOk result (AreNoted problem.old problem.new changed.old.items changed.new.items) }
     ensures untold { OnErr result (changed.new.items ≡ changed.old.items) }
 {
-    problem.is_sparse();
-    let change = match prepared(alloc, problem, reduction, numbers) {
-        Ok(change) => change,
-        Err(refusal) => return Err(refusal),
-    };
-    match commit(problem, alloc, change.edits.as_slice(), changed) {
-        Ok(()) => Ok(change.undo),
-        Err(_) => Err(Refusal::NoMemory),
-    }
+    let change = prepared(alloc, problem, reduction, numbers)?;
+    commit_prepared(problem, alloc, change, changed)
 }

@@ -29,7 +29,7 @@ ghost use Rattle.txn_book.specs.Applying.{Applies, outcome_of};
 ghost use Rattle.txn_book.specs.Sharing.{IsFrom};
 
 use crate::row_lists::RowLists;
-use applying::after;
+use applying::{commit_prepared, prepared};
 use fractions::Numbers;
 use instances::{Differs, Proposal, Tally, Version, numbers_for};
 use kept_sums::KeptSums;
@@ -249,8 +249,8 @@ impl Book {
         }
     }
 
-    /// Applies a reduction, keeps its record and its transaction, gives its place in the history, and notes the parts that change. All room is
-    /// made before anything is changed.
+    /// Applies a reduction, keeps its record and its transaction, gives its place in the history, and notes the parts that change. Its numbers
+    /// are asked before its transaction is made, which names all that it reads. All room is made before anything is changed.
     fn apply_reduction(
         &mut self,
         alloc: Global,
@@ -267,6 +267,7 @@ impl Book {
     {
         self.history.reserve(1)?;
         self.records.reserve(1)?;
+        let change = prepared(alloc, &self.problem, reduction, self.numbers)?;
         let before = self.history.as_slice().len();
         let found = version.min(before as u64);
         add_transaction(
@@ -277,7 +278,7 @@ impl Book {
             found,
             reduction,
         )?;
-        let undo = match after(&mut self.problem, alloc, reduction, self.numbers, changed) {
+        let undo = match commit_prepared(&mut self.problem, alloc, change, changed) {
             Ok(undo) => undo,
             Err(refusal) => {
                 self.transactions.truncate(before);
