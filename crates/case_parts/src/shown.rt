@@ -18,3 +18,13 @@ pub fn text(rt: &HostRuntime, bytes: &[u8]) -> Result<()> {
     }
     Ok(())
 }
+
+/// Prints a text without the lines that begin so.
+pub fn text_but(rt: &HostRuntime, bytes: &[u8], start: &[u8]) -> Result<()> {
+    for line in bytes.split_inclusive(|byte| *byte == b'\n') {
+        if !line.starts_with(start) {
+            text(rt, line)?;
+        }
+    }
+    Ok(())
+}

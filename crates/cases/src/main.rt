@@ -9,6 +9,8 @@
 //! - `room NAME N`: a file that is missing and takes up to N bytes
 //! - `fail reads N`, `fail writes N`, `fail puts N`: the Nth call fails
 //! - `run WORD ..`: runs the presolver with these words
+//! - `meet WORD ..`: the same, where a gate holds the worker of the first task until the second one was answered; tells whether it was, and how
+//!   many proposals were answered in the first round
 //! - `explain WORD ..`: looks inside a presolve, with these words of `papilo-explain`
 //! - `program NAME FORMAT NUMBERS`: reads the program of a file's text, and writes it
 //! - `look NAME FORMAT NUMBERS`: shows the first fault of a file's text, with its field marked
@@ -25,6 +27,7 @@
 //! A line of text has `|` in front, or `>` where no line feed ends it. Lines that begin with `#`, and empty ones, are for the reader.
 #![tactic(auto)]
 
+mod meeting;
 mod request;
 mod runs;
 mod script;

@@ -5,6 +5,7 @@ use anyhow::{Result, anyhow};
 use case_parts::{again, rule};
 use mps_profile::dialect::Dialect;
 use presolve_model::Reduction;
+use std::sync::Wait;
 use std::thread::Threads;
 
 /// A request; files are named by their places.
@@ -13,6 +14,8 @@ pub enum Request {
     Nothing,
     /// A run of the presolver with the case's words.
     Run,
+    /// The same through a gate that holds a worker until another was met.
+    Meet,
     /// A look inside a presolve with the case's words.
     Explain,
     /// The program of a text, written.
@@ -27,7 +30,7 @@ pub enum Request {
 
 impl Request {
     /// Prints the answer.
-    pub fn answer<T: Threads + Sync>(
+    pub fn answer<T: Threads + Wait + Sync>(
         &self,
         rt: &HostRuntime,
         threads: &T,
@@ -36,6 +39,7 @@ impl Request {
         match *self {
             Request::Nothing => Err(anyhow!("nothing is asked")),
             Request::Run => case.run(rt, threads),
+            Request::Meet => case.meet(rt, threads),
             Request::Explain => case.explain(rt),
             Request::Program(place, dialect) => again::program(rt, case.bytes_at(place)?, dialect),
             Request::Look(place, dialect) => again::look(rt, case.bytes_at(place)?, dialect),

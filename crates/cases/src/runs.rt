@@ -1,5 +1,6 @@
 //! The files, faults and words of a case, and what runs of it print.
 
+use crate::meeting::Meeting;
 use anyhow::{Context, Result, ensure};
 use case_parts::long_files::LongFiles;
 use case_parts::shown;
@@ -8,6 +9,7 @@ use file_ports::{Held, MemFiles, MemSink, names_differ};
 use papilo::run::run;
 use presolve_rounds::NoOnlooker;
 use std::alloc::{AllocError, Global};
+use std::sync::Wait;
 use std::thread::Threads;
 use worker_gate::OpenGate;
 
@@ -98,7 +100,7 @@ impl Case {
     }
 
     /// Runs the presolver on files that are too long to hold, and prints its status and its text.
-    fn run_long<T: Threads + Sync>(
+    fn run_long<T: Threads + Wait + Sync>(
         &self,
         rt: &HostRuntime,
         threads: &T,
@@ -121,7 +123,7 @@ impl Case {
     }
 
     /// Runs the presolver, and prints its status, its text and the files that may be written.
-    pub fn run<T: Threads + Sync>(&self, rt: &HostRuntime, threads: &T) -> Result<()> {
+    pub fn run<T: Threads + Wait + Sync>(&self, rt: &HostRuntime, threads: &T) -> Result<()> {
         if let Some(length) = self.long {
             return self.run_long(rt, threads, length);
         }
@@ -151,6 +153,30 @@ impl Case {
             }
         }
         Ok(())
+    }
+
+    /// Runs the presolver through a gate that holds a worker, and prints whether it met the other, how many proposals were answered in the first
+    /// round, the status, and the text but the number of records.
+    pub fn meet<T: Threads + Wait + Sync>(&self, rt: &HostRuntime, threads: &T) -> Result<()> {
+        let alloc = rt.alloc();
+        ensure!(names_differ(&self.held), "a file named twice");
+        let gate = Meeting::new();
+        let mut files = MemFiles::new(alloc, &self.held, &self.reads, &self.writes)?;
+        let mut out = MemSink::new(alloc, PRINTED, &self.puts)?;
+        let status = run(
+            threads,
+            alloc,
+            &self.words,
+            &mut files,
+            &mut out,
+            &gate,
+            &mut NoOnlooker,
+        );
+        let met = if gate.has_met() { "met" } else { "not met" };
+        let answered = gate.answered();
+        println!(rt; "{met}, {answered} answered")?;
+        println!(rt; "status {status}")?;
+        shown::text_but(rt, out.taken(), b"records ")
     }
 
     /// Looks inside a presolve of files that are too long to hold, and prints the status and the text.

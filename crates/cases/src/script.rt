@@ -7,6 +7,7 @@ use case_parts::{again, rule, scans, sums};
 use fractions::Numbers;
 use std::alloc::Global;
 use std::fs;
+use std::sync::Wait;
 use std::thread::Threads;
 
 /// What a line of text is taken for.
@@ -35,7 +36,7 @@ pub struct Script<'a, T> {
     text: Text,
 }
 
-impl<'a, T: Threads + Sync> Script<'a, T> {
+impl<'a, T: Threads + Wait + Sync> Script<'a, T> {
     pub fn new(alloc: Global, threads: &'a T) -> Script<'a, T> {
         Script {
             alloc,
@@ -72,6 +73,7 @@ impl<'a, T: Threads + Sync> Script<'a, T> {
             "room" => self.room(rest),
             "fail" => self.fail(rest),
             "run" => self.run(rt, "papilo", rest, Request::Run),
+            "meet" => self.run(rt, "papilo", rest, Request::Meet),
             "explain" => self.run(rt, "papilo-explain", rest, Request::Explain),
             "each" => self.each(rest),
             "begin" => self.beginnings(rt, rest),

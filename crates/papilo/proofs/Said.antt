@@ -5,16 +5,7 @@ use Rattle.command_words.specs.Names.{Request, Presolve, Check, Postsolve, Migra
 use Rattle.endings.specs.Ending.{status_of}
 use Rattle.endings.specs.declared.ending.Ending.{Ending}
 use Rattle.endings.specs.declared.ending.Ending.TheVariants.{Done, Usage, Refused, ReadFault, WriteFault, NoMemory, NoRoom, RecordsRefused, SolutionRefused, Violated, Infeasible, UnboundedOrInfeasible}
-use Rattle.papilo.specs.Runs.{AreThere, Ends, IsDoneInOrder, IsUnwritten}
-
--- the workers of a presolve are in order
-pub in_order : (asked : Option Request) → IsDoneInOrder asked
-in_order None = tt
-in_order (Some (Presolve names)) = inr refl
-in_order (Some (Check names)) = tt
-in_order (Some (Postsolve names)) = tt
-in_order (Some (Migrate names)) = tt
-in_order (Some (Gen numbers)) = tt
+use Rattle.papilo.specs.Runs.{AreThere, Ends, IsUnwritten}
 
 -- the same at an equal status
 pub ends_at : (asked : Option Request) (status other : ℕ) (printed : List ℕ) (before now : Moment) → status ≡ other → Ends asked status printed before now → Ends asked other printed before now

@@ -29,11 +29,6 @@ abbrev pub Prints : ℕ → ℕ → List ℕ → Option (List ℕ) → Option (L
 Prints answer status printed old new before now =
     ((answer ≡ status) × Grown old new printed) ⊎ ((answer ≡ 4) × GrownInPart old new printed × Rose before now)
 
--- where the words ask for a presolve, what it concludes is what comes of the ordered run
-abbrev pub IsDoneInOrder : Option Request → Type 0
-IsDoneInOrder (Some (Presolve names)) = presolve.IsDoneInOrder names
-IsDoneInOrder other = Unit {0}
-
 -- a write failed of what the words ask to write
 abbrev pub IsUnwritten : Option Request → Moment → Moment → Type 0
 IsUnwritten None before now = ⊥

@@ -6,7 +6,7 @@ ghost use Rattle.command_app.specs.Line.{texts};
 ghost use Rattle.command_line.specs.Line.{asked};
 ghost use Rattle.endings.specs.Ending.{status_of, text_of};
 ghost use Rattle.endings.specs.Moments.{IsQuiet};
-ghost use Rattle.papilo.specs.Runs.{AreRefused, AreThere, Ends, IsDoneInOrder, IsUnwritten, KeepsUnasked, Prints};
+ghost use Rattle.papilo.specs.Runs.{AreRefused, AreThere, Ends, IsUnwritten, KeepsUnasked, Prints};
 
 use check_command::check;
 use command_words::{Refusal, Request};
@@ -18,15 +18,17 @@ use postsolve_command::postsolve;
 use presolve_command::presolve;
 use presolve_rounds::Onlooker;
 use std::alloc::Global;
+use std::sync::Wait;
 use std::thread::Threads;
 use worker_gate::Gate;
 
 // Does what the words ask for.
-fn ending_of<R: Threads + Sync, F: Files, O: Onlooker>(
+fn ending_of<R: Threads + Wait + Sync, F: Files, G: Gate, O: Onlooker>(
     rt: &R,
     alloc: Global,
     words: &[String],
     files: &mut F,
+    gate: &G,
     onlooker: &mut O,
 ) -> Ending
     ensures ends { Ends (asked (texts words.now)) (status_of result) (text_of result) (F.moment files.old) (F.moment files.new) }
@@ -34,7 +36,7 @@ fn ending_of<R: Threads + Sync, F: Files, O: Onlooker>(
 {
     match command_line::read(alloc, words) {
         Ok(Request::Presolve(words)) => {
-            presolve(rt, alloc, &words, files, onlooker).unwrap_or(Ending::NoMemory)
+            presolve(rt, alloc, &words, files, gate, onlooker).unwrap_or(Ending::NoMemory)
         }
         Ok(Request::Check(words)) => check(alloc, &words, files).unwrap_or(Ending::NoMemory),
         Ok(Request::Postsolve(words)) => {
@@ -49,21 +51,19 @@ fn ending_of<R: Threads + Sync, F: Files, O: Onlooker>(
     }
 }
 
-/// Does what the words ask for, prints once, and answers the exit status. The onlooker is told of the rounds of a presolve.
-pub fn run<R: Threads + Sync, F: Files, S: Sink, G: Gate, O: Onlooker>(
+/// Does what the words ask for, prints once, and answers the exit status. Workers that race call the gate, and the onlooker is
+/// told of the rounds of a presolve.
+pub fn run<R: Threads + Wait + Sync, F: Files, S: Sink, G: Gate, O: Onlooker>(
     rt: &R,
     alloc: Global,
     words: &[String],
     files: &mut F,
     out: &mut S,
-    _gate: &G,
+    gate: &G,
     onlooker: &mut O,
 ) -> u8
     ensures ends { (status : ℕ) × (printed : List ℕ) × Ends (asked (texts words.now)) status printed (F.moment files.old) (F.moment files.new)
         × Prints result status printed (S.taken out.old) (S.taken out.new) (S.faults out.old) (S.faults out.new) }
-
-    // How a presolve comes about.
-    ensures in_order { IsDoneInOrder (asked (texts words.now)) }
 
     // What that says of the status.
     ensures answers { result ≢ 4 → (printed : List ℕ) × Ends (asked (texts words.now)) result printed (F.moment files.old) (F.moment files.new)
@@ -77,7 +77,7 @@ pub fn run<R: Threads + Sync, F: Files, S: Sink, G: Gate, O: Onlooker>(
     ensures kept { KeepsUnasked (asked (texts words.now)) (F.moment files.old) (F.moment files.new) }
     ensures read { result ≢ 3 → result ≢ 4 → result ≢ 5 → AreThere (asked (texts words.now)) (F.moment files.old) }
 {
-    let ending = ending_of(rt, alloc, words, files, onlooker);
+    let ending = ending_of(rt, alloc, words, files, gate, onlooker);
     match out.put(ending.text()) {
         Ok(()) => ending.status(),
         Err(_) => 4,

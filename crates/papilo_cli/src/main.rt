@@ -1,15 +1,16 @@
 //! An exact presolver for linear and mixed-integer programs in the MPS format.
 #![tactic(auto)]
 
+mod counting;
 mod progress;
 
+use crate::counting::CountingGate;
 use crate::progress::Progress;
 use file_ports::{HostFiles, HostOut};
 use papilo::run::run;
 use std::io::IsTerminal;
 use std::process::ExitCode;
 use std::{env, io};
-use worker_gate::OpenGate;
 
 fn main(rt: HostRuntime) -> ExitCode {
     let alloc = rt.alloc();
@@ -22,14 +23,16 @@ fn main(rt: HostRuntime) -> ExitCode {
     let words: Vec<String> = words;
     let mut files = HostFiles::new(&rt);
     let mut out = HostOut::new(io::writer(&rt));
-    let mut progress = Progress::new(&rt, rt.stderr().is_terminal());
+    let is_shown = rt.stderr().is_terminal();
+    let gate = CountingGate::new(&rt, is_shown);
+    let mut progress = Progress::new(&rt, is_shown);
     let status = run(
         &rt,
         alloc,
         &words,
         &mut files,
         &mut out,
-        &OpenGate,
+        &gate,
         &mut progress,
     );
     ExitCode::from(status)

@@ -107,7 +107,7 @@ impl<'a, R: Eprint> Onlooker for Progress<'a, R> {
     }
 
     fn after_run(&mut self) {
-        if self.told.rounds > 0 {
+        if self.is_shown {
             let _ = eprint!(self.rt; "\r\x1b[K");
         }
     }

@@ -11,7 +11,7 @@ use Rattle.presolve_model.specs.Workers.{IsInOrder}
 use Rattle.presolve_report.specs.Outcomes.{Outcome}
 use Rattle.presolve_command.specs.Texts.{IsConcluded, options_for, TextIsInfeasible, TextIsNotTaken, TextIsUnboundedOrInfeasible, workers_for}
 
--- what presolve concludes is what comes of the ordered run: so are its workers
+-- one worker is asked for, or that the run is in order: what presolve concludes is what comes of the ordered run then
 abbrev pub IsDoneInOrder : PresolveNames → Type 0
 IsDoneInOrder names = IsInOrder (workers_for names.options)
 

@@ -102,9 +102,9 @@ IsMade options workers program (Err NoMemory) = Unit {0}
 abbrev pub options_for : PresolveOptions → Options
 options_for options = record { numbers = numbers_of options; limit = options.limit; dual = options.dual }
 
--- the workers among whom the words have the work shared out: whatever their number, they make what the ordered run makes
+-- the workers among whom the words have the work shared out
 abbrev pub workers_for : PresolveOptions → Workers
-workers_for options = record { threads = options.threads; ordered = true }
+workers_for options = record { threads = options.threads; ordered = options.ordered }
 
 -- a text has no fault, and its program is not taken: this line names its first column that has to be whole
 abbrev pub TextIsNotTaken : PresolveOptions → List ℕ → List ℕ → Type 0

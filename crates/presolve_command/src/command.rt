@@ -6,7 +6,7 @@ ghost use Rattle.command_words.specs.Seen.{names_of};
 ghost use Rattle.command_words.specs.declared.words.TheConstants.{MOST_THREADS};
 ghost use Rattle.endings.specs.Ending.{status_of, text_of};
 ghost use Rattle.endings.specs.Moments.{IsQuiet, KeepsAllBut};
-ghost use Rattle.presolve_command.specs.Presolved.{EndsPresolve, FailsBetween, IsDoneInOrder};
+ghost use Rattle.presolve_command.specs.Presolved.{EndsPresolve, FailsBetween};
 
 use crate::reduce::{NotReduced, Texts, reduce};
 use command_words::PresolveWords;
@@ -14,7 +14,9 @@ use endings::{Ending, INPUT_LIMIT, fault_line};
 use file_ports::{Failed, Files, ReadErr};
 use presolve_rounds::Onlooker;
 use std::alloc::{AllocError, Global};
+use std::sync::Wait;
 use std::thread::Threads;
+use worker_gate::Gate;
 
 // Writes the program's text, then the records' text.
 fn write_both<F: Files>(
@@ -34,12 +36,14 @@ fn write_both<F: Files>(
 }
 
 /// Reads a program, writes the reduced one and its records; nothing where it has no feasible point, or none of least cost, or duals are
-/// asked for and a column has to be whole. All that is written and printed is made before the first write. The onlooker is told of the rounds.
-pub fn presolve<R: Threads + Sync, F: Files, O: Onlooker>(
+/// asked for and a column has to be whole. All that is written and printed is made before the first write. The gate
+/// is called by workers that race, and the onlooker is told of the rounds.
+pub fn presolve<R: Threads + Wait + Sync, F: Files, G: Gate, O: Onlooker>(
     rt: &R,
     alloc: Global,
     words: &PresolveWords<'_>,
     files: &mut F,
+    gate: &G,
     onlooker: &mut O,
 ) -> Result<Ending, AllocError>
     requires differ { words.now.output.now ≢ words.now.records.now }
@@ -47,7 +51,6 @@ pub fn presolve<R: Threads + Sync, F: Files, O: Onlooker>(
     requires few_threads { words.now.options.threads ≤ MOST_THREADS }
     ensures ends { IfOk result (λ e. EndsPresolve (names_of words.now) (status_of e) (text_of e) (F.moment files.old) (F.moment files.new)) }
     ensures no_memory { OnErr result (IsQuiet (F.moment files.old) (F.moment files.new)) }
-    ensures in_order { IsDoneInOrder (names_of words.now) }
 {
     let text = match files.read(alloc, words.input, INPUT_LIMIT) {
         Ok(text) => text,
@@ -57,7 +60,7 @@ pub fn presolve<R: Threads + Sync, F: Files, O: Onlooker>(
         }
         Err(ReadErr::NoMemory) => return Err(AllocError),
     };
-    let texts = match reduce(rt, alloc, &text, words.options, onlooker) {
+    let texts = match reduce(rt, alloc, &text, words.options, gate, onlooker) {
         Ok(texts) => texts,
         Err(NotReduced::Fault(fault)) => return Ok(Ending::Refused(fault_line(alloc, fault)?)),
         Err(NotReduced::NotContinuous(line)) => return Ok(Ending::Refused(line)),

@@ -18,14 +18,16 @@ use mps_writer::{WriteError, write_mps};
 use presolve_model::{Options, Workers};
 use presolve_report::{Report, report_for, report_of, size_of};
 use presolve_rounds::{Onlooker, Presolved, ReducedProgram};
+use racing_runs::presolve;
 use record_file::write_records;
 use record_round_trip::records_have_range;
 use record_values::TextVersion;
 use std::alloc::{AllocError, Global};
+use std::sync::Wait;
 use std::thread::Threads;
 use text_lines::Fault;
-use threaded_passes::presolve;
 use whole_way::laws::texts_come_back;
+use worker_gate::Gate;
 
 /// All that a presolve writes and prints.
 #[derive(Drop)]
@@ -100,12 +102,13 @@ fn column_in_the_way(program: &Program, options: &Options) -> Option<u32>
 }
 
 // Reduces a program, and makes the texts of what is left.
-fn reduce_program<R: Threads + Sync, O: Onlooker>(
+fn reduce_program<R: Threads + Wait + Sync, G: Gate, O: Onlooker>(
     rt: &R,
     alloc: Global,
     program: Program,
     options: &Options,
     workers: &Workers,
+    gate: &G,
     onlooker: &mut O,
 ) -> Result<Texts, NotReduced>
     requires few_rows { length program.rows < 2 ^ 32 }
@@ -117,7 +120,7 @@ fn reduce_program<R: Threads + Sync, O: Onlooker>(
 {
     let before = size_of(&program);
     texts_come_back();
-    match presolve(rt, alloc, program, options, workers, onlooker) {
+    match presolve(rt, alloc, program, options, workers, gate, onlooker) {
         Ok(Presolved::Reduced(made)) => {
             records_have_range(&made.records);
             let report = report_for(&made, before);
@@ -131,12 +134,13 @@ fn reduce_program<R: Threads + Sync, O: Onlooker>(
 }
 
 // Reduces a program that is taken: where duals are asked for, no column may have to be whole.
-fn reduce_taken<R: Threads + Sync, O: Onlooker>(
+fn reduce_taken<R: Threads + Wait + Sync, G: Gate, O: Onlooker>(
     rt: &R,
     alloc: Global,
     program: Program,
     options: &Options,
     workers: &Workers,
+    gate: &G,
     onlooker: &mut O,
 ) -> Result<Texts, NotReduced>
     requires few_rows { length program.rows < 2 ^ 32 }
@@ -150,7 +154,7 @@ fn reduce_taken<R: Threads + Sync, O: Onlooker>(
             let line = not_continuous_text(alloc, &program, column)?;
             Err(NotReduced::NotContinuous(line))
         }
-        None => reduce_program(rt, alloc, program, options, workers, onlooker),
+        None => reduce_program(rt, alloc, program, options, workers, gate, onlooker),
     }
 }
 
@@ -159,11 +163,12 @@ fn reduce_taken<R: Threads + Sync, O: Onlooker>(
 /// # Errors
 /// The first fault of the text, the first column that has to be whole where duals are asked for, that the program has no feasible point,
 /// that it has none or none of least cost, or want of memory.
-pub fn reduce<R: Threads + Sync, O: Onlooker>(
+pub fn reduce<R: Threads + Wait + Sync, G: Gate, O: Onlooker>(
     rt: &R,
     alloc: Global,
     text: &[u8],
     options: PresolveOptions,
+    gate: &G,
     onlooker: &mut O,
 ) -> Result<Texts, NotReduced>
     requires few_bytes { length text.now < 2 ^ 32 }
@@ -177,9 +182,9 @@ pub fn reduce<R: Threads + Sync, O: Onlooker>(
         limit: options.limit,
         dual: options.dual,
     };
-    let workers = Workers::new(options.threads, true);
+    let workers = Workers::new(options.threads, options.ordered);
     match read_program(alloc, text, form) {
-        Ok(program) => reduce_taken(rt, alloc, program, &told, &workers, onlooker),
+        Ok(program) => reduce_taken(rt, alloc, program, &told, &workers, gate, onlooker),
         Err(ProgramError::Fault(fault)) => Err(NotReduced::Fault(fault)),
         Err(ProgramError::NoMemory) => Err(NotReduced::NoMemory),
     }

@@ -11,7 +11,7 @@ pub trait Onlooker {
     /// Memory ran out; the run ends with that.
     fn after_round(&mut self, alloc: Global, book: &Book) -> Result<(), AllocError>;
 
-    /// No round follows: the run has ended, or memory ran out in it.
+    /// No round follows: the run has ended, or memory ran out in it. Where workers race, this may be told twice.
     fn after_run(&mut self);
 }
 

@@ -1,24 +1,33 @@
-//! The parts that have changed from one problem to a later one.
+//! The parts of a problem that have changed since the numbers of their changes were kept.
 
-ghost use Rattle.std.specs.Prelude.{IfOk, OnOk};
+ghost use Rattle.std.specs.Prelude.{◌≡◌, false, IfOk, OnOk};
+ghost use Rattle.problem_model.specs.Parts.{changes_of};
 ghost use Rattle.problem_model.specs.declared.part.Part.TheVariants as part;
-ghost use Rattle.edit_laws.specs.Sizes.{SameSize};
-ghost use Rattle.round_tasks.specs.Changes.{Notices, NoticesBelow, NoticesAll};
+ghost use Rattle.round_marks.specs.Stamping.{stamp_at};
+ghost use Rattle.round_tasks.specs.Changes.{IsAsLong, Notices, NoticesBelow, NoticesAll};
 
 use presolve_model::Part;
+use round_marks::stamps::Stamps;
 use sparse_problem::Problem;
 use std::alloc::{AllocError, Global};
 
+/// Whether a part has changed since.
+fn has_changed(before: &Stamps, after: &Problem, part: Part) -> bool
+    ensures { result ≡ false → changes_of after.now part ≡ stamp_at before.now part }
+{
+    !before.stand_for(after, &[part])
+}
+
 /// Adds a part, if it has changed.
 fn add_changed(
-    before: &Problem,
+    before: &Stamps,
     after: &Problem,
     part: Part,
     parts: &mut Vec<Part>,
 ) -> Result<(), AllocError>
     ensures { OnOk result (Notices before.now after.now part parts.old.items parts.new.items) }
 {
-    if before.changes(part) != after.changes(part) {
+    if has_changed(before, after, part) {
         parts.push(part)?;
     }
     Ok(())
@@ -26,7 +35,7 @@ fn add_changed(
 
 /// Adds the parts of rows that have changed.
 fn add_changed_rows(
-    before: &Problem,
+    before: &Stamps,
     after: &Problem,
     parts: &mut Vec<Part>,
 ) -> Result<(), AllocError>
@@ -41,7 +50,7 @@ fn add_changed_rows(
 
 /// Adds the parts of columns that have changed.
 fn add_changed_columns(
-    before: &Problem,
+    before: &Stamps,
     after: &Problem,
     parts: &mut Vec<Part>,
 ) -> Result<(), AllocError>
@@ -54,19 +63,18 @@ fn add_changed_columns(
     Ok(())
 }
 
-/// The parts of which the numbers of changes differ in two problems of the same size.
+/// The parts that have changed since these numbers of changes were kept.
 ///
 /// # Errors
 /// Memory ran out.
 pub fn changed_parts(
     alloc: Global,
-    before: &Problem,
+    before: &Stamps,
     after: &Problem,
 ) -> Result<Vec<Part>, AllocError>
-    requires { SameSize before.now after.now }
+    requires { IsAsLong before.now after.now }
     ensures { IfOk result (λ parts. NoticesAll before.now after.now parts.items) }
 {
-    before.is_sparse();
     after.is_sparse();
     let mut parts = Vec::new(alloc);
     add_changed_rows(before, after, &mut parts)?;

@@ -21,7 +21,7 @@ use Rattle.endings.specs.Ending.{infeasible_line, unbounded_line}
 use Rattle.endings.specs.ProgramTexts.{IsFaultOf, IsProgramOf, program_in}
 use Rattle.endings.specs.declared.forms.ProgramFault.TheVariants.{Mps}
 use Rattle.endings.specs.declared.reads.TheConstants.{INPUT_LIMIT}
-use Rattle.presolve_command.specs.Presolved.{IsInfeasible, IsMadeOf, IsPresolved, IsUnboundedOrInfeasible, RefusesProgram, SaysFault, SaysNotTaken, SaysPresolve}
+use Rattle.presolve_command.specs.Presolved.{IsDoneInOrder, IsInfeasible, IsMadeOf, IsPresolved, IsUnboundedOrInfeasible, RefusesProgram, SaysFault, SaysNotTaken, SaysPresolve}
 use Rattle.presolve_report.specs.Report.{report_text}
 use Rattle.presolve_report.specs.Outcomes.{entries_of, Outcome, Tells}
 use Rattle.presolve_command.specs.Texts.{IsConcluded, IsNotTaken, IsTaken, options_for, ProgramIsInfeasible, ProgramIsUnboundedOrInfeasible, TextIsInfeasible, TextIsNotTaken, TextIsUnboundedOrInfeasible, workers_for}
@@ -123,7 +123,7 @@ module _ (one : OneConclusion) (options : Options) (workers : Workers) (order : 
     program_same (inr (inr (inr a))) (inr (inr (inr b))) = (a.0 ∙ sym b.0, a.2 ∙ sym b.2)
 
 -- ---- of IN's bytes
-module _ (one : OneConclusion) (names : PresolveNames) (input : List ℕ) where
+module _ (one : OneConclusion) (names : PresolveNames) (order : IsDoneInOrder names) (input : List ℕ) where
   abbrev program : ProgramData
   program = program_in (form_of names.options) input
 
@@ -134,7 +134,7 @@ module _ (one : OneConclusion) (names : PresolveNames) (input : List ℕ) where
   workers = workers_for names.options
 
   abbrev OfText : ℕ → List ℕ → Type 0
-  OfText s said = Layer INPUT_LIMIT input program_over (first_fault (dialect_in (form_of names.options)) input) program_line 2 s said (OfProgram one options workers (inr refl) program s said)
+  OfText s said = Layer INPUT_LIMIT input program_over (first_fault (dialect_in (form_of names.options)) input) program_line 2 s said (OfProgram one options workers order program s said)
 
   module _ (before : Moment) (at_input : Holds before names.input input) where
     refused : (s : ℕ) (said : List ℕ) (now : Moment) → s ≡ 2 → SaysFault names said before now → OfText s said
@@ -182,11 +182,11 @@ module _ (one : OneConclusion) (names : PresolveNames) (input : List ℕ) where
     at_zero s said now e w = subst (λ (k : ℕ). SaysPresolve names k said before now) e w
 
 -- ---- OUT and REC
-module _ (one : OneConclusion) (names : PresolveNames) (input said more : List ℕ) (before now then later : Moment) (i : Holds before names.input input) (j : Holds then names.input input)
+module _ (one : OneConclusion) (names : PresolveNames) (order : IsDoneInOrder names) (input said more : List ℕ) (before now then later : Moment) (i : Holds before names.input input) (j : Holds then names.input input)
     (a : IsPresolved names said before now) (b : IsPresolved names more then later) where
   both_same : (a.program ≡ b.program) × (a.records ≡ b.records) × (said ≡ more)
-  both_same = outcomes_same one (options_for names.options) (workers_for names.options) (inr refl) (program_in (form_of names.options) input) a.program a.records said b.program b.records more
-      (made one names input before i a.program a.records said a.made) (made one names input then j b.program b.records more b.made)
+  both_same = outcomes_same one (options_for names.options) (workers_for names.options) order (program_in (form_of names.options) input) a.program a.records said b.program b.records more
+      (made one names order input before i a.program a.records said a.made) (made one names order input then j b.program b.records more b.made)
 
   output_same : LeaveTheSame now later names.output
   output_same xs ys x y = sym (held_written (before.told names.output) (now.told names.output) xs a.program x a.program_written) ∙ both_same.0
@@ -197,12 +197,12 @@ module _ (one : OneConclusion) (names : PresolveNames) (input said more : List �
       ∙ held_written (then.told names.records) (later.told names.records) ys b.records y b.records_written
 
 pub presolve_same : OneConclusion → PresolvesAreOne
-presolve_same one names s t said more before now then later (input, i, j) b c x y =
-    let same = layer_same INPUT_LIMIT input program_over (first_fault (dialect_in (form_of names.options)) input) program_line 2 s t said more (told_of one names input before i s said now b x.says) (told_of one names input then j t more later c y.says)
-    (program_same one (options_for names.options) (workers_for names.options) (inr refl) (program_in (form_of names.options) input) s t said more) in
+presolve_same one names order s t said more before now then later (input, i, j) b c x y =
+    let same = layer_same INPUT_LIMIT input program_over (first_fault (dialect_in (form_of names.options)) input) program_line 2 s t said more (told_of one names order input before i s said now b x.says) (told_of one names order input then j t more later c y.says)
+    (program_same one (options_for names.options) (workers_for names.options) order (program_in (form_of names.options) input) s t said more) in
     record {
       status = same.0;
       printed = same.1;
-      output = λ zero. output_same one names input said more before now then later i j (at_zero one names input before i s said now zero x.says) (at_zero one names input then j t more later (sym same.0 ∙ zero) y.says);
-      records = λ zero. records_same one names input said more before now then later i j (at_zero one names input before i s said now zero x.says) (at_zero one names input then j t more later (sym same.0 ∙ zero) y.says);
+      output = λ zero. output_same one names order input said more before now then later i j (at_zero one names order input before i s said now zero x.says) (at_zero one names order input then j t more later (sym same.0 ∙ zero) y.says);
+      records = λ zero. records_same one names order input said more before now then later i j (at_zero one names order input before i s said now zero x.says) (at_zero one names order input then j t more later (sym same.0 ∙ zero) y.says);
     }

@@ -2,7 +2,7 @@
 use Rattle.std.specs.Prelude.{◌≡◌, ◌≢◌, ℕ, List}
 use Rattle.file_ports.specs.Ports.{Moment}
 use Rattle.command_words.specs.Names.{CheckNames, MigrateNames, PostsolveNames, PresolveNames}
-use Rattle.presolve_command.specs.Presolved.{EndsPresolve}
+use Rattle.presolve_command.specs.Presolved.{EndsPresolve, IsDoneInOrder}
 use Rattle.check_command.specs.Checked.{EndsCheck}
 use Rattle.postsolve_command.specs.Postsolved.{EndsPostsolve}
 use Rattle.migrate_command.specs.Migrated.{EndsMigrate}
@@ -32,7 +32,7 @@ pub record PresolvesAlike (names : PresolveNames) (s t : ℕ) (said more : List 
   pub records : s ≡ 0 → LeaveTheSame now later names.records
 
 abbrev pub PresolvesAreOne : Type 0
-PresolvesAreOne = (names : PresolveNames) (s t : ℕ) (said more : List ℕ) (before now then later : Moment)
+PresolvesAreOne = (names : PresolveNames) → IsDoneInOrder names → (s t : ℕ) (said more : List ℕ) (before now then later : Moment)
     → HoldsTheSame before then names.input
     → IsOfBytes s
     → IsOfBytes t

@@ -21,8 +21,8 @@ pub fn liftings_are_one()
         → IsLifted records program point duals xs us → Stops records program point duals said → ⊥ }
 {}
 
-/// `presolve` with the same words on the same IN ends with the same status, and prints the same; and it leaves the same OUT and REC. That is
-/// so where no read and no write failed, and memory did not run out.
+/// `presolve` with the same words on the same IN, by one worker or with `--ordered`, ends with the same status, and prints the same; and it
+/// leaves the same OUT and REC. That is so where no read and no write failed, and memory did not run out.
 pub fn presolves_are_one()
     ensures { PresolvesAreOne }
 {

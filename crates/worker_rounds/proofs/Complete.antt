@@ -35,11 +35,13 @@ use Rattle.round_laws.proofs.Tracking.{tracks_changed}
 use Rattle.round_marks.specs.Forming.{AreFormsOf}
 use Rattle.round_marks.specs.Marking.{Notes, Watched}
 use Rattle.round_marks.proofs.Watching.{notes_forms, notes_noted, notes_stirred}
+use Rattle.round_marks.specs.Stamping.{stamp_at, Stamped, stamps_of}
+use Rattle.round_marks.proofs.Restamping.{stamped}
 use Rattle.round_tasks.specs.Changes.{NoticesAll}
 use Rattle.round_tasks.specs.Cutting.{AreTasksOf, IsGivenOut, TaskList}
 use Rattle.worker_tasks.specs.Tasks.{found_of, TaskData}
 use Rattle.worker_tasks.specs.Work.{instances_in}
-use Rattle.worker_rounds.specs.Marking.{AreAllLeft, IsLater, IsLeft, LeavesFound}
+use Rattle.worker_rounds.specs.Marking.{AreAllLeft, HasLeft, IsLater, IsLeft, LeavesFound, LooksAt}
 use Rattle.worker_rounds.specs.Workers.{HasFound, IsDone, WorkerData}
 
 -- ---- what a task finds
@@ -98,7 +100,7 @@ all_left v n t ws w u each tasks whole done found left e on free = by (tasks.giv
 pub same_sizes : (v x : Version) → IsLater v x → SameSize v.problem x.problem
 same_sizes v x later = subst (λ (y : Version). SameSize y.problem x.problem) (sym later.before) (subst (λ (y : Version). SameSize later.earlier.problem y.problem) (sym later.after) later.follows.size)
 
-module _ (v x : Version) (changed : List Part) (w u : Watched) (later : IsLater v x) (notices : NoticesAll v.problem x.problem changed) (notes : Notes x.problem changed w u) (forms : AreFormsOf w.forms v.problem) (awake : w.marks.asleep ≡ []) where
+module _ (v x : Version) (changed : List Part) (w u : Watched) (later : IsLater v x) (stamps : Stamped) (same : stamps ≡ stamps_of v.problem) (notices : NoticesAll stamps x.problem changed) (notes : Notes x.problem changed w u) (forms : AreFormsOf w.forms v.problem) (awake : w.marks.asleep ≡ []) where
   abbrev d : Ledger
   d = later.earlier
 
@@ -112,8 +114,15 @@ module _ (v x : Version) (changed : List Part) (w u : Watched) (later : IsLater 
   at_later a = subst (λ (y : Version). IsLaterAt v.problem y.problem a) (sym later.after) (follows.later a)
 
   noticed : AreNoted v.problem x.problem [] changed
-  noticed = record { kept = λ a k. absurd (none_in a k); changed = λ a. by a (notices a) (at_later a) }
+  noticed = record { kept = λ a k. absurd (none_in a k); changed = λ a. by a (as_counted a (notices a)) (at_later a) }
     where
+      told : (a : Part) → stamp_at stamps a ≡ changes_of v.problem a
+      told a = subst (λ (s : Stamped). stamp_at s a ≡ changes_of v.problem a) (sym same) ((stamped v.problem).tell a)
+
+      as_counted : (a : Part) → (changes_of x.problem a ≡ stamp_at stamps a) ⊎ Contains changed a → (changes_of x.problem a ≡ changes_of v.problem a) ⊎ Contains changed a
+      as_counted a (inl e) = inl (e ∙ told a)
+      as_counted a (inr k) = inr k
+
       by : (a : Part) → (changes_of x.problem a ≡ changes_of v.problem a) ⊎ Contains changed a → IsLaterAt v.problem x.problem a → (read_of x.problem a ≡ read_of v.problem a) ⊎ Contains changed a
       by a (inr k) l = inr k
       by a (inl e) (inl same) = inl same
@@ -166,3 +175,9 @@ module _ (v x : Version) (changed : List Part) (w u : Watched) (later : IsLater 
       by : Contains (ids_of n (rule_at e)) (id_at e) ⊎ IsAsleep d.numbers x.problem u.marks.asleep e → Contains (ids_of n (rule_at e)) (id_at e)
       by (inl there) = there
       by (inr asleep) = let told = asleep.told in absurd (none_in told.0 (subst (λ (ps : List Part). Contains ps told.0) then_awake told.2))
+
+pub next_looks : (v x : Version) (changed : List Part) (stamps : Stamped) (w u : Watched) → HasLeft v stamps w x → NoticesAll stamps x.problem changed → Notes x.problem changed w u → w.marks.asleep ≡ [] → (n : Around) → HoldsAround x.problem u.marks n → LooksAt x u n
+next_looks v x changed stamps w u left notices notes awake n holds = record {
+  forms = then_forms v x changed w u left.later stamps left.stamps notices notes left.forms awake;
+  each = next_each v x changed w u left.later stamps left.stamps notices notes left.forms awake left.left n holds;
+}

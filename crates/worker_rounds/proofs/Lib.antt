@@ -3,3 +3,4 @@ pub mod Flags
 pub mod Leaving
 pub mod Later
 pub mod Complete
+pub mod Raced

@@ -1,5 +1,5 @@
 -- What workers find.
-use Rattle.std.proofs.Common.{◌≡◌, ◌⊎◌, inl, inr, ℕ, ◌<◌, List, [], ◌∷◌, ◌++◌, length, get_or, sym, ap, ◌∙◌, subst, append_assoc}
+use Rattle.std.proofs.Common.{◌≡◌, ◌⊎◌, inl, inr, ℕ, ◌<◌, List, [], ◌∷◌, ◌++◌, length, get_or, take, refl, sym, ap, ◌∙◌, subst, append_assoc}
 use Rattle.std.specs.Prelude.{Ok}
 use Rattle.std.specs.List.{Contains}
 use Rattle.std.proofs.lemmas.List.{get_or_default}
@@ -22,6 +22,14 @@ frozen_on p q v (rest, e) (before, after, seen) = (before, after ++ rest, e ∙ 
 -- a pass that is cut from one has frozen what that has
 pub frozen_too : (p q : Known Ledger Turn) (v : Version) → q.seen ≡ p.seen → HasFrozen p v → HasFrozen q v
 frozen_too p q v e (before, after, seen) = (before, after, e ∙ seen)
+
+-- what was written through a slice of a whole list
+pub written : {X : Type 0} (xs zs : List X) (n : ℕ) → n ≡ length xs → take n (xs ++ zs) ≡ xs
+written {X} xs zs n e = ap (λ (k : ℕ). take k (xs ++ zs)) e ∙ front xs
+  where
+    front : (ys : List X) → take (length ys) (ys ++ zs) ≡ ys
+    front [] = refl
+    front (y ∷ ys) = ap (λ (l : List X). y ∷ l) (front ys)
 
 -- ---- of tasks that are done all was found
 pub found_none : (v : Version) (ts : List TaskData) (w : WorkData) → w ≡ record { done = []; found = [] } → HasFound v ts w

@@ -1,3 +1,4 @@
 pub mod Workers
 pub mod Done
 pub mod Marking
+pub mod Looks

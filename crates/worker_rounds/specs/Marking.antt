@@ -9,9 +9,12 @@ use Rattle.presolve_model.specs.Ledger.{Ledger}
 use Rattle.presolve_model.specs.Tables.{heads}
 use Rattle.presolve_model.specs.Tallies.{open_on}
 use Rattle.presolve_model.specs.Worlds.{Version, version_of}
+use Rattle.place_laws.specs.Choosing.{Around, HasEach}
 use Rattle.place_laws.specs.Marks.{Grows, Marks, parts_for}
 use Rattle.round_laws.specs.Passing.{Follows}
+use Rattle.round_marks.specs.Forming.{AreFormsOf}
 use Rattle.round_marks.specs.Marking.{Watched}
+use Rattle.round_marks.specs.Stamping.{Stamped, stamps_of}
 use Rattle.worker_rounds.specs.Workers.{IsFound, WorkerData}
 
 -- a part at the head of what the instance reads is marked, where it counts for its rule
@@ -44,3 +47,15 @@ pub record IsLater (v w : Version) : Type 0 where
   pub after : w ≡ version_of later
   pub follows : Follows (open_on earlier.tally) earlier.problem later
   pub opened : (e : Instance) → is_open (open_on later.tally) e ≡ true → is_open (open_on earlier.tally) e ≡ true
+
+-- a round on a version has left these numbers and marks, and then a later version was frozen
+pub record HasLeft (v : Version) (s : Stamped) (m : Watched) (w : Version) : Type 0 where
+  pub stamps : s ≡ stamps_of v.problem
+  pub forms : AreFormsOf m.forms v.problem
+  pub left : AreAllLeft v m.marks
+  pub later : IsLater v w
+
+-- the ids have all that is enabled and open on a version, and the forms are those of its ends
+pub record LooksAt (w : Version) (m : Watched) (n : Around) : Type 0 where
+  pub forms : AreFormsOf m.forms w.problem
+  pub each : HasEach (open_on w.tally) w.problem n

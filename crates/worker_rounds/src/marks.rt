@@ -1,15 +1,16 @@
 //! What a round of workers marks for the next one.
 
 ghost use Rattle.std.specs.Prelude.{◌≡◌, [], true, IfOk, OnOk};
-ghost use Rattle.place_laws.specs.Choosing.{AreSorted, HasEach};
-ghost use Rattle.presolve_model.specs.Tallies.{open_on};
-ghost use Rattle.round_marks.specs.Forming.{AreFormsOf};
-ghost use Rattle.worker_rounds.specs.Marking.{AreAllLeft, IsLater, Leaves, LeavesFound};
+ghost use Rattle.place_laws.specs.Choosing.{AreSorted};
+ghost use Rattle.presolve_model.specs.Worlds.{Version};
+ghost use Rattle.round_tasks.specs.Changes.{IsAsLong};
+ghost use Rattle.worker_rounds.specs.Marking.{HasLeft, Leaves, LeavesFound, LooksAt};
 
 use crate::workers::Worker;
 use instances::Version;
 use presolve_model::Instance;
 use round_marks::around::Around;
+use round_marks::stamps::Stamps;
 use round_marks::watch::Watch;
 use round_tasks::changed_parts;
 use rule_table::head;
@@ -38,27 +39,24 @@ pub fn leave_found(watch: &mut Watch, workers: &[Worker]) -> Result<(), AllocErr
     Ok(())
 }
 
-/// The rows and columns at which the next round looks: those to which the parts lead that have changed from one version to the next, or that are
-/// marked already. What was enabled on the version before has a part that is marked.
+/// The rows and columns at which the next round looks: those to which the parts lead that have changed since the round before began, or that
+/// are marked already. What was enabled on the version before has a part that is marked.
 ///
 /// # Errors
 /// Memory ran out.
 pub fn ids_after(
     alloc: Global,
-    before: &Version,
+    before: &Stamps,
     after: &Version,
     watch: &mut Watch,
 ) -> Result<Around, AllocError>
-    requires later { IsLater before.now after.now }
-    requires left { AreAllLeft before.now watch.old.marks }
-    requires forms { AreFormsOf watch.old.forms before.now.problem }
+    requires long { IsAsLong before.now after.now.problem }
     requires awake { watch.old.marks.asleep ≡ [] }
-    ensures forms { OnOk result (AreFormsOf watch.new.forms after.now.problem) }
     ensures awake { OnOk result (watch.new.marks.asleep ≡ []) }
     ensures sorted { IfOk result AreSorted }
-    ensures each { IfOk result (HasEach (open_on after.now.tally) after.now.problem) }
+    ensures looks { IfOk result (λ ids. (v : Version) → HasLeft v before.now watch.old after.now → LooksAt after.now watch.new ids) }
 {
-    let changed = changed_parts(alloc, before.problem(), after.problem())?;
+    let changed = changed_parts(alloc, before, after.problem())?;
     watch.note(after.problem(), changed.as_slice())?;
     let ids = watch.around(alloc, after.problem(), after.groups())?;
     Ok(ids)

@@ -11,6 +11,8 @@ use instances::Version;
 use shared_book::{Pass, SharedBook};
 use std::alloc::{AllocError, Global};
 use std::sync::Wait;
+use std::thread;
+use std::thread::Threads;
 use txn_book::Book;
 use worker_gate::{Gate, Tickets};
 use worker_tasks::{Task, Work, do_task};
@@ -109,6 +111,75 @@ pub fn do_tasks<R: Wait, G: Gate>(
             tickets.end();
         }
     }
+}
+
+/// Lets workers do the tasks of a round, each in a thread of its own.
+fn let_work<R: Threads + Wait + Sync, G: Gate>(
+    rt: &R,
+    alloc: Global,
+    book: &SharedBook<Book>,
+    version: &Version,
+    gate: &G,
+    tasks: &[Task],
+    workers: &mut [Worker],
+)
+    requires stands { Stands book.now.start }
+    requires hold { All (HoldsChunk version.now) tasks.now }
+    requires some { 0 < length workers.old }
+    requires ready { All (MayBegin book.now version.now) workers.old }
+    ensures long { length workers.new ≡ length workers.old }
+    ensures found { All (λ worker. HasFound version.now tasks.now worker.1) workers.new }
+{
+    let tickets = Tickets::new();
+    let threads = workers.len();
+    thread::for_each_mut(
+        rt,
+        workers,
+        threads,
+        &|_, worker: &mut Worker|
+            requires stands { Stands book.now.start }
+            requires hold { All (HoldsChunk version.now) tasks.now }
+            requires pass { IsPass book.now worker.old.0 }
+            requires frozen { HasFrozen worker.old.0 version.now }
+            requires found { HasFound version.now tasks.now worker.old.1 }
+            ensures { HasFound version.entry.now tasks.entry.now worker.new.1 }
+        { do_tasks(rt, alloc, book, version, gate, &tickets, tasks, worker) },
+    );
+}
+
+/// So many workers, with passes that are cut from this one, after they have done the tasks of a round on a version that it froze.
+///
+/// # Errors
+/// Memory ran out.
+pub fn worked<R: Threads + Wait + Sync, G: Gate>(
+    rt: &R,
+    alloc: Global,
+    book: &SharedBook<Book>,
+    main: &mut Pass<Book>,
+    gate: &G,
+    count: u32,
+    version: &Version,
+    tasks: &[Task],
+) -> Result<Vec<Worker>, AllocError>
+    requires stands { Stands book.now.start }
+    requires hold { All (HoldsChunk version.now) tasks.now }
+    requires some { 0 < count }
+    requires pass { IsPass book.now main.old }
+    requires frozen { HasFrozen main.old version.now }
+    ensures same { main.new ≡ main.old }
+    ensures found { IfOk result (λ workers. All (λ worker. HasFound version.now tasks.now worker.1) workers.items) }
+{
+    let mut workers = hire(alloc, book, version, main, count)?;
+    let_work(
+        rt,
+        alloc,
+        book,
+        version,
+        gate,
+        tasks,
+        workers.as_mut_slice(),
+    );
+    Ok(workers)
 }
 
 /// Whether memory ran out for one of them.

@@ -4,7 +4,7 @@ use Rattle.command_app.specs.Line.{texts}
 use Rattle.command_line.specs.Line.{asked}
 use Rattle.endings.specs.Ending.{status_of, text_of}
 use Rattle.papilo.proofs.Quiet.{kept, quiet}
-use Rattle.papilo.proofs.Said.{ends_at, in_order, status_known, there, unwritten}
+use Rattle.papilo.proofs.Said.{ends_at, status_known, there, unwritten}
 use Rattle.papilo.proofs.run.run.Goals as goal
 
 pub returns-in-Ok-clause-answers : goal.returns-in-Ok-clause-answers
@@ -37,12 +37,6 @@ pub returns-in-Ok-clause-read : goal.returns-in-Ok-clause-read
 returns-in-Ok-clause-read g c = λ unread failed starved.
     let ending = c.ending_of-ending.result in
     there (asked (texts c.args.words.now)) (status_of ending) (text_of ending) _ _ c.ending_of-ending.ensures.ends (λ e. unread (c.status.ensures ∙ e)) (λ e. starved (c.status.ensures ∙ e))
-
-pub returns-in-Ok-clause-in_order : goal.returns-in-Ok-clause-in_order
-returns-in-Ok-clause-in_order g c = in_order (asked (texts c.args.words.now))
-
-pub returns-clause-in_order : goal.returns-clause-in_order
-returns-clause-in_order g c = in_order (asked (texts c.args.words.now))
 
 pub returns-clause-kept : goal.returns-clause-kept
 returns-clause-kept g c = kept (asked (texts c.args.words.now)) c.ending_of-ending.result _ _ c.ending_of-ending.ensures.ends

@@ -1,0 +1,62 @@
+//! A run of workers.
+
+ghost use Rattle.std.specs.Prelude.{◌≡◌, ◌<◌, ◌≤◌, ℕ, IfOk, IfSome, None};
+ghost use Rattle.std.specs.Thread.{IsSync};
+ghost use Rattle.undo_records.specs.declared.side.Side.{Side};
+ghost use Rattle.presolve_model.specs.Tallies.{tightenings};
+ghost use Rattle.round_laws.specs.Passing.{IsSameBook};
+ghost use Rattle.presolve_rounds.specs.Running.{EndsWith};
+
+use presolve_model::End;
+use presolve_rounds::{Onlooker, Swept, run_by, sweep};
+use std::alloc::{AllocError, Global};
+use std::sync::Wait;
+use std::thread::Threads;
+use threaded_passes::ByThreads;
+use txn_book::Book;
+use worker_gate::Gate;
+use worker_rounds::race;
+
+/// Rounds of workers, until nothing can be applied, a verdict was, or the limit is reached. Where a race has ended, one thread sweeps over
+/// everything; if that applies something, workers race again. Once their rounds are small, the run goes on in order. Gives the book that is
+/// left, and how the run ended: none where the book is decided.
+///
+/// # Errors
+/// Memory ran out. The book is dropped.
+pub fn run_racing<R: Threads + Wait + Sync, G: Gate, O: Onlooker>(
+    rt: &R,
+    alloc: Global,
+    book: Book,
+    gate: &G,
+    threads: u32,
+    onlooker: &mut O,
+) -> Result<(Book, Option<End>), AllocError>
+    requires able { IsSync R.row }
+    requires some { 0 < threads }
+    requires undecided { book.verdict ≡ None }
+    requires few { (j : ℕ) (side : Side) → tightenings book.records j side ≤ 10 }
+    ensures book { IfOk result (λ left. IsSameBook book left.0) }
+    ensures end { IfOk result (λ left. EndsWith left.1 left.0) }
+    ensures few { IfOk result (λ left. IfSome left.1 (λ _. (j : ℕ) (side : Side) → tightenings left.0.records j side ≤ 10)) }
+{
+    let passes = ByThreads::new(rt, threads);
+    let limit = book.limit();
+    let mut present = book;
+    for _ in rt.forever() {
+        let (raced, is_small) = race(rt, alloc, present, gate, threads)?;
+        present = raced;
+        onlooker.after_round(alloc, &present)?;
+        if present.verdict().is_some() {
+            return Ok((present, None));
+        }
+        if is_small || present.applied() >= limit {
+            let end = run_by(alloc, &passes, &mut present, onlooker)?;
+            return Ok((present, end));
+        }
+        match sweep(alloc, &passes, &mut present, onlooker)? {
+            Swept::Ended(end) => return Ok((present, end)),
+            Swept::Applied => {}
+        }
+    }
+    unreachable!()
+}
