@@ -1,9 +1,9 @@
 //! How far a run is, on standard error.
 
-use presolve_rounds::Onlooker;
+use run_report::presolve_rounds::Onlooker;
+use run_report::presolve_rounds::txn_book::Book;
 use run_report::sizes::SizeLog;
 use std::alloc::{AllocError, Global};
-use txn_book::Book;
 
 /// Keeps the sizes of a run's rounds, and tells of each round where that is wanted.
 #[derive(Drop)]

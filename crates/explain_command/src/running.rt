@@ -13,9 +13,9 @@ use endings::{ProgramError, ProgramFault, fault_line, form_of, read_program};
 use fault_look::push_look;
 use lp_model::Program;
 use presolve_model::{Options, Verdict};
-use rule_table::says_no_point;
 use run_report::counts::count_up;
 use run_report::look::look_into;
+use run_report::presolve_rounds::rule_table::says_no_point;
 use std::alloc::{AllocError, Global};
 
 /// What is printed, and the exit status.

@@ -21,10 +21,10 @@ use lp_gen::laws::generated_programs_have_points;
 use lp_model::Program;
 use presolve_model::{Options, Workers};
 use presolve_report::{Report, Size, report_for, report_of, size_of};
-use presolve_rounds::{Onlooker, Presolved, ReducedProgram};
 use std::alloc::{AllocError, Global};
 use std::thread::Threads;
 use threaded_passes::presolve;
+use threaded_passes::presolve_rounds::{Onlooker, Presolved, ReducedProgram};
 
 // The options of a presolve that is given none.
 fn default_options() -> Options

@@ -16,6 +16,7 @@ pub use finding::{add_enabled, instance_beside, lines_beside};
 pub use proposal::Proposal;
 pub use reading::{Differs, Reading};
 pub use reads::{numbers_for, reading_for};
+pub use rule_table;
 pub use scans::{scan, scan_at};
 pub use tally::Tally;
 pub use version::Version;

@@ -5,3 +5,5 @@
 #![tactic(auto)]
 
 pub mod run;
+
+pub use presolve_command::presolve_rounds;

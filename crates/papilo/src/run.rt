@@ -16,7 +16,7 @@ use gen_command::generate;
 use migrate_command::migrate;
 use postsolve_command::postsolve;
 use presolve_command::presolve;
-use presolve_rounds::Onlooker;
+use presolve_command::presolve_rounds::Onlooker;
 use std::alloc::Global;
 use std::sync::Wait;
 use std::thread::Threads;

@@ -1,9 +1,9 @@
 //! How far a presolve is, on standard error.
 
-use presolve_rounds::Onlooker;
+use papilo::presolve_rounds::Onlooker;
+use papilo::presolve_rounds::txn_book::Book;
 use sparse_problem::Problem;
 use std::alloc::{AllocError, Global};
-use txn_book::Book;
 
 /// So many rounds at first are told of one by one.
 const FIRST_ROUNDS: u64 = 10;

@@ -5,3 +5,4 @@ mod command;
 mod reduce;
 
 pub use command::presolve;
+pub use presolve_rounds;

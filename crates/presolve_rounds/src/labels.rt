@@ -12,8 +12,8 @@ use crate::source::Source;
 use entry_lines::Lines;
 use lp_model::{ColumnDef, RowDef};
 use problem_data::in_sense;
+use round_marks::txn_book::Book;
 use std::alloc::{AllocError, Global};
-use txn_book::Book;
 use undo_records::{Label, Records};
 
 /// The names of the rows, and which are live.

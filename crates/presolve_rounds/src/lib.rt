@@ -14,5 +14,7 @@ pub use onlooker::{NoOnlooker, Onlooker};
 pub use outcome::{DecidedProgram, Presolved, ReducedProgram};
 pub use passes::{InTurn, Passes};
 pub use reduce::{conclude, opened, presolve_by};
+pub use round_marks;
+pub use round_marks::{instances, rule_table, txn_book};
 pub use rounds::{Swept, run, run_by, sweep};
 pub use source::{Source, source_of};

@@ -1,7 +1,7 @@
 //! Who looks on at a run.
 
+use round_marks::txn_book::Book;
 use std::alloc::{AllocError, Global};
-use txn_book::Book;
 
 /// Is told of a run after each of its rounds, and at its end. It promises nothing but to return, so no result rests on it.
 pub trait Onlooker {

@@ -22,15 +22,15 @@ use instances::{add_enabled, instance_beside, lines_beside};
 use line_groups::Parallels;
 use presolve_model::{Instance, Outcome, Rule};
 use round_marks::around::Around;
-use round_marks::stamps::Stamps;
-use round_marks::watch::Watch;
-use rule_table::{
+use round_marks::rule_table::{
     goes_by_groups, head, is_enabled, parts_read, reduction_rules, shares_reading, verdict_rules,
 };
+use round_marks::stamps::Stamps;
+use round_marks::txn_book::Book;
+use round_marks::watch::Watch;
 use sparse_problem::Problem;
 use std::alloc::{AllocError, Global};
 use std::snapshot::Snapshot;
-use txn_book::Book;
 
 /// What a pass looks at beside the book: how the round began, and so the book, how many instances had been applied to it, how often each part
 /// had changed, and the groups of lines.

@@ -7,9 +7,9 @@ ghost use Rattle.presolve_rounds.specs.Walking.{begun, IsGoing, IsPassed, IsWalk
 
 use crate::pass::{Walk, pass};
 use round_marks::around::Around;
+use round_marks::txn_book::Book;
 use round_marks::watch::Watch;
 use std::alloc::{AllocError, Global};
-use txn_book::Book;
 
 /// A way to go over the instances of a round. Each of them does the same to a book, sooner or later.
 pub trait Passes {

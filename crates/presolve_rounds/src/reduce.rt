@@ -20,10 +20,10 @@ use crate::rounds::run_by;
 use crate::source::{Source, source_of};
 use lp_model::Program;
 use presolve_model::{End, Options, Workers};
-use rule_table::says_no_point;
+use round_marks::rule_table::says_no_point;
+use round_marks::txn_book::Book;
 use sparse_problem::Problem;
 use std::alloc::{AllocError, Global};
-use txn_book::Book;
 
 /// A book of a program's problem.
 pub fn opened(alloc: Global, program: &Program, options: &Options) -> Result<Book, AllocError>

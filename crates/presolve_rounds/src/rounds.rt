@@ -25,13 +25,13 @@ use line_groups::Parallels;
 use presolve_model::{End, Instance, Outcome, Part};
 use round_marks::around::Around;
 use round_marks::found::enabled_of;
+use round_marks::rule_table::{reduction_rules, verdict_rules};
 use round_marks::stamps::Stamps;
+use round_marks::txn_book::Book;
 use round_marks::watch::Watch;
-use rule_table::{reduction_rules, verdict_rules};
 use sparse_problem::Problem;
 use std::alloc::{AllocError, Global};
 use std::snapshot::Snapshot;
-use txn_book::Book;
 
 /// One round. Gives the rows and columns of the next, with what is marked.
 fn round<P: Passes>(

@@ -8,7 +8,7 @@ use Rattle.presolve_model.specs.Ordered.{Ordered}
 use Rattle.presolve_model.specs.Tallies.{tightenings}
 use Rattle.round_laws.specs.Passing.{IsSameBook}
 use Rattle.run_laws.proofs.TenTimes.{run_few}
-use Rattle.book_turns.specs.Turns.{GoesOn}
+use Rattle.worker_rounds.specs.Turns.{GoesOn}
 
 abbrev pub IsFew : Ledger → Type 0
 IsFew b = (j : ℕ) (side : Side) → tightenings b.records j side ≤ 10

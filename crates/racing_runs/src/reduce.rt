@@ -4,16 +4,16 @@ ghost use Rattle.std.specs.Prelude.{◌<◌, ◌^◌, length, IfOk};
 ghost use Rattle.std.specs.Thread.{IsSync};
 ghost use Rattle.lp_model.specs.Writable.{EntriesAscend, Writable};
 ghost use Rattle.presolve_model.specs.Workers.{IsInOrder};
-ghost use Rattle.presolve_rounds.specs.Conclusions.{Concludes};
+ghost use Rattle.threaded_passes.specs.Conclusions.{Concludes};
 
 use crate::run::run_racing;
 use lp_model::Program;
 use presolve_model::{Options, Workers};
-use presolve_rounds::{Onlooker, Presolved, conclude, opened, source_of};
 use std::alloc::{AllocError, Global};
 use std::sync::Wait;
 use std::thread::Threads;
 use threaded_passes::presolve as presolve_in_order;
+use threaded_passes::presolve_rounds::{Onlooker, Presolved, conclude, opened, source_of};
 use worker_gate::Gate;
 
 /// Reduces a program by workers that race.

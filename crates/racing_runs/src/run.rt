@@ -5,15 +5,15 @@ ghost use Rattle.std.specs.Thread.{IsSync};
 ghost use Rattle.undo_records.specs.declared.side.Side.{Side};
 ghost use Rattle.presolve_model.specs.Tallies.{tightenings};
 ghost use Rattle.round_laws.specs.Passing.{IsSameBook};
-ghost use Rattle.presolve_rounds.specs.Running.{EndsWith};
+ghost use Rattle.threaded_passes.specs.Running.{EndsWith};
 
 use presolve_model::End;
-use presolve_rounds::{Onlooker, Swept, run_by, sweep};
 use std::alloc::{AllocError, Global};
 use std::sync::Wait;
 use std::thread::Threads;
 use threaded_passes::ByThreads;
-use txn_book::Book;
+use threaded_passes::presolve_rounds::txn_book::Book;
+use threaded_passes::presolve_rounds::{Onlooker, Swept, run_by, sweep};
 use worker_gate::Gate;
 use worker_rounds::race;
 

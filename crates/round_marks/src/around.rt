@@ -13,10 +13,10 @@ use crate::ids::{add_across, bounds_of, columns_of, ids_below, rows_of, sides_of
 use crate::soles::{add_soles, add_soles_of_rows};
 use line_groups::Parallels;
 use presolve_model::{Part, Reach, Rule};
-use rule_table::reach_of;
 use sparse_problem::Problem;
 use std::alloc::{AllocError, Global};
 use std::marker::Model;
+use txn_book::rule_table::reach_of;
 
 /// Ids of rows and columns.
 #[derive(Drop)]

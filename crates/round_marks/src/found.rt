@@ -9,11 +9,11 @@ ghost use Rattle.presolve_model.specs.Tallies.{open_on};
 ghost use Rattle.place_laws.specs.Choosing.{instances_of};
 
 use crate::around::Around;
-use instances::{Tally, add_enabled};
 use line_groups::Parallels;
 use presolve_model::{Instance, Rule};
 use sparse_problem::Problem;
 use std::alloc::{AllocError, Global};
+use txn_book::instances::{Tally, add_enabled};
 
 /// Adds the enabled instances of a rule at these ids, those that are open.
 fn add_found(

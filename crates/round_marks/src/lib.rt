@@ -9,3 +9,6 @@ mod ids;
 mod soles;
 pub mod stamps;
 pub mod watch;
+
+pub use txn_book;
+pub use txn_book::{instances, rule_table};

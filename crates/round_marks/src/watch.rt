@@ -16,11 +16,11 @@ use crate::around::Around;
 use crate::forms::Forms;
 use line_groups::Parallels;
 use presolve_model::{Instance, Outcome, Part, Reach};
-use rule_table::{reach_of, rests_on_reading, rule_of};
 use sparse_problem::Problem;
 use std::alloc::{AllocError, Global};
 use std::marker::Model;
 use txn_book::Book;
+use txn_book::rule_table::{reach_of, rests_on_reading, rule_of};
 
 /// What is marked for the next round. Noted: parts that have changed, and a part of each instance that is left over. Stirred and
 /// roused: the same for the rules that look only at the form of ends, at columns and at rows, so parts of which what is seen lets them apply where

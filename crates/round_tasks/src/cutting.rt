@@ -6,10 +6,10 @@ ghost use Rattle.presolve_model.specs.Tallies.{open_on};
 ghost use Rattle.sorted_ids.specs.Ascending.{AscendsFrom};
 ghost use Rattle.round_tasks.specs.Cutting.{AddsAllTasks, AddsTasks, AreTasksOf, HasEachOf, IsCountBelow};
 
-use instances::{Chunk, Version, lines_beside};
 use presolve_model::Rule;
 use round_marks::around::Around;
-use rule_table::{goes_by_groups, reduction_rules, verdict_rules};
+use round_marks::instances::{Chunk, Version, lines_beside};
+use round_marks::rule_table::{goes_by_groups, reduction_rules, verdict_rules};
 use std::alloc::{AllocError, Global};
 use std::marker::Model;
 use worker_tasks::Task;

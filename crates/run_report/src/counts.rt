@@ -14,9 +14,9 @@ ghost use Rattle.run_report.specs.Rules.{all_rules, is_same};
 use crate::look::{Held, Run};
 use crate::rules::{all_rules, place_of};
 use presolve_model::{End, Instance, Outcome, Reduction, Rule, Verdict};
-use rule_table::rule_of;
+use presolve_rounds::rule_table::rule_of;
+use presolve_rounds::txn_book::Ended;
 use std::alloc::{AllocError, Global};
-use txn_book::Ended;
 
 /// How often a rule was applied, how many instances of it are refused at the end of the run, and how many are left that were not looked at.
 #[derive(Clone, Copy)]

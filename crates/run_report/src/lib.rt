@@ -9,3 +9,5 @@ pub mod named;
 pub mod rules;
 pub mod sizes;
 pub mod story;
+
+pub use presolve_rounds;

@@ -15,7 +15,7 @@ use fractions::ext::Ext;
 use fractions::frac::Frac;
 use lp_model::Program;
 use presolve_model::{Instance, Outcome};
-use rule_table::rule_of;
+use presolve_rounds::rule_table::rule_of;
 use sparse_problem::Problem;
 use std::alloc::{AllocError, Global};
 

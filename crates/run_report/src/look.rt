@@ -11,17 +11,17 @@ ghost use Rattle.run_report.specs.Holding.{AreHeld, HoldsBack, IsHeld};
 ghost use Rattle.run_report.specs.Story.{IsReplayed};
 ghost use Rattle.presolve_rounds.specs.Running.{EndsWith};
 
-use instances::Tally;
 use line_groups::Parallels;
 use lp_model::Program;
 use presolve_model::{End, Instance, Options, Outcome};
+use presolve_rounds::instances::Tally;
+use presolve_rounds::rule_table::reduction_rules;
+use presolve_rounds::txn_book::Book;
 use presolve_rounds::{Onlooker, opened, run};
 use round_marks::around::Around;
 use round_marks::found::enabled_of;
-use rule_table::reduction_rules;
 use sparse_problem::Problem;
 use std::alloc::{AllocError, Global};
-use txn_book::Book;
 
 /// An instance that is enabled at the end of a run, and the answer that the book gives to it.
 #[derive(Clone, Copy)]

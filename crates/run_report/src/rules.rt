@@ -4,7 +4,7 @@ ghost use Rattle.std.specs.Prelude.{◌≡◌, IfOk};
 ghost use Rattle.run_report.specs.Rules.{all_rules, code_of, name_of, place_of};
 
 use presolve_model::Rule;
-use rule_table::{reduction_rules, verdict_rules};
+use presolve_rounds::rule_table::{reduction_rules, verdict_rules};
 use std::alloc::{AllocError, Global};
 
 /// All rules: those of the verdicts, then those of the reductions, in instance order.

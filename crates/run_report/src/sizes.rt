@@ -6,9 +6,9 @@ ghost use Rattle.run_report.specs.Sizes.{size_at_start, size_in, with_round};
 
 use lp_model::{ColumnDef, Program};
 use presolve_rounds::Onlooker;
+use presolve_rounds::txn_book::Book;
 use sparse_problem::Problem;
 use std::alloc::{AllocError, Global};
-use txn_book::Book;
 
 /// How many rows, columns and entries there are.
 #[derive(Clone, Copy)]

@@ -15,10 +15,10 @@ use fractions::ext::Ext;
 use lp_model::Program;
 use presolve_model::{Instance, Options, Outcome, Reduction};
 use presolve_rounds::opened;
-use rule_table::is_enabled;
+use presolve_rounds::rule_table::is_enabled;
+use presolve_rounds::txn_book::Book;
 use sparse_problem::Problem;
 use std::alloc::{AllocError, Global};
-use txn_book::Book;
 use undo_records::Undo;
 
 /// A row's sides or a column's bounds, and whether it is there.

@@ -19,7 +19,7 @@ use Rattle.round_laws.specs.Passing.{ReadAlike}
 use Rattle.round_laws.proofs.Committing.{fresh_enables}
 use Rattle.round_laws.proofs.Sharing.{fresh_alike, read_alike}
 use Rattle.round_laws.proofs.Thinning.{passed_listed}
-use Rattle.round_marks.specs.Marking.{Watched}
+use Rattle.presolve_rounds.specs.Marking.{Watched}
 use Rattle.presolve_rounds.specs.Walking.{AreAlike, AreFresh, IsGoing, IsPassed}
 use Rattle.presolve_rounds.proofs.Running.{both_passed, goes_on, none_passed}
 use Rattle.presolve_rounds.proofs.Sharing.{Leads}

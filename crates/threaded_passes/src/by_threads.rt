@@ -14,11 +14,11 @@ use crate::sums::keep_sums_by_threads;
 use presolve_model::Rule;
 use presolve_rounds::Passes;
 use presolve_rounds::pass::{Walk, pass, visit_rules};
-use round_marks::around::Around;
-use round_marks::watch::Watch;
+use presolve_rounds::round_marks::around::Around;
+use presolve_rounds::round_marks::watch::Watch;
+use presolve_rounds::txn_book::Book;
 use std::alloc::{AllocError, Global};
 use std::thread::Threads;
-use txn_book::Book;
 
 /// Finds the enabled instances of a round by at most so many threads, and goes over what was found in one.
 #[derive(Drop)]

@@ -11,11 +11,11 @@ ghost use Rattle.threaded_passes.specs.Shares.{AreInTurn, IsListAt, IsShare, IsS
 
 use crate::pieces::{Piece, pieces_of};
 use crate::shares::firsts_of;
-use instances::{Tally, add_enabled};
 use line_groups::Parallels;
 use presolve_model::{Instance, Rule};
-use round_marks::around::Around;
-use round_marks::found::enabled_of;
+use presolve_rounds::instances::{Tally, add_enabled};
+use presolve_rounds::round_marks::around::Around;
+use presolve_rounds::round_marks::found::enabled_of;
 use sparse_problem::Problem;
 use std::alloc::{AllocError, Global};
 use std::thread::Threads;

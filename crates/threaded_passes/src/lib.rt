@@ -15,4 +15,5 @@ mod shares;
 mod sums;
 
 pub use by_threads::ByThreads;
+pub use presolve_rounds;
 pub use reduce::presolve;

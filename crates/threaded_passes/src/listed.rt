@@ -8,10 +8,10 @@ ghost use Rattle.threaded_passes.specs.Listing.{AreListed, IsListed, SharesRow};
 
 use presolve_model::{Instance, Reduction};
 use presolve_rounds::pass::{Walk, is_fresh, meet, meet_alike};
-use round_marks::watch::Watch;
-use rule_table::head;
+use presolve_rounds::round_marks::watch::Watch;
+use presolve_rounds::rule_table::head;
+use presolve_rounds::txn_book::Book;
 use std::alloc::{AllocError, Global};
-use txn_book::Book;
 
 /// Whether two instances are of one rule and one row whose instances share their reading.
 fn shares_row(first: Instance, other: Instance) -> bool

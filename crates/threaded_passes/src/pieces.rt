@@ -8,7 +8,7 @@ ghost use Rattle.place_laws.specs.Choosing.{instances_of};
 ghost use Rattle.threaded_passes.specs.Pieces.{of_pieces};
 
 use presolve_model::Rule;
-use round_marks::around::Around;
+use presolve_rounds::round_marks::around::Around;
 use sparse_problem::Problem;
 use std::alloc::{AllocError, Global};
 use std::marker::Model;

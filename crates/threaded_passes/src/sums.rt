@@ -7,11 +7,11 @@ ghost use Rattle.threaded_passes.specs.Sums.{AreSumsIn, AreSumsOrLost};
 use crate::pieces::LEAST_COST;
 use crate::shares::firsts_of;
 use kept_sums::KeptSums;
+use presolve_rounds::txn_book::Book;
 use sparse_problem::Problem;
 use std::alloc::{AllocError, Global};
 use std::thread::Threads;
 use thread_maps::map_in_threads;
-use txn_book::Book;
 
 /// Rows that are gone over at a time, by all threads. Their sums are held until they are put in place.
 const ROWS: usize = 4096;

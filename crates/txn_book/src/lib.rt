@@ -7,3 +7,5 @@ mod row_lists;
 mod sharing;
 
 pub use book::{Book, Ended};
+pub use instances;
+pub use instances::rule_table;

@@ -10,10 +10,10 @@ use crate::workers::Worker;
 use instances::Version;
 use presolve_model::Instance;
 use round_marks::around::Around;
+use round_marks::rule_table::head;
 use round_marks::stamps::Stamps;
 use round_marks::watch::Watch;
 use round_tasks::changed_parts;
-use rule_table::head;
 use std::alloc::{AllocError, Global};
 
 /// Marks a part of each of these instances.

@@ -13,13 +13,13 @@ ghost use Rattle.worker_tasks.specs.Tasks.{AreCommitted, found_of, HoldsChunk};
 ghost use Rattle.worker_tasks.specs.Work.{instances_in};
 
 use crate::work::Work;
-use instances::{Chunk, Proposal, Version, scan_at};
 use presolve_model::{Outcome, Rule};
 use shared_book::{Pass, SharedBook};
 use std::alloc::{AllocError, Global};
 use std::marker::Model;
 use std::sync::Wait;
 use txn_book::Book;
+use txn_book::instances::{Chunk, Proposal, Version, scan_at};
 
 /// Some first ids of a rule, all of them in one chunk.
 #[derive(Drop)]

@@ -1,6 +1,6 @@
 use Rattle.std.proofs.Common.{◌<◌, ◌^◌, length, sym, ◌∙◌, subst, arith}
-use Rattle.presolve_rounds.specs.declared.rounds.Swept.{Swept}
-use Rattle.presolve_rounds.specs.Running.{SweepsFrom}
+use Rattle.threaded_passes.specs.Swept.{Swept}
+use Rattle.threaded_passes.specs.Running.{SweepsFrom}
 use Rattle.run_laws.proofs.TenTimes.{round_few}
 use Rattle.racing_runs.proofs.Few.{any_few, end_few, same_on, same_twice}
 use Rattle.racing_runs.proofs.run.run_racing.Goals as goal
