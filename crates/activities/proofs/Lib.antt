@@ -1,4 +1,5 @@
 pub mod Halving
+pub mod Infinite
 pub mod Pieces
 pub mod Turned
 pub mod Told

@@ -1,9 +1,9 @@
--- A side that is kept with the entry at a place at its other end.
+-- A side that tells of no better bound of the column of the entry at a place.
 use Rattle.std.proofs.Common.{◌≡◌, ℕ, ◌+◌, ◌<◌, ◌++◌, ◌∷◌, List, Option, Result, length, get_or, take, drop, sym, ap, ◌∙◌, subst}
 use Rattle.rational.specs.Number.{Number}
 use Rattle.fractions.specs.declared.Past.{Past}
 use Rattle.kept_sums.specs.CommonSums.{IsCommonSum}
-use Rattle.kept_sums.specs.KeptSides.{EndKept}
+use Rattle.kept_sums.specs.KeptSides.{IsQuiet}
 use Rattle.kept_sums.specs.declared.common.CommonSum.{CommonSum}
 use Rattle.row_spans.specs.declared.span.Span.{Span}
 use Rattle.row_spans.specs.declared.span.Extreme.{Extreme}
@@ -13,11 +13,11 @@ use Rattle.kept_sums.proofs.Mended.{ends_at-++}
 use Rattle.kept_sums.proofs.Replaced.{span_read, span_there}
 use Rattle.activities.proofs.Pieces.{ends_all_at, others_place}
 
--- it is kept beside the rest without that entry's column
-pub kept_there : (x : Extreme) (ss : List Span) (k : ℕ) (r : Span) (s : CommonSum) (side : Option Number) → AreSpans 0 ss → k < length ss → r ≡ get_or ss k r → IsCommonSum (ends_at x ss) s
-    → ((a b : List (Option Number)) → IsCommonSum (a ++ end_at x r ∷ b) s → EndKept x side r (row_sum (a ++ b))) → EndKept x side (span_at ss k) (rest x (span_at ss k).id ss)
-kept_there x ss k r s side spans inside is sum keeps = subst (λ (t : Result (Option Number) Past). EndKept x side (span_at ss k) t) (sym (ap (activity x) (others_place ss k spans inside) ∙ same))
-    (subst (λ (t : Span). EndKept x side t (row_sum (before ++ after))) read (keeps before after all))
+-- it tells of none beside the rest without that entry's column
+pub quiet_there : (x : Extreme) (ss : List Span) (k : ℕ) (r : Span) (s : CommonSum) (side : Option Number) → AreSpans 0 ss → k < length ss → r ≡ get_or ss k r → IsCommonSum (ends_at x ss) s
+    → ((a b : List (Option Number)) → IsCommonSum (a ++ end_at x r ∷ b) s → IsQuiet x side r (row_sum (a ++ b))) → IsQuiet x side (span_at ss k) (rest x (span_at ss k).id ss)
+quiet_there x ss k r s side spans inside is sum keeps = subst (λ (t : Result (Option Number) Past). IsQuiet x side (span_at ss k) t) (sym (ap (activity x) (others_place ss k spans inside) ∙ same))
+    (subst (λ (t : Span). IsQuiet x side t (row_sum (before ++ after))) read (keeps before after all))
   where
     read : r ≡ span_at ss k
     read = span_read ss k r inside is

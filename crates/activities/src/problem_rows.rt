@@ -138,6 +138,10 @@ fn told_without(
     ensures { IfSome result (λ e. activity extreme (others column (spans_with problem.now row)) ≡ Ok e) }
 {
     problem.is_sparse();
+    // Where two terms are infinite, one is left without the column.
+    if sum.infinite > 1 {
+        return Some(Ext::none());
+    }
     let span = span_at(problem, row, column)?;
     told_rest(sum, extreme, &span)
 }

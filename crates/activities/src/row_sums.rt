@@ -1,13 +1,13 @@
 //! The sums of one row, made in one pass.
 
-ghost use Rattle.std.specs.Prelude.{◌≡◌, ◌<◌, ◌+◌, ◌++◌, length, take, drop, List, IfOk, IfSome, IsTrue, Ok, Some};
+ghost use Rattle.std.specs.Prelude.{◌≡◌, ◌<◌, ◌+◌, ◌++◌, false, length, take, drop, List, IfOk, IfSome, IsTrue, Ok, Some};
 ghost use Rattle.rational.specs.Number.{zero_ℚ};
 ghost use Rattle.activities.specs.Kept.{IsKept};
 ghost use Rattle.kept_sums.specs.CommonSums.{IsCommonSum};
 ghost use Rattle.activities.specs.Prefixes.{sums_before as all_before};
 ghost use Rattle.row_spans.specs.RowSums.{activity as activity_by, rest as rest_without, row_sum, sum_from as sum_on};
 ghost use Rattle.row_spans.specs.Spans.{AreSpans, end_at, ends_at, span_at, spans_of as spans_with};
-ghost use Rattle.kept_sums.specs.KeptSides.{EndKept, KeepsTurned};
+ghost use Rattle.kept_sums.specs.KeptSides.{IsQuiet};
 ghost use Rattle.kept_sums.specs.KeptSums.{AreSumsOf};
 ghost use Rattle.row_spans.specs.declared.span.Span.{Span as SpanValue};
 ghost use Rattle.row_spans.specs.declared.span.Extreme.TheVariants as extreme_of;
@@ -19,7 +19,7 @@ use fractions::Past;
 use fractions::ext::Ext;
 use fractions::frac::Frac;
 use kept_sums::{
-    CommonSum, KeptSums, common_sum, keeps_both, keeps_turned, told_activity, told_rest,
+    CommonSum, KeptSums, QuietSides, common_sum, quiet_sides, told_activity, told_rest,
 };
 use row_spans::{Extreme, Span};
 use sparse_problem::Problem;
@@ -138,52 +138,34 @@ fn common_rest(sum: &CommonSum, extreme: Extreme, spans: &[Span], place: usize) 
     told_rest(sum, extreme, &spans[place])
 }
 
-/// Whether the rest by a sum of all keeps a side with the entry at its other end beside it.
-fn common_keeps(
-    sum: &CommonSum,
-    extreme: Extreme,
-    spans: &[Span],
-    place: usize,
-    side: &Frac,
-) -> bool
-    requires spans { AreSpans 0 spans.now }
-    requires sum { IsCommonSum (ends_at extreme spans.now) sum.now }
-    requires place { place < length spans.now }
-    ensures { IsTrue result → KeepsTurned extreme side.now (span_at spans.now place) (rest_without extreme (span_at spans.now place).id spans.now) }
-{
-    keeps_turned(sum, extreme, &spans[place], side)
-}
-
-/// The same, where a sum of all tells.
-fn keeps_with(kept: &Kept, extreme: Extreme, spans: &[Span], place: usize, side: &Frac) -> bool
-    requires spans { AreSpans 0 spans.now }
-    requires kept { IsKept (ends_at extreme spans.now) kept.now }
-    requires place { place < length spans.now }
-    ensures { IsTrue result → KeepsTurned extreme side.now (span_at spans.now place) (rest_without extreme (span_at spans.now place).id spans.now) }
-{
-    match kept {
-        Kept::Common(sum) => common_keeps(sum, extreme, spans, place, side),
-        Kept::Before(_) => false,
-    }
-}
-
-/// Whether the rests by sums of all keep both sides, where these are finite, with the entry at its other end beside them.
-fn common_keep_both(
+/// Which sides tell of no better bound of the column of an entry, by sums of all.
+fn common_quiet_sides(
     least: &CommonSum,
     greatest: &CommonSum,
     spans: &[Span],
     place: usize,
     lower: &Ext,
     upper: &Ext,
-) -> bool
+) -> QuietSides
     requires spans { AreSpans 0 spans.now }
     requires least { IsCommonSum (ends_at extreme_of.Least spans.now) least.now }
     requires greatest { IsCommonSum (ends_at extreme_of.Greatest spans.now) greatest.now }
     requires place { place < length spans.now }
-    ensures below { IsTrue result → EndKept extreme_of.Greatest lower.now (span_at spans.now place) (rest_without extreme_of.Greatest (span_at spans.now place).id spans.now) }
-    ensures above { IsTrue result → EndKept extreme_of.Least upper.now (span_at spans.now place) (rest_without extreme_of.Least (span_at spans.now place).id spans.now) }
+    ensures lower { IsTrue result.lower → IsQuiet extreme_of.Greatest lower.now (span_at spans.now place) (rest_without extreme_of.Greatest (span_at spans.now place).id spans.now) }
+    ensures upper { IsTrue result.upper → IsQuiet extreme_of.Least upper.now (span_at spans.now place) (rest_without extreme_of.Least (span_at spans.now place).id spans.now) }
 {
-    keeps_both(least, greatest, &spans[place], lower, upper)
+    quiet_sides(least, greatest, &spans[place], lower, upper)
+}
+
+/// None is told to be so.
+fn no_quiet_sides() -> QuietSides
+    ensures lower { result.lower ≡ false }
+    ensures upper { result.upper ≡ false }
+{
+    QuietSides {
+        lower: false,
+        upper: false,
+    }
 }
 
 /// The sum before a place, of those before each term.
@@ -309,32 +291,21 @@ impl RowSums {
         }
     }
 
-    /// Whether the rest keeps a side, the lower one with the greatest and the upper one with the least, with the entry at its other end
-    /// beside it. This takes one comparison of integers; it is `false` also where the row's sum does not tell.
-    pub fn keeps(&self, extreme: Extreme, place: usize, side: &Frac) -> bool
-        requires { place < length self.now }
-        ensures { IsTrue result → KeepsTurned extreme side.now (span_at self.now place) (rest_without extreme (span_at self.now place).id self.now) }
-    {
-        let spans = self.spans.as_slice();
-        match extreme {
-            Extreme::Least => keeps_with(&self.least, extreme, spans, place, side),
-            Extreme::Greatest => keeps_with(&self.greatest, extreme, spans, place, side),
-        }
-    }
-    /// Whether the greatest rest keeps the lower side and the least one the upper side, where these are finite, with the entry at its other
-    /// end beside it. This takes two comparisons of integers; it is `false` also where the row's sums do not tell.
-    pub fn keeps_both(&self, place: usize, lower: &Ext, upper: &Ext) -> bool
+    /// Which sides of the row, of these, tell of no better bound of the column of an entry: they are infinite, or kept with the entry at its
+    /// other end beside the rest that goes with them, the lower one with the greatest and the upper one with the least, or that is infinite.
+    /// This takes a comparison of integers each; it is `false` also where the row's sums do not tell.
+    pub fn quiet_sides(&self, place: usize, lower: &Ext, upper: &Ext) -> QuietSides
         requires { place < length self.now }
         ensures spans { AreSpans 0 self.now }
-        ensures below { IsTrue result → EndKept extreme_of.Greatest lower.now (span_at self.now place) (rest_without extreme_of.Greatest (span_at self.now place).id self.now) }
-        ensures above { IsTrue result → EndKept extreme_of.Least upper.now (span_at self.now place) (rest_without extreme_of.Least (span_at self.now place).id self.now) }
+        ensures lower { IsTrue result.lower → IsQuiet extreme_of.Greatest lower.now (span_at self.now place) (rest_without extreme_of.Greatest (span_at self.now place).id self.now) }
+        ensures upper { IsTrue result.upper → IsQuiet extreme_of.Least upper.now (span_at self.now place) (rest_without extreme_of.Least (span_at self.now place).id self.now) }
     {
         let Kept::Common(least) = &self.least else {
-            return false;
+            return no_quiet_sides();
         };
         let Kept::Common(greatest) = &self.greatest else {
-            return false;
+            return no_quiet_sides();
         };
-        common_keep_both(least, greatest, self.spans.as_slice(), place, lower, upper)
+        common_quiet_sides(least, greatest, self.spans.as_slice(), place, lower, upper)
     }
 }

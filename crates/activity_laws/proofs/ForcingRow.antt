@@ -24,7 +24,7 @@ use Rattle.lp_theory.proofs.ActivityLaws.{lt_true, lt_false}
 use Rattle.lp_rows.specs.ForcingRow.{IsForcedAtLowerSide, IsForcedAtUpperSide, IsUncrossed, forced_at_lower_side, forced_at_upper_side, lower_at_greatest, lower_at_least, upper_at_greatest, upper_at_least}
 use Rattle.lp_rows.proofs.ForcingRow.{forced_at_lower_side_keeps, forced_at_upper_side_keeps}
 use Rattle.undo_records.specs.declared.side.Side.TheVariants.{Lower, Upper}
-use Rattle.undo_pairs.specs.LiftPair.{undone_pair}
+use Rattle.pair_laws.specs.LiftPair.{undone_pair}
 use Rattle.pair_laws.proofs.RowPairs.{forced_lower_pair, forced_upper_pair}
 use Rattle.problem_model.specs.declared.edit.Edit.{Edit}
 use Rattle.problem_model.specs.declared.edit.Edit.TheVariants.{DeleteRow}

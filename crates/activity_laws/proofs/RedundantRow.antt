@@ -8,7 +8,7 @@ use Rattle.lp_model.specs.Edits.{without_row}
 use Rattle.lp_theory.specs.Activities.{least, greatest}
 use Rattle.lp_rows.specs.RedundantRow.{IsRedundantRow}
 use Rattle.lp_rows.proofs.RedundantRow.{row_kept}
-use Rattle.undo_pairs.specs.LiftPair.{undone_pair}
+use Rattle.pair_laws.specs.LiftPair.{undone_pair}
 use Rattle.pair_laws.proofs.RowPairs.{redundant_row_pair}
 use Rattle.problem_model.specs.declared.edit.Edit.TheVariants.{DeleteRow}
 use Rattle.problem_model.specs.Problems.{row_at, sides_at, IsSparse}

@@ -9,7 +9,7 @@ use Rattle.lp_model.specs.Ends.{IsSided}
 use Rattle.lp_theory.specs.Activities.{least, greatest}
 use Rattle.lp_rows.specs.RedundantSide.{IsRedundantLowerSide, IsRedundantUpperSide, lower_side_dropped, upper_side_dropped}
 use Rattle.lp_rows.proofs.RedundantSide.{lower_side_kept, upper_side_kept}
-use Rattle.undo_pairs.specs.LiftPair.{undone_pair}
+use Rattle.pair_laws.specs.LiftPair.{undone_pair}
 use Rattle.pair_laws.proofs.RowPairs.{lower_side_pair, upper_side_pair}
 use Rattle.problem_model.specs.declared.edit.Edit.TheVariants.{SetSides}
 use Rattle.problem_model.specs.EditedPrograms.{programs_edited}

@@ -1,5 +1,5 @@
 -- Where a row keeps its side with a column at its other end, it implies no better bound.
-use Rattle.std.proofs.Common.{◌≡◌, ◌≢◌, ℕ, Bool, true, false, not, [], ◌∷◌, List, Option, Some, None, Result, Ok, refl, sym, ap, ap₂, ◌∙◌, ◌++◌, append-nil, subst}
+use Rattle.std.proofs.Common.{◌≡◌, ◌≢◌, inl, inr, ℕ, Bool, true, false, not, [], ◌∷◌, List, Option, Some, None, Result, Ok, refl, sym, ap, ◌∙◌, ◌++◌, append-nil, subst}
 use Rattle.std.specs.Prelude.{if◌then◌else◌}
 use Rattle.rational.specs.Number.{Number, zero_ℚ, ◌+ℚ◌, ◌-ℚ◌, ◌*ℚ◌, neg_ℚ}
 use Rattle.rational.specs.Order.{◌≤ℚ◌, ◌<ℚ◌}
@@ -21,12 +21,13 @@ use Rattle.row_spans.specs.declared.span.Span.{Span}
 use Rattle.row_spans.specs.declared.span.Extreme.{Extreme}
 use Rattle.row_spans.specs.declared.span.Extreme.TheVariants.{Least, Greatest}
 use Rattle.row_spans.specs.Exact.{fits, sum_fits, if_room}
-use Rattle.kept_sums.specs.KeptSides.{EndKept, Keeps, opposite}
+use Rattle.kept_sums.specs.KeptSides.{EndKept, IsQuiet, Keeps, KeepsTurned, opposite}
 use Rattle.row_spans.specs.RowSums.{rest}
 use Rattle.row_spans.specs.Spans.{end_at}
 use Rattle.activity_laws.specs.BoundTightening.{if_made, implied, is_better, left_over, old_bound, over_entry}
 use Rattle.activities.specs.Rows.{source_of}
-use Rattle.activity_rules.specs.Tightened.{bound_if, is_tight, IsSlack}
+use Rattle.activity_rules.specs.Tightened.{AreQuiet, bound_if, is_below, is_tight}
+use Rattle.kept_sums.specs.declared.kept_sides.QuietSides.{QuietSides}
 
 none_better : (side : Side) (old : Option Number) → is_better side old None ≡ false
 none_better Lower old = refl
@@ -96,7 +97,7 @@ module _ (s : Span) (b t q : Number) where
       let m = scaled_is s.value s.upper t (sym (term_neg s.value s.lower s.upper e h) ∙ f) in
       upper_not m.0 m.1 (high_neg s.value m.0 (b -ℚ q) h (subst (λ z. (b -ℚ q) ≤ℚ z) m.2 (left_below b q t k)))
 
-pub slack_is_not_better : (side : Side) (x : Extreme) (s : Span) (ss : List Span) (b : Number) → s.value ≢ zero_ℚ → x ≡ source_of side (lt_ℚ zero_ℚ s.value) → IsSlack x b s ss
+pub slack_is_not_better : (side : Side) (x : Extreme) (s : Span) (ss : List Span) (b : Number) → s.value ≢ zero_ℚ → x ≡ source_of side (lt_ℚ zero_ℚ s.value) → KeepsTurned x b s (rest x s.id ss)
     → is_better side (old_bound side s.lower s.upper) (left_over s.value (Some b) (rest x s.id ss)) ≡ false
 slack_is_not_better side x s ss b n e h =
     let k = h.2 in
@@ -105,32 +106,32 @@ slack_is_not_better side x s ss b n e h =
     (subst (λ (y : Extreme). end_at (opposite y) s ≡ Some h.0) e h.1)
     (subst (λ (y : Extreme). Keeps y b (k.0 +ℚ h.0)) e k.2)
 
--- the same of an entry that was read
-pub slack_is_not_tight : (side : Side) (sides : Sides) (ss : List Span) (s t : Span) (x : Extreme) (end : Option Number) (b : Number) → t ≡ s → t.value ≢ zero_ℚ
-    → ((j : ℕ) (us : List Span) → left_over t.value end (rest x j us) ≡ implied side j t.value sides.lower sides.upper us) → x ≡ source_of side (lt_ℚ zero_ℚ t.value) → end ≡ Some b → IsSlack x b s ss
-    → is_tight sides ss s side ≡ false
-slack_is_not_tight side sides ss s t x end b f n h e g k =
-    ap (is_better side (old_bound side s.lower s.upper)) (sym (subst (λ (r : Span). left_over r.value end (rest x s.id ss) ≡ implied side s.id r.value sides.lower sides.upper ss) f (h s.id ss)))
-    ∙ ap (λ (o : Option Number). is_better side (old_bound side s.lower s.upper) (left_over s.value o (rest x s.id ss))) g
-    ∙ slack_is_not_better side x s ss b (subst (λ (r : Span). r.value ≢ zero_ℚ) f n) (subst (λ (r : Span). x ≡ source_of side (lt_ℚ zero_ℚ r.value)) f e) k
-
 -- ---- both sides, as far as they are finite
 end_not_better : (side : Side) (x : Extreme) (s : Span) (ss : List Span) (o : Option Number) → s.value ≢ zero_ℚ → x ≡ source_of side (lt_ℚ zero_ℚ s.value) → EndKept x o s (rest x s.id ss)
     → is_better side (old_bound side s.lower s.upper) (left_over s.value o (rest x s.id ss)) ≡ false
 end_not_better side x s ss None n e h = none_better side (old_bound side s.lower s.upper)
 end_not_better side x s ss (Some b) n e h = slack_is_not_better side x s ss b n e h
 
-pub kept_not_tight : (sides : Sides) (ss : List Span) (s : Span) → s.value ≢ zero_ℚ → EndKept Greatest sides.lower s (rest Greatest s.id ss) → EndKept Least sides.upper s (rest Least s.id ss) → (side : Side) → is_tight sides ss s side ≡ false
-kept_not_tight sides ss s n g l Lower = by (lt_ℚ zero_ℚ s.value) refl
+quiet_not_better : (side : Side) (x : Extreme) (s : Span) (ss : List Span) (o : Option Number) → s.value ≢ zero_ℚ → x ≡ source_of side (lt_ℚ zero_ℚ s.value) → IsQuiet x o s (rest x s.id ss)
+    → is_better side (old_bound side s.lower s.upper) (left_over s.value o (rest x s.id ss)) ≡ false
+quiet_not_better side x s ss o n e (inl h) = end_not_better side x s ss o n e h
+quiet_not_better side x s ss o n e (inr h) = ap (λ (r : Result (Option Number) Past). is_better side (old_bound side s.lower s.upper) (left_over s.value o r)) h ∙ none_left o
   where
-    by : (c : Bool) → lt_ℚ zero_ℚ s.value ≡ c → is_better Lower (old_bound Lower s.lower s.upper) (if c then left_over s.value sides.lower (rest Greatest s.id ss) else left_over s.value sides.upper (rest Least s.id ss)) ≡ false
-    by true e = end_not_better Lower Greatest s ss sides.lower n (sym (ap (source_of Lower) e)) g
-    by false e = end_not_better Lower Least s ss sides.upper n (sym (ap (source_of Lower) e)) l
-kept_not_tight sides ss s n g l Upper = by (lt_ℚ zero_ℚ s.value) refl
-  where
-    by : (c : Bool) → lt_ℚ zero_ℚ s.value ≡ c → is_better Upper (old_bound Upper s.lower s.upper) (if c then left_over s.value sides.upper (rest Least s.id ss) else left_over s.value sides.lower (rest Greatest s.id ss)) ≡ false
-    by true e = end_not_better Upper Least s ss sides.upper n (sym (ap (source_of Upper) e)) l
-    by false e = end_not_better Upper Greatest s ss sides.lower n (sym (ap (source_of Upper) e)) g
+    none_left : (o : Option Number) → is_better side (old_bound side s.lower s.upper) (left_over s.value o (Ok None)) ≡ false
+    none_left None = none_better side (old_bound side s.lower s.upper)
+    none_left (Some b) = none_better side (old_bound side s.lower s.upper)
 
-pub none_more : (x : List (ℕ × Side)) (a b : Bool) (j : ℕ) → a ≡ false → b ≡ false → x ≡ x ++ (bound_if a j Lower ++ bound_if b j Upper)
-none_more x a b j e f = sym (append-nil x) ∙ ap₂ (λ (y z : Bool). x ++ (bound_if y j Lower ++ bound_if z j Upper)) (sym e) (sym f)
+pub quiet_not_tight : (sides : Sides) (ss : List Span) (s : Span) (q : QuietSides) → s.value ≢ zero_ℚ → AreQuiet sides ss s q → (side : Side) → (if is_below side (lt_ℚ zero_ℚ s.value) then q.lower else q.upper) ≡ true → is_tight sides ss s side ≡ false
+quiet_not_tight sides ss s q n a Lower t = by (lt_ℚ zero_ℚ s.value) refl t
+  where
+    by : (c : Bool) → lt_ℚ zero_ℚ s.value ≡ c → (if c then q.lower else q.upper) ≡ true → is_better Lower (old_bound Lower s.lower s.upper) (if c then left_over s.value sides.lower (rest Greatest s.id ss) else left_over s.value sides.upper (rest Least s.id ss)) ≡ false
+    by true e t = quiet_not_better Lower Greatest s ss sides.lower n (sym (ap (source_of Lower) e)) (a.lower t)
+    by false e t = quiet_not_better Lower Least s ss sides.upper n (sym (ap (source_of Lower) e)) (a.upper t)
+quiet_not_tight sides ss s q n a Upper t = by (lt_ℚ zero_ℚ s.value) refl t
+  where
+    by : (c : Bool) → lt_ℚ zero_ℚ s.value ≡ c → (if not c then q.lower else q.upper) ≡ true → is_better Upper (old_bound Upper s.lower s.upper) (if c then left_over s.value sides.upper (rest Least s.id ss) else left_over s.value sides.lower (rest Greatest s.id ss)) ≡ false
+    by true e t = quiet_not_better Upper Least s ss sides.upper n (sym (ap (source_of Upper) e)) (a.upper t)
+    by false e t = quiet_not_better Upper Greatest s ss sides.lower n (sym (ap (source_of Upper) e)) (a.lower t)
+
+pub none_added : (x : List (ℕ × Side)) (a : Bool) (j : ℕ) (side : Side) → a ≡ false → x ≡ x ++ bound_if a j side
+none_added x a j side e = sym (append-nil x) ∙ ap (λ (y : Bool). x ++ bound_if y j side) (sym e)

@@ -1,5 +1,5 @@
 -- The bounds that a row implies, by its entries with the bounds of their columns.
-use Rattle.std.specs.Prelude.{ℕ, Bool, true, false, ◌&&◌, ◌||◌, Option, Some, None, List, [], ◌∷◌, ◌++◌, if◌then◌else◌}
+use Rattle.std.specs.Prelude.{◌≡◌, ℕ, Bool, true, false, not, ◌&&◌, ◌||◌, Option, Some, None, List, [], ◌∷◌, ◌++◌, if◌then◌else◌}
 use Rattle.std.specs.List.{flat_map}
 use Rattle.undo_records.specs.declared.side.Side.{Side}
 use Rattle.undo_records.specs.declared.side.Side.TheVariants.{Lower, Upper}
@@ -10,7 +10,8 @@ use Rattle.row_spans.specs.declared.span.Span.{Span}
 use Rattle.rational.specs.Number.{Number}
 use Rattle.row_spans.specs.declared.span.Extreme.{Extreme}
 use Rattle.row_spans.specs.declared.span.Extreme.TheVariants.{Least, Greatest}
-use Rattle.kept_sums.specs.KeptSides.{KeepsTurned}
+use Rattle.kept_sums.specs.KeptSides.{IsQuiet}
+use Rattle.kept_sums.specs.declared.kept_sides.QuietSides.{QuietSides}
 use Rattle.row_spans.specs.RowSums.{all_finite, rest}
 use Rattle.row_spans.specs.Spans.{ends_at, spans_of}
 use Rattle.activity_laws.specs.BoundTightening.{has_two, implied, is_better, new_bound, old_bound}
@@ -55,6 +56,12 @@ may_tell extreme (Some b) ss = at_most_one_infinite (ends_at extreme ss)
 abbrev pub may_tighten : Sides → List Span → Bool
 may_tighten b ss = may_tell Greatest b.lower ss || may_tell Least b.upper ss
 
--- the row keeps a side with the entry's column at its other end beside the rest that goes with the side
-abbrev pub IsSlack : Extreme → Number → Span → List Span → Type 0
-IsSlack extreme side s ss = KeepsTurned extreme side s (rest extreme s.id ss)
+-- a bound of a column with a positive entry follows from the side of its own name, and else from the other one
+abbrev pub is_below : Side → Bool → Bool
+is_below Lower positive = positive
+is_below Upper positive = not positive
+
+-- the sides that are told to be quiet tell of no better bound of an entry's column, beside the rests that go with them
+pub record AreQuiet (b : Sides) (ss : List Span) (s : Span) (q : QuietSides) : Type 0 where
+  pub lower : q.lower ≡ true → IsQuiet Greatest b.lower s (rest Greatest s.id ss)
+  pub upper : q.upper ≡ true → IsQuiet Least b.upper s (rest Least s.id ss)

@@ -1,21 +1,23 @@
 //! K8: a bound of a column becomes the one that a row implies with the bounds of its other columns, where that is a better one.
 
-ghost use Rattle.std.specs.Prelude.{◌≡◌, ◌≢◌, ◌<◌, ◌++◌, true, false, length, IfOk, IsTrue, OnOk};
+ghost use Rattle.std.specs.Prelude.{◌≡◌, ◌≢◌, ◌<◌, ◌++◌, true, length, if◌then◌else◌, IfOk, OnOk};
 ghost use Rattle.std.specs.List.{filter};
 ghost use Rattle.rational.specs.Number.{zero_ℚ};
+ghost use Rattle.rational.specs.Compare.{lt_ℚ};
 ghost use Rattle.lp_model.specs.Sparse.{has};
 ghost use Rattle.problem_model.specs.Problems.{bounds_at, row_at, row_entries, sides_at};
 ghost use Rattle.rule_words.specs.Answers.{Changes};
 ghost use Rattle.row_spans.specs.Spans.{span_at, spans_of};
 ghost use Rattle.activity_laws.specs.BoundTightening.{bound_set, bounds_of, enabled, edits, has_two, implied, new_bound as new_by, old_bound as old_by, record_of, Computes};
-ghost use Rattle.undo_records.specs.declared.side.Side.{Side as SideValue};
-ghost use Rattle.activity_rules.specs.Tightened.{bound_if, found_among, found_at, gets_better as bound_gets_better, is_looked_at as row_is_looked_at, is_tight as is_tight_by};
+ghost use Rattle.activity_rules.specs.Tightened.{AreQuiet, bound_if, found_among, found_at, gets_better as bound_gets_better, is_below, is_looked_at as row_is_looked_at, is_tight as is_tight_by};
 
 use crate::infinite_ends::may_tighten;
 use activities::row_bounds::{is_better, left_over, old_bound, source};
 use activities::rows::is_uncrossed;
 use activities::{RowSums, entry_of, rest_of};
 use fractions::ext::Ext;
+use fractions::frac::Frac;
+use kept_sums::QuietSides;
 use problem_model::{Edit, Refusal, Sides};
 use row_spans::{Extreme, Span};
 use rule_words::Change;
@@ -185,27 +187,6 @@ fn implied_at(sums: &RowSums, sides: &Sides, place: usize, side: Side) -> Ext
     left_over(&span.value, &end, sums.rest(extreme, place))
 }
 
-/// Whether one comparison of integers tells that the row implies no better bound for the column of that entry.
-fn is_slack(sums: &RowSums, sides: &Sides, place: usize, side: Side) -> bool
-    requires { place < length sums.now }
-    ensures { IsTrue result → is_tight_by sides.now sums.now (span_at sums.now place) side ≡ false }
-{
-    let span = span_of(sums, place);
-    let (extreme, end) = source(side, &span.value, sides);
-    match end.number() {
-        None => false,
-        Some(number) => sums.keeps(extreme, place, &number),
-    }
-}
-
-/// Whether two comparisons of integers tell that the row implies no better bound, neither a lower nor an upper one, for that column.
-fn is_slack_at_both(sums: &RowSums, sides: &Sides, place: usize) -> bool
-    requires { place < length sums.now }
-    ensures { (side : SideValue) → IsTrue result → is_tight_by sides.now sums.now (span_at sums.now place) side ≡ false }
-{
-    sums.keeps_both(place, &sides.lower, &sides.upper)
-}
-
 /// Whether the implied bound is better than the column's own.
 fn is_tight(sums: &RowSums, sides: &Sides, place: usize, side: Side) -> bool
     requires { place < length sums.now }
@@ -216,35 +197,41 @@ fn is_tight(sums: &RowSums, sides: &Sides, place: usize, side: Side) -> bool
     is_better(side, &old, &implied_at(sums, sides, place, side))
 }
 
-/// The same. Most that are not better are told by one comparison.
-fn is_tight_beside(sums: &RowSums, sides: &Sides, place: usize, side: Side) -> bool
-    requires { place < length sums.now }
-    ensures { result ≡ is_tight_by sides.now sums.now (span_at sums.now place) side }
+/// Whether the side tells of no better bound from which a bound of a column with this entry follows.
+fn is_quiet(quiet: QuietSides, entry: &Frac, side: Side) -> bool
+    ensures { result ≡ (if is_below side (lt_ℚ zero_ℚ entry.now) then quiet.lower else quiet.upper) }
 {
-    if is_slack(sums, sides, place, side) {
-        return false;
-    }
-    is_tight(sums, sides, place, side)
+    let is_lower = match side {
+        Side::Lower => entry.is_positive(),
+        Side::Upper => !entry.is_positive(),
+    };
+    if is_lower { quiet.lower } else { quiet.upper }
 }
 
-/// Adds a bound of that column if the row implies a better one.
+/// Adds a bound of that column if the row implies a better one. Most that are not better are told by the sides that are quiet.
 fn add_bound(
     sums: &RowSums,
     sides: &Sides,
+    quiet: QuietSides,
     place: usize,
     side: Side,
     found: &mut Vec<(u32, Side)>,
 ) -> Result<(), AllocError>
-    requires { place < length sums.now }
+    requires place { place < length sums.now }
+    requires quiet { AreQuiet sides.now sums.now (span_at sums.now place) quiet }
     ensures { OnOk result (found.new.items ≡ found.old.items ++ bound_if (is_tight_by sides.now sums.now (span_at sums.now place) side) (span_at sums.now place).id side) }
 {
-    if is_tight_beside(sums, sides, place, side) {
-        found.push((span_of(sums, place).id, side))?;
+    let span = span_of(sums, place);
+    if is_quiet(quiet, &span.value, side) {
+        return Ok(());
+    }
+    if is_tight(sums, sides, place, side) {
+        found.push((span.id, side))?;
     }
     Ok(())
 }
 
-/// Adds the lower bound of that column, and then the upper one. Most columns that get none are told by two comparisons.
+/// Adds the lower bound of that column, and then the upper one.
 fn add_both(
     sums: &RowSums,
     sides: &Sides,
@@ -254,11 +241,9 @@ fn add_both(
     requires { place < length sums.now }
     ensures { OnOk result (found.new.items ≡ found.old.items ++ found_at sides.now sums.now (span_at sums.now place)) }
 {
-    if is_slack_at_both(sums, sides, place) {
-        return Ok(());
-    }
-    add_bound(sums, sides, place, Side::Lower, found)?;
-    add_bound(sums, sides, place, Side::Upper, found)
+    let quiet = sums.quiet_sides(place, &sides.lower, &sides.upper);
+    add_bound(sums, sides, quiet, place, Side::Lower, found)?;
+    add_bound(sums, sides, quiet, place, Side::Upper, found)
 }
 
 /// Adds the bounds of the columns of a row with these sides for which it implies better ones.

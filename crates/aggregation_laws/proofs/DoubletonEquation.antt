@@ -29,7 +29,7 @@ use Rattle.undo_records.specs.Lift.{undone}
 use Rattle.undo_records.specs.Ids.{ids_of, is_on}
 use Rattle.undo_records.specs.declared.undo.Undo.{Undo}
 use Rattle.undo_records.specs.declared.undo.Undo.TheVariants.{DoubletonEquation}
-use Rattle.undo_pairs.specs.LiftPair.{undone_pair}
+use Rattle.pair_laws.specs.LiftPair.{undone_pair}
 use Rattle.pair_laws.specs.Records as records
 use Rattle.pair_laws.proofs.ColumnPairs.{equation_pair}
 use Rattle.problem_model.specs.declared.edit.Edit.{Edit}

@@ -8,3 +8,5 @@ mod new_bounds;
 mod new_entries;
 mod new_numbers;
 mod record;
+
+pub use singleton_rules;

@@ -12,11 +12,11 @@ ghost use Rattle.presolve_model.specs.declared.instance.Reduction.TheVariants.{B
 ghost use Rattle.applying.specs.Prepared.{IsPrepared, IsReady};
 
 use crate::admit::{admit, admit_edit};
-use activity_rules::bound_tightening::moved_bound;
 use fractions::Numbers;
 use presolve_model::{Reduction, Side};
 use problem_commits::commit;
 use problem_model::{Part, Refusal};
+use rule_table::activity_rules::bound_tightening::moved_bound;
 use rule_table::{change, tightening_by};
 use rule_words::Change;
 use sparse_problem::Problem;

@@ -19,6 +19,8 @@ ghost use Rattle.presolve_model.specs.Worlds.{Version, version_of};
 ghost use Rattle.txn_book.specs.Sharing.{IsFrom};
 ghost use Rattle.book_turns.specs.Turns.{GoesOn, IsCalled, IsHistory, IsPass, left_of, StandsAt, Turn};
 
+pub use txn_book;
+
 /// A legal history leaves a book that stands, that was opened as the one before, and whose history goes on from there.
 pub fn shared_books_stand()
     ensures { (b : Ledger) (cs : List Turn) → Stands b → IsHistory b cs → GoesOn b (left_of b cs) }

@@ -25,7 +25,7 @@ use Rattle.lp_rows.specs.CoefficientTightening.OneSide.{Lower as LowerAlone, Upp
 use Rattle.lp_rows.proofs.CoefficientTightening.{coefficient_tightening}
 use Rattle.undo_records.specs.declared.side.Side.{Side}
 use Rattle.undo_records.specs.declared.side.Side.TheVariants.{Lower, Upper}
-use Rattle.undo_pairs.specs.LiftPair.{undone_pair}
+use Rattle.rule_words.specs.LiftPair.{undone_pair}
 use Rattle.pair_laws.proofs.RowPairs.{coefficient_pair}
 use Rattle.problem_model.specs.declared.edit.Edit.{Edit}
 use Rattle.problem_model.specs.declared.edit.Edit.TheVariants.{SetEntry, SetSides}

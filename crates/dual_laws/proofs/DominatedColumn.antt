@@ -16,7 +16,7 @@ use Rattle.lp_model.specs.Vectors.{Vector}
 use Rattle.lp_columns.specs.DominatedColumn.{IsDominatedColumn}
 use Rattle.lp_columns.proofs.DominatedColumn.{dominated_column}
 use Rattle.undo_records.specs.Ids.{ids_of, is_on}
-use Rattle.undo_pairs.specs.LiftPair.{undone_pair}
+use Rattle.pair_laws.specs.LiftPair.{undone_pair}
 use Rattle.pair_laws.proofs.ColumnPairs.{dominated_column_pair}
 use Rattle.problem_model.specs.declared.edit.Edit.TheVariants.{SetBounds}
 use Rattle.problem_model.specs.declared.part.Contents.{Contents}

@@ -11,7 +11,7 @@ use Rattle.lp_model.specs.Edits.{with_bounds}
 use Rattle.lp_model.specs.EndTests.{is_apart, is_place}
 use Rattle.lp_columns.specs.DualFixing.{GoesDown, GoesUp, IsDualFixing}
 use Rattle.lp_columns.proofs.DualFixing.{dual_fixing}
-use Rattle.undo_pairs.specs.LiftPair.{undone_pair}
+use Rattle.pair_laws.specs.LiftPair.{undone_pair}
 use Rattle.pair_laws.proofs.ColumnPairs.{cost_pair}
 use Rattle.problem_model.specs.declared.edit.Edit.TheVariants.{SetBounds}
 use Rattle.problem_model.specs.declared.part.Contents.{Contents}

@@ -1,5 +1,5 @@
 pub mod Merging
-pub mod FootprintSums
+pub mod FootprintSets
 pub mod Orders
 pub mod Pairs
 pub mod Remaining

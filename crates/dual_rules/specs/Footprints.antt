@@ -1,5 +1,5 @@
--- What a column asks of all that stand beside it, in a number each way.
-use Rattle.std.specs.Prelude.{◌≡◌, ℕ, ◌+◌, ◌*◌, ◌%◌, ◌^◌, Bool, not, ◌&&◌, ◌||◌, List, [], ◌∷◌, Option, is_none, if◌then◌else◌, unsigned_abs}
+-- What a column asks of all that stand beside it, in a set of 64 bits each way.
+use Rattle.std.specs.Prelude.{◌≡◌, ℕ, ◌+◌, ◌*◌, ◌/◌, ◌%◌, ◌^◌, Bool, not, ◌&&◌, ◌||◌, List, [], ◌∷◌, Option, is_none, if◌then◌else◌, unsigned_abs, bit_or}
 use Rattle.rational.specs.Number.{Number, zero_ℚ}
 use Rattle.rational.specs.Compare.{lt_ℚ}
 use Rattle.rational.specs.Lowest.{over_of}
@@ -16,13 +16,13 @@ asks l u a = (lt_ℚ zero_ℚ a && not (is_none u)) || (lt_ℚ a zero_ℚ && not
 abbrev pub offers : Option Number → Option Number → Number → Bool
 offers l u a = asks u l a
 
--- a weight of the row i
-abbrev pub weight : ℕ → ℕ
-weight i = i * 2654435761 % 2 ^ 32 + 1
+-- a bit for a number: the six high digits of the low half of a product
+abbrev pub bit_of : ℕ → ℕ
+bit_of n = 2 ^ (n % 2 ^ 32 * 2654435761 % 2 ^ 32 / 2 ^ 26)
 
--- and of the entry, if the row has two sides
+-- the bit of the entry a in the row i: in a row with two sides its number counts too
 abbrev pub mark : Option Number → Option Number → ℕ → Number → ℕ
-mark l u i a = if is_none l || is_none u then weight i else weight i * (unsigned_abs (over_of a) % 2 ^ 16 + 1)
+mark l u i a = if is_none l || is_none u then bit_of i else bit_of (i + unsigned_abs (over_of a) % 2 ^ 16)
 
 -- what the entry a in the row i adds each way
 abbrev pub asked : Sparse → ℕ → Number → ℕ
@@ -31,12 +31,16 @@ asked p i a = if asks (sides_at p i).lower (sides_at p i).upper a then mark (sid
 abbrev pub offered : Sparse → ℕ → Number → ℕ
 offered p i a = if offers (sides_at p i).lower (sides_at p i).upper a then mark (sides_at p i).lower (sides_at p i).upper i a else 0
 
--- the sum over terms
-abbrev pub sum_of : (ℕ → Number → ℕ) → List Term → ℕ
-sum_of f [] = 0
-sum_of f (t ∷ ts) = f t.id t.value + sum_of f ts
+-- all bits that terms add
+abbrev pub bits_of : (ℕ → Number → ℕ) → List Term → ℕ
+bits_of f [] = 0
+bits_of f (t ∷ ts) = bit_or (f t.id t.value) (bits_of f ts)
+
+-- no bit stands in the first set alone
+abbrev pub IsWithin : ℕ → ℕ → Type 0
+IsWithin a b = bit_or a b ≡ b
 
 -- what the terms of a column add in all
 pub record IsFootprint (p : Sparse) (ts : List Term) (f : Footprint) : Type 0 where
-  pub asked : f.asked ≡ sum_of (asked p) ts
-  pub offered : f.offered ≡ sum_of (offered p) ts
+  pub asked : f.asked ≡ bits_of (asked p) ts
+  pub offered : f.offered ≡ bits_of (offered p) ts

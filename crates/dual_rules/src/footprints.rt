@@ -1,12 +1,12 @@
-//! What a column asks of all that stand beside it, in a number each way: most pairs, of which neither dominates the other, differ there.
+//! What a column asks of all that stand beside it, in a set of 64 bits each way: most pairs, of which neither dominates the other, differ there.
 
-ghost use Rattle.std.specs.Prelude.{◌≡◌, ℕ, ◌+◌, true, false, IfSome, List, ◌∷◌, []};
+ghost use Rattle.std.specs.Prelude.{◌≡◌, ℕ, true, false, bit_or, nat_eq, IfSome, List, ◌∷◌, []};
 ghost use Rattle.lp_model.specs.declared.terms.Term.{Term};
 ghost use Rattle.lp_model.specs.Sparse.{Ascends};
 ghost use Rattle.problem_model.specs.Matrices.{live_only};
 ghost use Rattle.problem_model.specs.Problems.{column_at, column_entries, row_at};
 ghost use Rattle.problem_model.specs.Sparse.{Sparse};
-ghost use Rattle.dual_rules.specs.Footprints.{IsFootprint, asked as asked_of, asks as asks_of, mark as mark_of, offered as offered_of, offers as offers_of, sum_of, weight as weight_of};
+ghost use Rattle.dual_rules.specs.Footprints.{IsFootprint, asked as asked_of, asks as asks_of, bit_of, bits_of, mark as mark_of, offered as offered_of, offers as offers_of};
 ghost use Rattle.dual_rules.specs.Merging.{all_admit};
 
 use crate::directions::entries;
@@ -15,35 +15,35 @@ use lp_model::Term;
 use problem_model::Sides;
 use sparse_problem::Problem;
 
-/// Sums over the live rows of a column, each with a weight of its own. Where one column stands in for another, it asks no more, and offers
-/// no less.
+/// Sets of the live rows of a column, each row a bit by its hash. Where one column stands in for another, it asks in no row in which the other
+/// does not, and offers in each in which the other does.
 #[derive(Clone, Copy)]
 pub struct Footprint {
-    /// Over the rows that don't take the column for one without an entry there.
+    /// The rows that don't take the column for one without an entry there.
     pub asked: u64,
-    /// Over the rows that don't take one without an entry there for the column.
+    /// The rows that don't take one without an entry there for the column.
     pub offered: u64,
 }
 
 /// The most entries of a column of which a footprint is made.
 const MOST_LOOKED_AT: usize = 64;
 
-/// A row's weight: the low half of a product with a constant near 2^32 over the golden ratio.
-fn weight(row: u32) -> u64
-    ensures { result ≡ weight_of row }
+/// A bit for a number, by the high digits of the low half of a product with a constant near 2^32 over the golden ratio.
+fn bit(number: u64) -> u64
+    ensures { result ≡ bit_of number }
 {
-    row as u64 * 2_654_435_761 % (1 << 32) + 1
+    1 << (number % (1 << 32) * 2_654_435_761 % (1 << 32) / (1 << 26))
 }
 
-/// The weight of an entry. In a row with two sides its number counts too, since it has to be the same in both columns.
-fn mark(sides: &Sides, term: &Term) -> Option<u64>
-    ensures { IfSome result (λ n. n ≡ mark_of sides.now.lower sides.now.upper term.now.id term.now.value) }
+/// The bit of an entry. In a row with two sides its number counts too, since it has to be the same in both columns.
+fn mark(sides: &Sides, term: &Term) -> u64
+    ensures { result ≡ mark_of sides.now.lower sides.now.upper term.now.id term.now.value }
 {
     if sides.lower.is_none() || sides.upper.is_none() {
-        return Some(weight(term.id));
+        return bit(term.id as u64);
     }
     let digits = term.value.parts().num.size() % (1 << 16);
-    weight(term.id).checked_mul(digits as u64 + 1)
+    bit(term.id as u64 + digits as u64)
 }
 
 /// Whether a row of these sides doesn't take a column with this entry for one without.
@@ -62,48 +62,48 @@ fn offers(sides: &Sides, value: &Frac) -> bool
         || (value.is_negative() && !sides.upper.is_none())
 }
 
-/// Sums with one entry more, if they have room.
-fn with_entry(problem: &Problem, before: &Footprint, term: &Term) -> Option<Footprint>
+/// These sets with one entry more.
+fn with_entry(problem: &Problem, before: &Footprint, term: &Term) -> Footprint
     requires { (row_at problem.now term.now.id).live ≡ true }
-    ensures asked { IfSome result (λ f. f.asked ≡ before.now.asked + asked_of problem.now term.now.id term.now.value) }
-    ensures offered { IfSome result (λ f. f.offered ≡ before.now.offered + offered_of problem.now term.now.id term.now.value) }
+    ensures asked { result.asked ≡ bit_or before.now.asked (asked_of problem.now term.now.id term.now.value) }
+    ensures offered { result.offered ≡ bit_or before.now.offered (offered_of problem.now term.now.id term.now.value) }
 {
     let sides = problem.sides(term.id);
-    let own = mark(&sides, term)?;
+    let own = mark(&sides, term);
     let asked = if asks(&sides, &term.value) { own } else { 0 };
     let offered = if offers(&sides, &term.value) { own } else { 0 };
-    Some(Footprint {
-        asked: before.asked.checked_add(asked)?,
-        offered: before.offered.checked_add(offered)?,
-    })
+    Footprint {
+        asked: before.asked | asked,
+        offered: before.offered | offered,
+    }
 }
 
 /// The same, unless the entry's row is gone.
-fn with_live(problem: &Problem, before: &Footprint, term: &Term) -> Option<Footprint>
-    ensures asked { IfSome result (λ f. f.asked ≡ before.now.asked + sum_of (asked_of problem.now) (live_only problem.now.matrix.rows (term.now ∷ []))) }
-    ensures offered { IfSome result (λ f. f.offered ≡ before.now.offered + sum_of (offered_of problem.now) (live_only problem.now.matrix.rows (term.now ∷ []))) }
+fn with_live(problem: &Problem, before: &Footprint, term: &Term) -> Footprint
+    ensures asked { result.asked ≡ bit_or before.now.asked (bits_of (asked_of problem.now) (live_only problem.now.matrix.rows (term.now ∷ []))) }
+    ensures offered { result.offered ≡ bit_or before.now.offered (bits_of (offered_of problem.now) (live_only problem.now.matrix.rows (term.now ∷ []))) }
 {
     if problem.is_row_live(term.id) {
         with_entry(problem, before, term)
     } else {
-        Some(*before)
+        *before
     }
 }
 
-/// The footprint of a column with these entries, if the sums have room.
-fn footprint_by(problem: &Problem, entries: &[Term]) -> Option<Footprint>
-    ensures { IfSome result (λ f. IsFootprint problem.now (live_only problem.now.matrix.rows entries.now) f) }
+/// The footprint of a column with these entries.
+fn footprint_by(problem: &Problem, entries: &[Term]) -> Footprint
+    ensures { IsFootprint problem.now (live_only problem.now.matrix.rows entries.now) result }
 {
-    let mut sums = Footprint {
+    let mut sets = Footprint {
         asked: 0,
         offered: 0,
     };
     let mut rest = entries;
     while let [term, after @ ..] = rest {
-        sums = with_live(problem, &sums, term)?;
+        sets = with_live(problem, &sets, term);
         rest = after;
     }
-    Some(sums)
+    sets
 }
 
 /// The footprint of a column. None is made where it has more than 64 entries.
@@ -115,7 +115,14 @@ pub fn footprint_of(problem: &Problem, column: u32) -> Option<Footprint>
     if terms.len() > MOST_LOOKED_AT {
         return None;
     }
-    footprint_by(problem, terms)
+    Some(footprint_by(problem, terms))
+}
+
+/// Whether no bit stands in the first set alone.
+fn is_within(set: u64, other: u64) -> bool
+    ensures { result ≡ nat_eq (bit_or set other) other }
+{
+    set | other == other
 }
 
 /// Whether the footprints of two columns, as far as they were made, let the first column stand in for the second.
@@ -124,7 +131,7 @@ pub fn footprints_admit(better: &Option<Footprint>, other: &Option<Footprint>) -
 {
     match (better, other) {
         (Some(better), Some(other)) => {
-            better.asked <= other.asked && other.offered <= better.offered
+            is_within(better.asked, other.asked) && is_within(other.offered, better.offered)
         }
         _ => true,
     }

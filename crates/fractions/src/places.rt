@@ -41,6 +41,10 @@ pub fn place(over: u128, under: u128) -> Option<u32>
     ensures few { IfSome result (λ k. k ≤ 38) }
     ensures room { IfSome result (λ k. over * (10 ^ k / under) < 2 ^ 127) }
 {
+    // Where 38 decimals are too few, so are all that are fewer.
+    if under != 1 && power(38) % under != 0 {
+        return None;
+    }
     for k in 0..39 {
         if has_room(over, under, k) {
             return Some(k);

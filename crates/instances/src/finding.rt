@@ -14,11 +14,11 @@ ghost use Rattle.line_groups.specs.Groups.{AreGroupsOf};
 ghost use Rattle.presolve_model.specs.Tallies.{open_on};
 
 use crate::tally::Tally;
-use activity_rules::bound_tightening::add_tightened;
-use dual_rules::dominated_column::pairs_at;
 use line_groups::Parallels;
 use lp_model::Term;
 use presolve_model::{Instance, Reduction, Rule, Verdict};
+use rule_table::activity_rules::bound_tightening::add_tightened;
+use rule_table::dual_rules::dominated_column::pairs_at;
 use rule_table::is_enabled;
 use sparse_problem::Problem;
 use std::alloc::{AllocError, Global};
@@ -131,7 +131,7 @@ fn add_shrinking(
     ensures { OnOk result (found.new.items ≡ found.old.items ++ filter (enabled_on problem.now) (map (λ j. at.Reduction (reduction.CoefficientTightening row j)) (map (λ t. t.id) (row_entries problem.now row)))) }
 {
     let mut columns = Vec::new(alloc);
-    coef_rules::add_tightened(alloc, problem, row, &mut columns)?;
+    rule_table::coef_rules::add_tightened(alloc, problem, row, &mut columns)?;
     add_coefficients(row, columns.as_slice(), found)
 }
 

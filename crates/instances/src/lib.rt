@@ -13,6 +13,7 @@ mod version;
 
 pub use chunk::Chunk;
 pub use finding::{add_enabled, instance_beside, lines_beside};
+pub use line_groups;
 pub use proposal::Proposal;
 pub use reading::{Differs, Reading};
 pub use reads::{numbers_for, reading_for};

@@ -3,8 +3,8 @@
 ghost use Rattle.std.specs.Prelude.{◌≡◌, IfOk};
 
 use crate::kept::{KeptEnd, KeptNumber};
-use fractions::ext::Ext;
-use fractions::frac::Frac;
+use lp_model::fractions::ext::Ext;
+use lp_model::fractions::frac::Frac;
 use lp_model::{Term, Terms};
 use std::alloc::{AllocError, Global};
 use std::marker::Model;

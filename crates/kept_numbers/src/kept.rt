@@ -5,9 +5,9 @@ ghost use Rattle.rational.specs.Lowest.{over_of, under_of, ratio};
 ghost use Rattle.rational.specs.Number.{Number};
 ghost use Rattle.kept_numbers.specs.Kept.{number_of_form};
 
-use fractions::ext::Ext;
-use fractions::frac::Frac;
-use fractions::whole::Whole;
+use lp_model::fractions::ext::Ext;
+use lp_model::fractions::frac::Frac;
+use lp_model::fractions::whole::Whole;
 use std::alloc::{AllocError, Global};
 use std::marker::Model;
 

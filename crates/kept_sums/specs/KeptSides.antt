@@ -1,5 +1,5 @@
 -- Sides that a row keeps with one of its columns at its other end.
-use Rattle.std.specs.Prelude.{◌≡◌, ℕ, ℤ, ⊤, Option, Some, None, Result, Ok}
+use Rattle.std.specs.Prelude.{◌≡◌, ◌⊎◌, ℕ, ℤ, ⊤, Option, Some, None, Result, Ok}
 use Prim.Native.Nat.{◌∣◌}
 use Rattle.rational.specs.Number.{Number, ◌+ℚ◌}
 use Rattle.rational.specs.Lowest.{under_of}
@@ -48,3 +48,7 @@ KeepsTurned extreme side s sum = (t : Number) × (end_at (opposite extreme) s �
 abbrev pub EndKept : Extreme → Option Number → Span → Result (Option Number) Past → Type 0
 EndKept extreme None s sum = ⊤
 EndKept extreme (Some b) s sum = KeepsTurned extreme b s sum
+
+-- a side tells of no better bound of an entry's column: it is kept so, or the sum of the other entries is infinite
+abbrev pub IsQuiet : Extreme → Option Number → Span → Result (Option Number) Past → Type 0
+IsQuiet extreme side s sum = EndKept extreme side s sum ⊎ (sum ≡ Ok None)

@@ -1,6 +1,6 @@
 //! Whether a row keeps a side with one of its columns at its other end, by one comparison over the denominator of its sum.
 
-ghost use Rattle.std.specs.Prelude.{◌≡◌, ◌<◌, ◌^◌, ◌++◌, ◌∷◌, ◌||◌, ◌*ℤ◌, pos, is_none, nat_eq, List, Option, IfSome, IsTrue};
+ghost use Rattle.std.specs.Prelude.{◌≡◌, ◌<◌, ◌^◌, ◌++◌, ◌∷◌, ◌*ℤ◌, pos, List, Option, None, Ok, IfSome, IsTrue};
 ghost use Rattle.std.specs.Ordering.{int_cmp};
 ghost use Rattle.rational.specs.Number.{Number, ◌*ℚ◌};
 ghost use Rattle.rational.specs.Compare.{le_ℚ};
@@ -11,9 +11,9 @@ ghost use Rattle.row_spans.specs.declared.span.Span.{Span as SpanValue};
 ghost use Rattle.row_spans.specs.declared.span.Extreme.{Extreme as ExtremeValue};
 ghost use Rattle.row_spans.specs.declared.span.Extreme.TheVariants as extreme_of;
 ghost use Rattle.kept_sums.specs.CommonSums.{IsCommonSum};
-ghost use Rattle.kept_sums.specs.KeptSides.{EndIs, EndKept, IsNumerator, IsTurned, Keeps, KeepsTurned, opposite as opposite_of};
+ghost use Rattle.kept_sums.specs.KeptSides.{EndIs, EndKept, IsNumerator, IsQuiet, IsTurned, Keeps, opposite as opposite_of};
 
-use crate::common::CommonSum;
+use crate::common::{CommonSum, told_rest};
 use fractions::divisor::quotient;
 use fractions::ext::Ext;
 use fractions::frac::Frac;
@@ -116,20 +116,6 @@ fn turned_by(sum: &CommonSum, own: Whole, other: Whole) -> Option<Whole>
     }
 }
 
-/// The same of an entry, if its ends are finite, can be written over the denominator of the sum and have room.
-fn turned(sum: &CommonSum, extreme: Extreme, span: &Span) -> Option<Whole>
-    requires positive { 0 < sum.now.denominator }
-    requires short { sum.now.denominator < 2 ^ 127 }
-    ensures { IfSome result (λ z. (a b : List (Option Number)) → IsCommonSum (a ++ end_at extreme span.now ∷ b) sum.now → IsTurned extreme span.now (ratio z sum.now.denominator) (row_sum (a ++ b))) }
-{
-    if sum.infinite != 0 {
-        return None;
-    }
-    let own = end_over(sum.denominator, extreme, span)?;
-    let other = end_over(sum.denominator, opposite(extreme), span)?;
-    turned_by(sum, own, other)
-}
-
 /// How a number compares with another one, by cross multiplication; none where a product has no room.
 fn order_within(a: &Parts, b: &Parts) -> Option<Ordering>
     requires left { a.now.den < 2 ^ 127 }
@@ -171,25 +157,6 @@ fn is_kept(extreme: Extreme, side: &Frac, number: Parts) -> bool
     }
 }
 
-/// Whether a side is kept by a sum with one of its entries at its other end: `false` where a number has no room.
-pub fn keeps_turned(sum: &CommonSum, extreme: Extreme, span: &Span, side: &Frac) -> bool
-    requires positive { 0 < sum.now.denominator }
-    requires short { sum.now.denominator < 2 ^ 127 }
-    ensures { (a b : List (Option Number)) → IsCommonSum (a ++ end_at extreme span.now ∷ b) sum.now → IsTrue result → KeepsTurned extreme side.now span.now (row_sum (a ++ b)) }
-{
-    match turned(sum, extreme, span) {
-        None => false,
-        Some(num) => is_kept(
-            extreme,
-            side,
-            Parts {
-                num,
-                den: sum.denominator,
-            },
-        ),
-    }
-}
-
 /// Whether a side, if it is finite, is kept by a sum with one of its entries, which has these numerators, at its other end: `false` where a
 /// number has no room.
 fn keeps_end(sum: &CommonSum, extreme: Extreme, own: Whole, other: Whole, side: &Ext) -> bool
@@ -213,41 +180,103 @@ fn keeps_end(sum: &CommonSum, extreme: Extreme, own: Whole, other: Whole, side: 
     }
 }
 
-/// Whether a side is infinite, or no term of a sum is.
-fn may_keep(sum: &CommonSum, side: &Ext) -> bool
-    ensures { result ≡ (is_none side.now || nat_eq sum.now.infinite 0) }
-{
-    side.is_none() || sum.infinite == 0
+/// What an entry gives its row at either end, over a denominator.
+#[derive(Clone, Copy)]
+struct Ends {
+    least: Whole,
+    greatest: Whole,
 }
 
-/// Whether both sides of a row, if they are finite, are kept by its sums with one of its entries at its other end: `false` where the sums
-/// are over two denominators, and where a number has no room. What the entry gives at either end is looked for once.
-pub fn keeps_both(
+/// Both ends of an entry over a denominator, if they are finite, can be written over it and have room.
+fn ends_over(denominator: u128, span: &Span) -> Option<Ends>
+    requires positive { 0 < denominator }
+    requires short { denominator < 2 ^ 127 }
+    ensures least { IfSome result (λ e. EndIs denominator (end_at extreme_of.Least span.now) e.least) }
+    ensures greatest { IfSome result (λ e. EndIs denominator (end_at extreme_of.Greatest span.now) e.greatest) }
+{
+    Some(Ends {
+        least: end_over(denominator, Extreme::Least, span)?,
+        greatest: end_over(denominator, Extreme::Greatest, span)?,
+    })
+}
+
+/// Whether the other terms of a sum than an entry's are not all finite.
+fn is_rest_infinite(sum: &CommonSum, extreme: Extreme, span: &Span) -> bool
+    requires positive { 0 < sum.now.denominator }
+    requires short { sum.now.denominator < 2 ^ 127 }
+    ensures { (a b : List (Option Number)) → IsCommonSum (a ++ end_at extreme span.now ∷ b) sum.now → IsTrue result → row_sum (a ++ b) ≡ Ok None }
+{
+    match told_rest(sum, extreme, span) {
+        Some(rest) => rest.is_none(),
+        None => false,
+    }
+}
+
+/// Whether a side is kept by a sum with one of its entries, which has these ends, at its other end: `false` where they are not told.
+fn is_kept_by(sum: &CommonSum, extreme: Extreme, ends: &Option<Ends>, side: &Ext) -> bool
+    requires positive { 0 < sum.now.denominator }
+    requires short { sum.now.denominator < 2 ^ 127 }
+    ensures { (s : SpanValue) (a b : List (Option Number)) → IfSome ends.now (λ e. EndIs sum.now.denominator (end_at extreme_of.Least s) e.least) → IfSome ends.now (λ e. EndIs sum.now.denominator (end_at extreme_of.Greatest s) e.greatest) → IsCommonSum (a ++ end_at extreme s ∷ b) sum.now → IsTrue result → EndKept extreme side.now s (row_sum (a ++ b)) }
+{
+    let Some(ends) = ends else {
+        return false;
+    };
+    match extreme {
+        Extreme::Least => keeps_end(sum, extreme, ends.least, ends.greatest, side),
+        Extreme::Greatest => keeps_end(sum, extreme, ends.greatest, ends.least, side),
+    }
+}
+
+/// Whether a side tells of no better bound of an entry's column: it is infinite, or kept with the entry at its other end, or another term of
+/// the sum is infinite. `false` where that is not told.
+fn is_quiet(sum: &CommonSum, extreme: Extreme, span: &Span, ends: &Option<Ends>, side: &Ext) -> bool
+    requires positive { 0 < sum.now.denominator }
+    requires short { sum.now.denominator < 2 ^ 127 }
+    requires least { IfSome ends.now (λ e. EndIs sum.now.denominator (end_at extreme_of.Least span.now) e.least) }
+    requires greatest { IfSome ends.now (λ e. EndIs sum.now.denominator (end_at extreme_of.Greatest span.now) e.greatest) }
+    ensures { (a b : List (Option Number)) → IsCommonSum (a ++ end_at extreme span.now ∷ b) sum.now → IsTrue result → IsQuiet extreme side.now span.now (row_sum (a ++ b)) }
+{
+    if side.is_none() {
+        return true;
+    }
+    if sum.infinite == 0 {
+        return is_kept_by(sum, extreme, ends, side);
+    }
+    is_rest_infinite(sum, extreme, span)
+}
+
+/// Which sides of a row tell of no better bound of a column.
+#[derive(Clone, Copy)]
+pub struct QuietSides {
+    pub lower: bool,
+    pub upper: bool,
+}
+
+/// Which sides of a row tell of no better bound of an entry's column, by its sums: none where these are over two denominators, and where a
+/// number has no room. What the entry gives at either end is looked for once.
+pub fn quiet_sides(
     least: &CommonSum,
     greatest: &CommonSum,
     span: &Span,
     lower: &Ext,
     upper: &Ext,
-) -> bool
+) -> QuietSides
     requires least_positive { 0 < least.now.denominator }
     requires least_short { least.now.denominator < 2 ^ 127 }
     requires greatest_positive { 0 < greatest.now.denominator }
     requires greatest_short { greatest.now.denominator < 2 ^ 127 }
-    ensures below { (a b : List (Option Number)) → IsCommonSum (a ++ end_at extreme_of.Greatest span.now ∷ b) greatest.now → IsTrue result → EndKept extreme_of.Greatest lower.now span.now (row_sum (a ++ b)) }
-    ensures above { (a b : List (Option Number)) → IsCommonSum (a ++ end_at extreme_of.Least span.now ∷ b) least.now → IsTrue result → EndKept extreme_of.Least upper.now span.now (row_sum (a ++ b)) }
+    ensures lower { (a b : List (Option Number)) → IsCommonSum (a ++ end_at extreme_of.Greatest span.now ∷ b) greatest.now → IsTrue result.lower → IsQuiet extreme_of.Greatest lower.now span.now (row_sum (a ++ b)) }
+    ensures upper { (a b : List (Option Number)) → IsCommonSum (a ++ end_at extreme_of.Least span.now ∷ b) least.now → IsTrue result.upper → IsQuiet extreme_of.Least upper.now span.now (row_sum (a ++ b)) }
 {
     if least.denominator != greatest.denominator {
-        return false;
+        return QuietSides {
+            lower: false,
+            upper: false,
+        };
     }
-    if !may_keep(greatest, lower) || !may_keep(least, upper) {
-        return false;
+    let ends = ends_over(least.denominator, span);
+    QuietSides {
+        lower: is_quiet(greatest, Extreme::Greatest, span, &ends, lower),
+        upper: is_quiet(least, Extreme::Least, span, &ends, upper),
     }
-    let Some(from) = end_over(least.denominator, Extreme::Least, span) else {
-        return false;
-    };
-    let Some(to) = end_over(least.denominator, Extreme::Greatest, span) else {
-        return false;
-    };
-    keeps_end(greatest, Extreme::Greatest, to, from, lower)
-        && keeps_end(least, Extreme::Least, from, to, upper)
 }

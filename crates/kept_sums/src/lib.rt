@@ -9,5 +9,5 @@ mod row_totals;
 
 pub use common::{CommonSum, common_sum, told_activity, told_rest};
 pub use kept::KeptSums;
-pub use kept_sides::{keeps_both, keeps_turned};
+pub use kept_sides::{QuietSides, quiet_sides};
 pub use row_totals::{EndSum, RowSums, RowTotals, denominator_with};

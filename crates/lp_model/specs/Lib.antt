@@ -17,3 +17,5 @@ pub mod Edits
 pub mod Flags
 pub mod EndTests
 pub mod Ends
+pub use Rattle.fractions.specs.FracWords
+pub use Rattle.fractions.specs.declared.Numbers

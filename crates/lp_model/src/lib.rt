@@ -13,6 +13,7 @@ mod terms;
 pub mod writing;
 mod written;
 
+pub use fractions;
 pub use labels::Labels;
 pub use name::{Name, is_name};
 pub use plain::{

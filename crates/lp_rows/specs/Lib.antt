@@ -8,3 +8,4 @@ pub mod BoundTightening
 pub mod ForcingRow
 pub mod ParallelRows
 pub mod CoefficientTightening
+pub use Rattle.lp_theory.specs.MetEnds

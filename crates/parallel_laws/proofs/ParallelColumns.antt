@@ -31,7 +31,7 @@ use Rattle.undo_records.specs.Lift.{undone}
 use Rattle.undo_records.specs.Ids.{is_on}
 use Rattle.undo_records.specs.declared.undo.Undo.{Undo}
 use Rattle.undo_records.specs.declared.undo.Undo.TheVariants.{ParallelColumns}
-use Rattle.undo_pairs.specs.LiftPair.{undone_pair}
+use Rattle.pair_laws.specs.LiftPair.{undone_pair}
 use Rattle.pair_laws.specs.Records as records
 use Rattle.pair_laws.proofs.ColumnPairs.{parallel_columns_pair}
 use Rattle.problem_model.specs.declared.edit.Edit.TheVariants.{DeleteColumn, SetBounds}

@@ -5,3 +5,5 @@
 mod factor;
 mod joined_sides;
 pub mod parallel_rows;
+
+pub use parallel_column_rules;

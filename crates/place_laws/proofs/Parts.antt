@@ -25,7 +25,7 @@ use Rattle.activity_laws.specs.RedundantSide.{has_redundant_side}
 use Rattle.activity_laws.specs.ForcingRow.{is_forcing_row}
 use Rattle.activity_laws.specs.InfeasibleRow.{is_infeasible_row}
 use Rattle.activity_laws.proofs.Rows.{said}
-use Rattle.coef_laws.specs.CoefficientTightening.{is_coefficient_tightening}
+use Rattle.presolve_model.specs.CoefficientTightening.{is_coefficient_tightening}
 use Rattle.dual_laws.specs.DominatedColumn.{heads, more, rows_of_both}
 use Rattle.dual_laws.proofs.DualFixing as dual_fixing
 use Rattle.dual_laws.proofs.DominatedColumn as dominated_column

@@ -29,7 +29,7 @@ use Rattle.activity_laws.specs.RedundantSide.{has_redundant_side}
 use Rattle.activity_laws.specs.ForcingRow.{is_forcing_row}
 use Rattle.activity_laws.specs.InfeasibleRow.{is_infeasible_row}
 use Rattle.activity_laws.proofs.Rows.{said}
-use Rattle.coef_laws.specs.CoefficientTightening.{is_coefficient_tightening}
+use Rattle.presolve_model.specs.CoefficientTightening.{is_coefficient_tightening}
 use Rattle.rule_words.specs.Reading.{bounds_named, parts_on, terms_in}
 use Rattle.rule_words.specs.Reading as read_words
 use Rattle.problem_model.specs.declared.part.Read.{Read}

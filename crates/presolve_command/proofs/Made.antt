@@ -10,15 +10,15 @@ use Rattle.endings.specs.Moments.{Reads}
 use Rattle.endings.specs.ProgramTexts.{IsProgramOf}
 use Rattle.endings.proofs.Earlier.{given_reads}
 use Rattle.presolve_model.specs.Conclusions.{Concluded}
-use Rattle.presolve_rounds.specs.Conclusions.{Concludes}
+use Rattle.presolve_report.specs.Conclusions.{Concludes}
 use Rattle.presolve_model.specs.declared.conclusion.End.{End}
 use Rattle.presolve_model.specs.declared.conclusion.Options.{Options}
 use Rattle.presolve_model.specs.Workers.{Workers}
-use Rattle.presolve_rounds.specs.declared.outcome.Presolved.{Presolved}
-use Rattle.presolve_rounds.specs.declared.outcome.Presolved.TheVariants.{Reduced}
-use Rattle.presolve_rounds.specs.declared.outcome.Presolved.TheVariants as presolved
-use Rattle.presolve_rounds.specs.declared.outcome.DecidedProgram.{DecidedProgram}
-use Rattle.presolve_rounds.specs.declared.outcome.ReducedProgram.{ReducedProgram}
+use Rattle.presolve_report.specs.Presolved.{Presolved}
+use Rattle.presolve_report.specs.Presolved.TheVariants.{Reduced}
+use Rattle.presolve_report.specs.Presolved.TheVariants as presolved
+use Rattle.presolve_report.specs.DecidedProgram.{DecidedProgram}
+use Rattle.presolve_report.specs.ReducedProgram.{ReducedProgram}
 use Rattle.presolve_command.specs.declared.reduce.Texts.{Texts}
 use Rattle.presolve_command.specs.declared.reduce.NotReduced.{NotReduced}
 use Rattle.presolve_command.specs.declared.reduce.NotReduced.TheVariants.{Fault, NotContinuous, Infeasible, UnboundedOrInfeasible, NoMemory}

@@ -12,7 +12,7 @@ use crate::reduce::{NotReduced, Texts, reduce};
 use command_words::PresolveWords;
 use endings::{Ending, INPUT_LIMIT, fault_line};
 use file_ports::{Failed, Files, ReadErr};
-use presolve_rounds::Onlooker;
+use presolve_report::presolve_rounds::Onlooker;
 use std::alloc::{AllocError, Global};
 use std::sync::Wait;
 use std::thread::Threads;

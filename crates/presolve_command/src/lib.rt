@@ -5,4 +5,4 @@ mod command;
 mod reduce;
 
 pub use command::presolve;
-pub use presolve_rounds;
+pub use presolve_report::presolve_rounds;

@@ -20,3 +20,4 @@ pub mod Conclusions
 pub mod Telling
 pub mod Transactions
 pub mod Ordered
+pub use Rattle.coef_laws.specs.CoefficientTightening

@@ -3,7 +3,7 @@ use Rattle.std.proofs.Common.{◌≡◌, ℕ, zero, suc, ◌+◌, ◌<◌, ◌&&
 use Rattle.std.specs.Prelude.{if◌then◌else◌, IfSome}
 use Rattle.std.specs.List.{All}
 use Rattle.rational.specs.Number.{Number, zero_ℚ}
-use Rattle.fractions.specs.declared.Numbers.{Numbers}
+use Rattle.lp_model.specs.Numbers.{Numbers}
 use Rattle.lp_model.specs.declared.terms.Term.{Term}
 use Rattle.lp_model.specs.Sparse.{Ascends, dense}
 use Rattle.lp_model.specs.Writable.{WritableNumber, WritableBound}

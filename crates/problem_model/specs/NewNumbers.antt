@@ -1,6 +1,6 @@
 -- The numbers that are new with edits: when they have room, and when they can be written.
 use Rattle.std.specs.Prelude.{⊤, List, All}
-use Rattle.fractions.specs.declared.Numbers.{Numbers}
+use Rattle.lp_model.specs.Numbers.{Numbers}
 use Rattle.lp_model.specs.Ends.{WidthFits, WidthIsWritten, IsWritten, AreNear, IsSided}
 use Rattle.lp_model.specs.Writable.{WritableNumber}
 use Rattle.problem_model.specs.Sparse.{Sparse}

@@ -1,7 +1,7 @@
 //! Edits.
 
-use fractions::ext::Ext;
-use fractions::frac::Frac;
+use lp_model::fractions::ext::Ext;
+use lp_model::fractions::frac::Frac;
 
 /// One change of what a problem holds, by original ids.
 #[derive(Clone, Copy)]

@@ -1,7 +1,7 @@
 //! Rows and columns of a problem.
 
-use fractions::ext::Ext;
 use lp_model::Terms;
+use lp_model::fractions::ext::Ext;
 
 /// A row, whose entries name columns, or a column, whose entries name rows. Entries may stay in place when what they name is deleted; one that
 /// isn't there has none.

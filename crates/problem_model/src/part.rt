@@ -1,8 +1,8 @@
 //! Parts of a problem, and what was read of them.
 
-use fractions::ext::Ext;
-use fractions::frac::Frac;
 use lp_model::Terms;
+use lp_model::fractions::ext::Ext;
+use lp_model::fractions::frac::Frac;
 
 /// A part of a problem, by the original id of its row or column.
 #[derive(Clone, Copy, Debug, PartialEq, Eq)]

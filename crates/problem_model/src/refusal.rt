@@ -1,6 +1,6 @@
 //! Why a change is not made.
 
-use fractions::Past;
+use lp_model::fractions::Past;
 use std::alloc::AllocError;
 
 /// Why an enabled reduction is not applied.

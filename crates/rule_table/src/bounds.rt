@@ -34,8 +34,9 @@ pub fn add_bounds_of_row(
     ensures { OnOk result (parts.new.items ≡ parts.old.items ++ bounds_of (terms_in (contents_of problem.now (part.Row row)))) }
 {
     if problem.is_row_live(row) {
-        let line = problem.row_line(row);
-        add_bounds_of(problem, line.entries.as_slice(), parts)?;
+        let entries = problem.row_line(row).entries.as_slice();
+        parts.reserve(entries.len())?;
+        add_bounds_of(problem, entries, parts)?;
     }
     Ok(())
 }

@@ -13,18 +13,18 @@ use activity_rules::{
     bound_tightening, forcing_row, infeasible_row, redundant_row, redundant_side,
 };
 use aggregation_rules::doubleton_equation;
+use aggregation_rules::singleton_rules::{
+    crossed_bounds, crossed_sides, empty_column, empty_row, fixed_column, rounded_bounds,
+    singleton_row,
+};
 use coef_rules::coefficient_tightening;
 use column_rules::{free_column_singleton, slack_column_singleton};
 use dual_rules::{dominated_column, dual_fixing, unbounded_column};
-use parallel_column_rules::parallel_columns;
+use parallel_row_rules::parallel_column_rules::parallel_columns;
 use parallel_row_rules::parallel_rows;
 use presolve_model::{Instance, Reduction, Side, Verdict};
 use problem_model::{Edit, Refusal};
 use rule_words::Change;
-use singleton_rules::{
-    crossed_bounds, crossed_sides, empty_column, empty_row, fixed_column, rounded_bounds,
-    singleton_row,
-};
 use sparse_problem::Problem;
 use std::alloc::Global;
 

@@ -7,6 +7,9 @@ mod enabled;
 mod listing;
 mod parts;
 
+pub use activity_rules;
+pub use coef_rules;
+pub use dual_rules;
 pub use enabled::{change, is_enabled, tightening_by};
 pub use listing::{
     goes_by_groups, is_of_rows, reach_of, reduction_rules, rests_on_reading, rule_of,

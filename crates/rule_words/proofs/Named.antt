@@ -6,7 +6,7 @@ use Rattle.std.proofs.Math.ListN.{get_or-map}
 use Rattle.rational.specs.Number.{rational, zero_ℚ, ◌+ℚ◌}
 use Rattle.rational.specs.Ring.{ring, num, ◌:+◌}
 use Rattle.lp_model.specs.declared.terms.Term.{Term}
-use Rattle.undo_records.specs.Ids.{is_on, ids_of}
+use Rattle.undo_pairs.specs.Ids.{is_on, ids_of}
 use Rattle.problem_model.specs.declared.edit.Edit.{Edit}
 use Rattle.problem_model.specs.NewNumbers.{EditIsSided}
 use Rattle.problem_model.specs.declared.line.Line.{Line}

@@ -1,6 +1,6 @@
 -- The answers of what is computed before a change.
 use Rattle.std.specs.Prelude.{◌≡◌, ⊤, Result, Ok, Err, List}
-use Rattle.undo_records.specs.declared.undo.Undo.{Undo}
+use Rattle.undo_pairs.specs.Undo.{Undo}
 use Rattle.problem_model.specs.declared.refusal.Refusal.{Refusal}
 use Rattle.problem_model.specs.declared.refusal.Refusal.TheVariants.{Past, NotDecimal, NoMemory}
 use Rattle.problem_model.specs.declared.edit.Edit.{Edit}

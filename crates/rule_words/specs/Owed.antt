@@ -5,10 +5,10 @@ use Rattle.lp_model.specs.declared.program.Sense.TheVariants.{Min}
 use Rattle.lp_model.specs.LinearProgram.{LinearProgram}
 use Rattle.lp_model.specs.Optimality.{Continuous}
 use Rattle.lp_model.specs.Reductions.{Reduces, ReducesPairs}
-use Rattle.undo_records.specs.declared.undo.Undo.{Undo}
-use Rattle.undo_records.specs.Lift.{undone}
-use Rattle.undo_records.specs.Sound.{IsSound}
-use Rattle.undo_records.specs.Walk.{NamesLive, after}
+use Rattle.undo_pairs.specs.Undo.{Undo}
+use Rattle.undo_pairs.specs.Lift.{undone}
+use Rattle.undo_pairs.specs.Sound.{IsSound}
+use Rattle.undo_pairs.specs.Walk.{NamesLive, after}
 use Rattle.undo_pairs.specs.LiftPair.{undone_pair}
 use Rattle.problem_model.specs.Flags.{flags_of}
 use Rattle.problem_model.specs.Problems.{IsSparse}

@@ -1,7 +1,7 @@
 //! Changes.
 
 use problem_model::Edit;
-use undo_records::Undo;
+use undo_pairs::undo_records::Undo;
 
 /// What a rule does to a problem, and how it is undone.
 #[derive(Drop)]

@@ -10,7 +10,7 @@ use Rattle.lp_model.specs.declared.terms.Term.{Term}
 use Rattle.lp_model.specs.Vectors.{Vector}
 use Rattle.lp_model.specs.Sparse.{dense, sparse_total}
 use Rattle.lp_model.specs.Reductions.{Priced}
-use Rattle.lp_theory.specs.MetEnds.{is_from_row}
+use Rattle.lp_rows.specs.MetEnds.{is_from_row}
 use Rattle.lp_rows.specs.EmptyRow.{undo_empty_row}
 use Rattle.lp_rows.specs.RedundantRow.{undo_redundant_row}
 use Rattle.lp_rows.specs.SingletonRow.{undo_singleton_row}

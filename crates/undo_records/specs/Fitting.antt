@@ -4,7 +4,7 @@ use Rattle.rational.specs.Number.{Number, neg_ℚ, ◌+ℚ◌, ◌-ℚ◌, ◌*�
 use Rattle.rational.specs.Division.{◌/ℚ◌}
 use Rattle.rational.specs.Lowest.{Fits}
 use Rattle.rational.specs.Ends.{less, minus_ends}
-use Rattle.fractions.specs.FracWords.{SumFits}
+use Rattle.lp_model.specs.FracWords.{SumFits}
 use Rattle.lp_model.specs.declared.terms.Term.{Term}
 use Rattle.lp_model.specs.Vectors.{Vector}
 

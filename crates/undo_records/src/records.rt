@@ -9,7 +9,7 @@ ghost use Rattle.undo_records.specs.Walk.{AreSound};
 use crate::label::{Label, labels_are_named};
 use crate::undo::Undo;
 use crate::whole_run::are_sound;
-use fractions::frac::Frac;
+use lp_model::fractions::frac::Frac;
 use lp_model::{Labels, Name, Sense};
 use std::alloc::{AllocError, Global};
 use std::marker::Model;

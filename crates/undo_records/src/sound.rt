@@ -5,8 +5,8 @@ ghost use Rattle.rational.specs.Number.{zero_ℚ};
 ghost use Rattle.lp_model.specs.Sparse.{Ascends, has};
 ghost use Rattle.undo_records.specs.Ids.{AreOthers, AreTwo, IsEntry};
 
-use fractions::frac::Frac;
 use lp_model::Term;
+use lp_model::fractions::frac::Frac;
 
 /// Whether an id is one of so many.
 pub(crate) fn is_among(id: u32, count: usize) -> bool

@@ -8,7 +8,7 @@ use Rattle.shared_book.proofs.Made.{still_takes}
 use Rattle.presolve_model.specs.declared.outcome.Outcome.{Outcome}
 use Rattle.presolve_model.specs.Given.{Proposed}
 use Rattle.presolve_model.specs.Ledger.{Ledger}
-use Rattle.txn_book.specs.Sharing.{after_call, allows_call, IsFrom, takes_later}
+use Rattle.book_turns.specs.Sharing.{after_call, allows_call, IsFrom, takes_later}
 use Rattle.book_turns.specs.Turns.{IsCalled, IsPass, left_of, Turn}
 use Rattle.worker_tasks.specs.Tasks.{AreCommitted}
 

@@ -7,19 +7,19 @@ ghost use Rattle.presolve_model.specs.declared.instance.Instance.{Instance as An
 ghost use Rattle.presolve_model.specs.Ledger.{Stands};
 ghost use Rattle.presolve_model.specs.Scans.{found_at};
 ghost use Rattle.presolve_model.specs.Tallies.{open_on};
-ghost use Rattle.txn_book.specs.Sharing.{IsFrom};
+ghost use Rattle.book_turns.specs.Sharing.{IsFrom};
 ghost use Rattle.book_turns.specs.Turns.{IsPass, left_of};
 ghost use Rattle.worker_tasks.specs.Tasks.{AreCommitted, found_of, HoldsChunk};
 ghost use Rattle.worker_tasks.specs.Work.{instances_in};
 
 use crate::work::Work;
+use book_turns::txn_book::Book;
+use book_turns::txn_book::instances::{Chunk, Proposal, Version, scan_at};
 use presolve_model::{Outcome, Rule};
 use shared_book::{Pass, SharedBook};
 use std::alloc::{AllocError, Global};
 use std::marker::Model;
 use std::sync::Wait;
-use txn_book::Book;
-use txn_book::instances::{Chunk, Proposal, Version, scan_at};
 
 /// Some first ids of a rule, all of them in one chunk.
 #[derive(Drop)]

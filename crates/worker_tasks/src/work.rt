@@ -5,10 +5,10 @@ ghost use Rattle.std.specs.List.{Contains};
 ghost use Rattle.presolve_model.specs.declared.instance.Instance.{Instance as AnInstance};
 ghost use Rattle.worker_tasks.specs.Work.{instances_in};
 
+use book_turns::txn_book::instances::Proposal;
 use presolve_model::Instance;
 use std::alloc::{AllocError, Global};
 use std::marker::Model;
-use txn_book::instances::Proposal;
 
 /// What a worker has done in a round: the numbers of the tasks that it finished, and the instances that it found in its tasks, each of which it
 /// committed. With it whether the book took no more, and whether memory ran out.

@@ -1,6 +1,10 @@
+use Rattle.std.proofs.Common.{◌≢◌, ◌%◌, ◌^◌, arith}
 use Rattle.std.proofs.Common.{sym, ◌∙◌}
-use Rattle.fractions.proofs.Placing.{place_start, place_here, place_further, place_end, room_of}
+use Rattle.fractions.proofs.Placing.{place_start, place_here, place_further, place_end, room_of, none_shown}
 use Rattle.fractions.proofs.places.place.Goals as goal
+
+pub returns-then-power-under-ne0-clause-value : goal.returns-then-power-under-ne0-clause-value
+returns-then-power-under-ne0-clause-value c = let g : 10 ^ 38 % c.args.under ≢ 0 = (λ e. grind (arith, e, c.if-power-under-ne0.true, c.power.ensures.value)) in sym (none_shown c.args.over c.args.under g)
 
 pub loop-k-init : goal.loop-k-init
 loop-k-init c = place_start c.args.over c.args.under

@@ -2,7 +2,7 @@ use Rattle.std.proofs.Common.{◌≡◌, sym, ap, ◌∙◌, ◌-◌, ◌∷◌,
 use Rattle.shared_book.specs.declared.call.Call.TheVariants.{Commit}
 use Rattle.shared_book.proofs.Turns.{starts_trans}
 use Rattle.presolve_model.specs.Given.{Proposed}
-use Rattle.txn_book.specs.Sharing.{IsFrom}
+use Rattle.book_turns.specs.Sharing.{IsFrom}
 use Rattle.book_turns.specs.Turns.{left_of}
 use Rattle.worker_tasks.proofs.Commits.{call_begins, called_counts, called_ends, called_taken, first_and_rest}
 use Rattle.worker_tasks.proofs.task.commit_all.Goals as goal

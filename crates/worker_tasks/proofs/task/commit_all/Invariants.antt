@@ -2,7 +2,7 @@ use Rattle.std.proofs.Common.{◌≡◌, ◌+◌, length}
 use Rattle.std.specs.List.{All}
 use Rattle.shared_book.specs.History.{Known, StartsWith}
 use Rattle.presolve_model.specs.Ledger.{Ledger}
-use Rattle.txn_book.specs.Sharing.{IsFrom}
+use Rattle.book_turns.specs.Sharing.{IsFrom}
 use Rattle.book_turns.specs.Turns.{IsPass, left_of, Turn}
 use Rattle.worker_tasks.specs.Tasks.{AreCommitted}
 use Rattle.worker_tasks.proofs.task.commit_all.Given as goal

@@ -2,7 +2,7 @@ use Rattle.std.proofs.Common.{sym, ◌∙◌, subst}
 use Rattle.std.specs.List.{All}
 use Rattle.presolve_model.specs.Scans.{instances_at}
 use Rattle.presolve_model.specs.Tallies.{open_on}
-use Rattle.txn_book.specs.Sharing.{IsFrom}
+use Rattle.book_turns.specs.Sharing.{IsFrom}
 use Rattle.book_turns.specs.Turns.{left_of}
 use Rattle.book_turns.proofs.Going.{each_taken}
 use Rattle.worker_tasks.proofs.Tasking.{open_there}
