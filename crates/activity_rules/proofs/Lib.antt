@@ -1,4 +1,5 @@
 pub mod Looks
 pub mod Tightened
 pub mod InfiniteEnds
+pub mod Cursors
 pub mod Slackness

@@ -1,5 +1,5 @@
 -- What the looks at a row say of the rules.
-use Rattle.std.proofs.Common.{◌≡◌, ℕ, Bool, true, false, not, ◌&&◌, ◌||◌, Option, Some, None, is_none, Result, Ok, Err, true≢false, refl, sym, ◌∙◌}
+use Rattle.std.proofs.Common.{◌≡◌, ℕ, Bool, true, false, ◌&&◌, ◌||◌, Option, Some, None, is_none, Result, Ok, Err, true≢false, refl, sym, ◌∙◌}
 use Rattle.lp_model.specs.EndTests.{is_crossed, is_in_order}
 use Rattle.problem_model.specs.Problems.{row_at, sides_at}
 use Rattle.problem_model.specs.Sparse.{Sparse}

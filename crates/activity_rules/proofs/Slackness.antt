@@ -1,5 +1,5 @@
 -- Where a row keeps its side with a column at its other end, it implies no better bound.
-use Rattle.std.proofs.Common.{◌≡◌, ◌≢◌, inl, inr, ℕ, Bool, true, false, not, [], ◌∷◌, List, Option, Some, None, Result, Ok, refl, sym, ap, ◌∙◌, ◌++◌, append-nil, subst}
+use Rattle.std.proofs.Common.{◌≡◌, ◌≢◌, inl, inr, Bool, true, false, not, [], ◌∷◌, List, Option, Some, None, Result, Ok, refl, sym, ap, ◌∙◌, subst}
 use Rattle.std.specs.Prelude.{if◌then◌else◌}
 use Rattle.rational.specs.Number.{Number, zero_ℚ, ◌+ℚ◌, ◌-ℚ◌, ◌*ℚ◌, neg_ℚ}
 use Rattle.rational.specs.Order.{◌≤ℚ◌, ◌<ℚ◌}
@@ -24,9 +24,9 @@ use Rattle.row_spans.specs.Exact.{fits, sum_fits, if_room}
 use Rattle.kept_sums.specs.KeptSides.{EndKept, IsQuiet, Keeps, KeepsTurned, opposite}
 use Rattle.row_spans.specs.RowSums.{rest}
 use Rattle.row_spans.specs.Spans.{end_at}
-use Rattle.activity_laws.specs.BoundTightening.{if_made, implied, is_better, left_over, old_bound, over_entry}
+use Rattle.activity_laws.specs.BoundTightening.{if_made, is_better, left_over, old_bound, over_entry}
 use Rattle.activities.specs.Rows.{source_of}
-use Rattle.activity_rules.specs.Tightened.{AreQuiet, bound_if, is_below, is_tight}
+use Rattle.activity_rules.specs.Tightened.{AreQuiet, is_below, is_tight}
 use Rattle.kept_sums.specs.declared.kept_sides.QuietSides.{QuietSides}
 
 none_better : (side : Side) (old : Option Number) → is_better side old None ≡ false
@@ -132,6 +132,3 @@ quiet_not_tight sides ss s q n a Upper t = by (lt_ℚ zero_ℚ s.value) refl t
     by : (c : Bool) → lt_ℚ zero_ℚ s.value ≡ c → (if not c then q.lower else q.upper) ≡ true → is_better Upper (old_bound Upper s.lower s.upper) (if c then left_over s.value sides.upper (rest Least s.id ss) else left_over s.value sides.lower (rest Greatest s.id ss)) ≡ false
     by true e t = quiet_not_better Upper Least s ss sides.upper n (sym (ap (source_of Upper) e)) (a.upper t)
     by false e t = quiet_not_better Upper Greatest s ss sides.lower n (sym (ap (source_of Upper) e)) (a.lower t)
-
-pub none_added : (x : List (ℕ × Side)) (a : Bool) (j : ℕ) (side : Side) → a ≡ false → x ≡ x ++ bound_if a j side
-none_added x a j side e = sym (append-nil x) ∙ ap (λ (y : Bool). x ++ bound_if y j side) (sym e)

@@ -1,5 +1,5 @@
 -- The bounds that a row implies, by its entries with the bounds of their columns.
-use Rattle.std.specs.Prelude.{◌≡◌, ℕ, Bool, true, false, not, ◌&&◌, ◌||◌, Option, Some, None, List, [], ◌∷◌, ◌++◌, if◌then◌else◌}
+use Rattle.std.specs.Prelude.{◌≡◌, ℕ, Bool, true, false, not, ◌&&◌, ◌||◌, Option, Some, None, List, [], ◌∷◌, ◌++◌, drop, if◌then◌else◌}
 use Rattle.std.specs.List.{flat_map}
 use Rattle.undo_records.specs.declared.side.Side.{Side}
 use Rattle.undo_records.specs.declared.side.Side.TheVariants.{Lower, Upper}
@@ -16,6 +16,7 @@ use Rattle.row_spans.specs.RowSums.{all_finite, rest}
 use Rattle.row_spans.specs.Spans.{ends_at, spans_of}
 use Rattle.activity_laws.specs.BoundTightening.{has_two, implied, is_better, new_bound, old_bound}
 use Rattle.activities.specs.Rows.{is_uncrossed}
+use Rattle.activity_rules.specs.declared.tightened_bounds.Cursor.{Cursor}
 
 -- nothing of a row is crossed, and it has two entries or more
 abbrev pub is_looked_at : Sparse → ℕ → Bool
@@ -65,3 +66,12 @@ is_below Upper positive = not positive
 pub record AreQuiet (b : Sides) (ss : List Span) (s : Span) (q : QuietSides) : Type 0 where
   pub lower : q.lower ≡ true → IsQuiet Greatest b.lower s (rest Greatest s.id ss)
   pub upper : q.upper ≡ true → IsQuiet Least b.upper s (rest Least s.id ss)
+
+-- an upper bound that is kept
+abbrev pub kept_upper : Option ℕ → List (ℕ × Side)
+kept_upper None = []
+kept_upper (Some j) = (j, Upper) ∷ []
+
+-- the bounds that are left at a cursor
+abbrev pub left_of : Sides → List Span → Cursor → List (ℕ × Side)
+left_of b ss c = kept_upper c.upper ++ found_among b ss (drop c.place ss)

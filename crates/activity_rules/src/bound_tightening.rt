@@ -1,25 +1,18 @@
 //! K8: a bound of a column becomes the one that a row implies with the bounds of its other columns, where that is a better one.
 
-ghost use Rattle.std.specs.Prelude.{◌≡◌, ◌≢◌, ◌<◌, ◌++◌, true, length, if◌then◌else◌, IfOk, OnOk};
-ghost use Rattle.std.specs.List.{filter};
-ghost use Rattle.rational.specs.Number.{zero_ℚ};
-ghost use Rattle.rational.specs.Compare.{lt_ℚ};
+ghost use Rattle.std.specs.Prelude.{◌≡◌, true, IfOk};
 ghost use Rattle.lp_model.specs.Sparse.{has};
 ghost use Rattle.problem_model.specs.Problems.{bounds_at, row_at, row_entries, sides_at};
 ghost use Rattle.rule_words.specs.Answers.{Changes};
-ghost use Rattle.row_spans.specs.Spans.{span_at, spans_of};
-ghost use Rattle.activity_laws.specs.BoundTightening.{bound_set, bounds_of, enabled, edits, has_two, implied, new_bound as new_by, old_bound as old_by, record_of, Computes};
-ghost use Rattle.activity_rules.specs.Tightened.{AreQuiet, bound_if, found_among, found_at, gets_better as bound_gets_better, is_below, is_looked_at as row_is_looked_at, is_tight as is_tight_by};
+ghost use Rattle.row_spans.specs.Spans.{spans_of};
+ghost use Rattle.activity_laws.specs.BoundTightening.{bound_set, enabled, edits, has_two, new_bound as new_by, record_of, Computes};
+ghost use Rattle.activity_rules.specs.Tightened.{gets_better as bound_gets_better, is_looked_at as row_is_looked_at};
 
-use crate::infinite_ends::may_tighten;
 use activities::row_bounds::{is_better, left_over, old_bound, source};
 use activities::rows::is_uncrossed;
-use activities::{RowSums, entry_of, rest_of};
+use activities::{entry_of, rest_of};
 use fractions::ext::Ext;
-use fractions::frac::Frac;
-use kept_sums::QuietSides;
-use problem_model::{Edit, Refusal, Sides};
-use row_spans::{Extreme, Span};
+use problem_model::{Edit, Refusal};
 use rule_words::Change;
 use sparse_problem::Problem;
 use std::alloc::{AllocError, Global};
@@ -34,7 +27,7 @@ fn has_others(problem: &Problem, row: u32) -> bool
 }
 
 /// Whether nothing of a row is crossed, and it has two entries or more.
-fn is_looked_at(problem: &Problem, row: u32) -> bool
+pub(crate) fn is_looked_at(problem: &Problem, row: u32) -> bool
     ensures { result ≡ row_is_looked_at problem.now row }
 {
     is_uncrossed(problem, row) && has_others(problem, row)
@@ -163,121 +156,4 @@ pub fn change(
 {
     let edit = moved_bound(problem, row, column, side);
     change_by(alloc, problem, row, column, side, edit)
-}
-
-/// The entry at a place of a row that was summed.
-fn span_of(sums: &RowSums, place: usize) -> Span
-    requires { place < length sums.now }
-    ensures value { result ≡ span_at sums.now place }
-    ensures some { result.value ≢ zero_ℚ }
-{
-    sums.spans()[place]
-}
-
-/// The bound that the row implies for the column of that entry.
-fn implied_at(sums: &RowSums, sides: &Sides, place: usize, side: Side) -> Ext
-    requires { place < length sums.now }
-    ensures { result ≡ implied side (span_at sums.now place).id (span_at sums.now place).value sides.now.lower sides.now.upper sums.now }
-{
-    let span = span_of(sums, place);
-    let (extreme, end) = source(side, &span.value, sides);
-    if end.is_none() {
-        return Ext::none();
-    }
-    left_over(&span.value, &end, sums.rest(extreme, place))
-}
-
-/// Whether the implied bound is better than the column's own.
-fn is_tight(sums: &RowSums, sides: &Sides, place: usize, side: Side) -> bool
-    requires { place < length sums.now }
-    ensures { result ≡ is_tight_by sides.now sums.now (span_at sums.now place) side }
-{
-    let span = span_of(sums, place);
-    let old = old_bound(side, &span.lower, &span.upper);
-    is_better(side, &old, &implied_at(sums, sides, place, side))
-}
-
-/// Whether the side tells of no better bound from which a bound of a column with this entry follows.
-fn is_quiet(quiet: QuietSides, entry: &Frac, side: Side) -> bool
-    ensures { result ≡ (if is_below side (lt_ℚ zero_ℚ entry.now) then quiet.lower else quiet.upper) }
-{
-    let is_lower = match side {
-        Side::Lower => entry.is_positive(),
-        Side::Upper => !entry.is_positive(),
-    };
-    if is_lower { quiet.lower } else { quiet.upper }
-}
-
-/// Adds a bound of that column if the row implies a better one. Most that are not better are told by the sides that are quiet.
-fn add_bound(
-    sums: &RowSums,
-    sides: &Sides,
-    quiet: QuietSides,
-    place: usize,
-    side: Side,
-    found: &mut Vec<(u32, Side)>,
-) -> Result<(), AllocError>
-    requires place { place < length sums.now }
-    requires quiet { AreQuiet sides.now sums.now (span_at sums.now place) quiet }
-    ensures { OnOk result (found.new.items ≡ found.old.items ++ bound_if (is_tight_by sides.now sums.now (span_at sums.now place) side) (span_at sums.now place).id side) }
-{
-    let span = span_of(sums, place);
-    if is_quiet(quiet, &span.value, side) {
-        return Ok(());
-    }
-    if is_tight(sums, sides, place, side) {
-        found.push((span.id, side))?;
-    }
-    Ok(())
-}
-
-/// Adds the lower bound of that column, and then the upper one.
-fn add_both(
-    sums: &RowSums,
-    sides: &Sides,
-    place: usize,
-    found: &mut Vec<(u32, Side)>,
-) -> Result<(), AllocError>
-    requires { place < length sums.now }
-    ensures { OnOk result (found.new.items ≡ found.old.items ++ found_at sides.now sums.now (span_at sums.now place)) }
-{
-    let quiet = sums.quiet_sides(place, &sides.lower, &sides.upper);
-    add_bound(sums, sides, quiet, place, Side::Lower, found)?;
-    add_bound(sums, sides, quiet, place, Side::Upper, found)
-}
-
-/// Adds the bounds of the columns of a row with these sides for which it implies better ones.
-fn add_all(sums: &RowSums, sides: &Sides, found: &mut Vec<(u32, Side)>) -> Result<(), AllocError>
-    ensures { OnOk result (found.new.items ≡ found.old.items ++ found_among sides.now sums.now sums.now) }
-{
-    for place in 0..sums.spans().len() {
-        add_both(sums, sides, place, found)?;
-    }
-    Ok(())
-}
-
-/// Adds all bounds of the columns of a row that can be tightened by it, in the order of its entries, the lower one first. The row is summed
-/// once, and not at all where its infinite ends alone say that it has none.
-///
-/// # Errors
-/// Memory ran out.
-pub fn add_tightened(
-    alloc: Global,
-    problem: &Problem,
-    row: u32,
-    found: &mut Vec<(u32, Side)>,
-) -> Result<(), AllocError>
-    ensures { OnOk result (found.new.items ≡ found.old.items ++ filter (λ x. enabled problem.now row x.0 x.1) (bounds_of (row_entries problem.now row))) }
-{
-    if !is_looked_at(problem, row) {
-        return Ok(());
-    }
-    problem.is_sparse();
-    if !may_tighten(problem, row) {
-        return Ok(());
-    }
-    let sides = problem.sides(row);
-    let sums = RowSums::of_row(alloc, problem, row)?;
-    add_all(&sums, &sides, found)?;
-    Ok(())
 }

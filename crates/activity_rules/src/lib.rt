@@ -8,3 +8,4 @@ pub mod infeasible_row;
 mod infinite_ends;
 pub mod redundant_row;
 pub mod redundant_side;
+pub mod tightened_bounds;

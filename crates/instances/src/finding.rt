@@ -17,7 +17,7 @@ use crate::tally::Tally;
 use line_groups::Parallels;
 use lp_model::Term;
 use presolve_model::{Instance, Reduction, Rule, Verdict};
-use rule_table::activity_rules::bound_tightening::add_tightened;
+use rule_table::activity_rules::tightened_bounds::add_tightened;
 use rule_table::dual_rules::dominated_column::pairs_at;
 use rule_table::is_enabled;
 use sparse_problem::Problem;

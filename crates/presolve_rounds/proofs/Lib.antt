@@ -3,3 +3,4 @@ pub mod Sources
 pub mod Running
 pub mod Sharing
 pub mod Beside
+pub mod RowBounds

@@ -32,7 +32,7 @@ use Rattle.presolve_model.specs.Tables.{heads}
 use Rattle.presolve_model.proofs.Histories.{counted_along}
 use Rattle.presolve_model.proofs.Readings.{reading_agrees}
 use Rattle.history_laws.proofs.Keeping.{sparse_replay}
-use Rattle.place_laws.specs.Choosing.{all_around, AreSorted, Around, HoldsAround, IsComplete, visited}
+use Rattle.place_laws.specs.Choosing.{all_around, AreSorted, Around, HasEach, HoldsAround, IsComplete, visited}
 use Rattle.dual_laws.specs.declared.form.Form.{Form}
 use Rattle.dual_laws.specs.Forms.{LetsByCost, LetsInPairs}
 use Rattle.presolve_model.specs.declared.instance.Reach.{Reach}
@@ -161,14 +161,21 @@ counted_of b h a =
     let few : changes_of b.problem a ≤ changes_of b.start a + length b.history = subst (λ (p : Sparse). changes_of p a ≤ changes_of b.start a + length b.history) (sym h.problem) (counted_along b.numbers b.start b.history a h.sound h.replays) in
     omega (arith, few, h.unchanged a)
 
-pub ready_first : (b : Ledger) (s : Stamped) (n : Around) (w : Watched) → Stands b → b.limit < 2 ^ 64 → s ≡ stamps_of b.problem → n ≡ all_around b.problem → w.forms ≡ forms_of b.problem → IsReady b s n w
-ready_first b s n w h short es en ew = record {
+pub ready_from : (b : Ledger) (s : Stamped) (n : Around) (w : Watched) → Stands b → b.limit < 2 ^ 64 → s ≡ stamps_of b.problem → AreSorted n → HasEach (open_on b.tally) b.problem n → w.forms ≡ forms_of b.problem → IsReady b s n w
+ready_from b s n w h short es sorted each ew = record {
   follows = follows_start b (counted_of b h) short (sparse_of b h);
   stamps = subst (λ (x : Stamped). AreStampsOf x b.problem) (sym es) (stamped b.problem);
   forms = subst (λ (x : Formed). AreFormsOf x b.problem) (sym ew) (formed b.problem);
-  sorted = subst AreSorted (sym en) (all_sorted b.problem);
-  complete = subst (λ (m : Around). IsComplete b.numbers (open_on b.tally) b.problem m w.marks.asleep) (sym en) (λ e on free. inl (all_each (open_on b.tally) b.problem e on free));
+  sorted = sorted;
+  complete = λ e on free. inl (each e on free);
 }
+
+-- all ids have each
+pub all_have : (b : Ledger) (n : Around) → n ≡ all_around b.problem → AreSorted n × HasEach (open_on b.tally) b.problem n
+all_have b n en = (subst AreSorted (sym en) (all_sorted b.problem), subst (HasEach (open_on b.tally) b.problem) (sym en) (all_each (open_on b.tally) b.problem))
+
+pub ready_first : (b : Ledger) (s : Stamped) (n : Around) (w : Watched) → Stands b → b.limit < 2 ^ 64 → s ≡ stamps_of b.problem → n ≡ all_around b.problem → w.forms ≡ forms_of b.problem → IsReady b s n w
+ready_first b s n w h short es en ew = let k = all_have b n en in ready_from b s n w h short es k.0 k.1 ew
 
 -- as a round begins
 pub ready_begun : (b : Ledger) (s : Stamped) (n : Around) (w v : Watched) → IsReady b s n w → v ≡ record { marks = record { noted = []; stirred = []; roused = []; asleep = w.marks.asleep }; forms = w.forms } → IsReady b s n v

@@ -1,17 +1,21 @@
 -- A pass on the way: it began with the book a.
-use Rattle.std.specs.Prelude.{◌≡◌, ◌⊎◌, Bool, true, false, List}
-use Rattle.std.specs.List.{Contains}
+use Rattle.std.specs.Prelude.{◌≡◌, ◌⊎◌, ℕ, Bool, true, false, List, map}
+use Rattle.std.specs.List.{Contains, filter}
+use Rattle.undo_records.specs.declared.side.Side.{Side}
+use Rattle.undo_records.specs.declared.side.Side.TheVariants.{Lower}
 use Rattle.problem_model.specs.declared.part.Part.{Part}
 use Rattle.problem_model.specs.Parts.{changes_of}
 use Rattle.problem_model.specs.Problems.{IsSparse}
 use Rattle.line_groups.specs.Groups.{AreGroupsOf}
 use Rattle.presolve_model.specs.declared.instance.Instance.{Instance}
+use Rattle.presolve_model.specs.declared.instance.Instance.TheVariants as at
+use Rattle.presolve_model.specs.declared.instance.Reduction.TheVariants.{BoundTightening}
 use Rattle.presolve_model.specs.declared.outcome.Outcome.{Outcome}
 use Rattle.presolve_model.specs.declared.outcome.Outcome.TheVariants.{Applied}
 use Rattle.presolve_model.specs.Enabled.{enabled_on}
 use Rattle.presolve_model.specs.Instances.{rule_at, shares_reading}
 use Rattle.presolve_model.specs.Ledger.{instance_count, Ledger}
-use Rattle.presolve_model.specs.Tallies.{open_on}
+use Rattle.presolve_model.specs.Tallies.{Open, open_on}
 use Rattle.place_laws.specs.Standing.{IsFresh}
 use Rattle.round_laws.specs.Passing.{Follows, Passed, ReadAlike}
 use Rattle.round_marks.specs.Forming.{AreFormsOf}
@@ -60,3 +64,11 @@ AreFresh a b es = (e : Instance) → Contains es e → IsFresh a.problem b.probl
 pub record IsMet (a : Ledger) (e : Instance) (v : Watched) (b c : Ledger) (applied : Bool) : Type 0 where
   pub still : applied ≡ false → c ≡ b
   pub stopped : applied ≡ true → (es : List Instance) → shares_reading (rule_at e) ≡ true → ReadAlike e es → IsPassed a es v c v c
+
+-- bounds of a row's columns, those that are open, as instances that tighten them
+abbrev pub open_bounds : Open → ℕ → List (ℕ × Side) → List Instance
+open_bounds opens i xs = map (λ x. at.Reduction (BoundTightening i x.0 x.1)) (filter (λ x. opens x.0 x.1) xs)
+
+-- one that reads what each of a row reads
+abbrev pub any_bound : ℕ → Instance
+any_bound i = at.Reduction (BoundTightening i 0 Lower)

@@ -16,5 +16,5 @@ pub use passes::{InTurn, Passes};
 pub use reduce::{conclude, opened, presolve_by};
 pub use round_marks;
 pub use round_marks::{instances, rule_table, txn_book};
-pub use rounds::{Swept, run, run_by, sweep};
+pub use rounds::{Swept, run, run_by, run_from, sweep};
 pub use source::{Source, source_of};

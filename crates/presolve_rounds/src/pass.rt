@@ -3,10 +3,11 @@
 //! What a round lists is never held. An instance whose parts have not changed since the round began is enabled on the present problem
 //! exactly where it was when the round began, and is then applied at once. One that reads a part which has changed would be stale, and is
 //! left to the next round. Where the instances of a rule with a first id share their reading, its parts are looked at once for all of them, and
-//! the first one that is applied leaves the others stale. Lines that are multiples of one another are those of one group as the round began: a
+//! the first one that is applied leaves the others stale. So the bounds that a row tightens are looked for one after the other. Lines that are multiples of one another are those of one group as the round began: a
 //! line that has changed since is noted, and so is looked at in the next round.
 
 ghost use Rattle.std.specs.Prelude.{◌≡◌, true, false, ◌∷◌, [], map, IfOk, OnOk};
+ghost use Rattle.presolve_model.specs.declared.instance.Rule.TheVariants as rule_of;
 ghost use Rattle.presolve_model.specs.Enabled.{enabled_on};
 ghost use Rattle.presolve_model.specs.Instances.{beside_at, instances_from};
 ghost use Rattle.presolve_model.specs.Order.{reduction_order, verdict_order};
@@ -16,12 +17,15 @@ ghost use Rattle.place_laws.specs.Choosing.{ids_of, instances_of, visited};
 ghost use Rattle.place_laws.specs.Standing.{IsFresh};
 ghost use Rattle.round_laws.specs.Passing.{Follows};
 ghost use Rattle.presolve_rounds.specs.Lines.{has_line};
-ghost use Rattle.presolve_rounds.specs.Walking.{AreAlike, AreFresh, begun, is_applied as applies, IsGoing, IsMet, IsPassed, IsWalk};
+ghost use Rattle.presolve_rounds.specs.Walking.{any_bound as some_bound, AreAlike, AreFresh, begun, is_applied as applies, IsGoing, IsMet, IsPassed, IsWalk, open_bounds};
 
 use instances::{add_enabled, instance_beside, lines_beside};
 use line_groups::Parallels;
-use presolve_model::{Instance, Outcome, Rule};
+use presolve_model::{Instance, Outcome, Reduction, Rule};
 use round_marks::around::Around;
+use round_marks::rule_table::activity_rules::tightened_bounds::{
+    TightenedBounds, may_be_tightened,
+};
 use round_marks::rule_table::{
     goes_by_groups, head, is_enabled, parts_read, reduction_rules, shares_reading, verdict_rules,
 };
@@ -31,6 +35,7 @@ use round_marks::watch::Watch;
 use sparse_problem::Problem;
 use std::alloc::{AllocError, Global};
 use std::snapshot::Snapshot;
+use undo_records::Side;
 
 /// What a pass looks at beside the book: how the round began, and so the book, how many instances had been applied to it, how often each part
 /// had changed, and the groups of lines.
@@ -184,6 +189,68 @@ fn visit_alike(
     meet_alike(alloc, book, walk, found, watch)
 }
 
+/// An instance that reads what each of those reads that tighten bounds by a row.
+fn any_bound(row: u32) -> Instance
+    ensures { result ≡ some_bound row }
+{
+    Instance::Reduction(Reduction::BoundTightening {
+        row,
+        column: 0,
+        side: Side::Lower,
+    })
+}
+
+/// The bounds that a row tightens, those that are open in turn, its parts as they stood when the round began: up to the first one that is
+/// applied, which leaves the others stale.
+fn meet_bounds(
+    alloc: Global,
+    book: &mut Book,
+    walk: &Walk<'_>,
+    row: u32,
+    mut bounds: TightenedBounds,
+    watch: &mut Watch,
+) -> Result<(), AllocError>
+    requires going { IsGoing (begun walk.now) watch.old book.old }
+    requires walk { IsWalk walk.now }
+    requires alike { AreAlike book.old (open_bounds (open_on book.old.tally) row bounds) }
+    requires fresh { AreFresh (begun walk.now) book.old (open_bounds (open_on book.old.tally) row bounds) }
+    ensures { OnOk result (IsPassed (begun walk.now) (open_bounds (open_on book.old.tally) row bounds) watch.old book.old watch.new book.new) }
+{
+    while let Some((column, side)) = bounds.next() {
+        if book.tally().is_open(column, side) {
+            let instance = Instance::Reduction(Reduction::BoundTightening { row, column, side });
+            if meet(alloc, book, walk, instance, watch)? {
+                return Ok(());
+            }
+        }
+    }
+    Ok(())
+}
+
+/// The instances that tighten bounds by a row, each looked for when its turn comes. Where a part that they read has changed since the round
+/// began they are stale, and none is looked for: that part is noted.
+fn visit_bounds(
+    alloc: Global,
+    book: &mut Book,
+    walk: &Walk<'_>,
+    row: u32,
+    watch: &mut Watch,
+) -> Result<(), AllocError>
+    requires going { IsGoing (begun walk.now) watch.old book.old }
+    requires walk { IsWalk walk.now }
+    ensures { OnOk result (IsPassed (begun walk.now) (instances_from (open_on (begun walk.now).tally) (begun walk.now).problem rule_of.BoundTightening row) watch.old book.old watch.new book.new) }
+{
+    if !may_be_tightened(book.problem(), row) {
+        return Ok(());
+    }
+    if !is_fresh(alloc, book, walk, any_bound(row))? {
+        return Ok(());
+    }
+    let bounds = TightenedBounds::of_row(alloc, book.problem(), row)?;
+    meet_bounds(alloc, book, walk, row, bounds, watch)?;
+    Ok(())
+}
+
 /// Whether the line is live with which the instances of a rule of lines that are multiples of one another begin.
 fn is_line_live(problem: &Problem, rule: Rule, id: u32) -> bool
     ensures { result ≡ has_line problem.now rule id }
@@ -236,6 +303,10 @@ fn visit_at(
     if goes_by_groups(rule) {
         let others = lines_beside(walk.groups, rule, id);
         visit_beside(alloc, book, walk, rule, id, others, watch)?;
+        return Ok(());
+    }
+    if matches!(rule, Rule::BoundTightening) {
+        visit_bounds(alloc, book, walk, id, watch)?;
         return Ok(());
     }
     let mut found = Vec::new(alloc);

@@ -11,6 +11,7 @@ ghost use Rattle.line_groups.specs.Groups.{AreGroupsOf};
 ghost use Rattle.presolve_model.specs.Ordered.{Committed, Ordered, enabled_verdicts, round_list};
 ghost use Rattle.presolve_model.specs.Stuck.{skipped_on, Stuck};
 ghost use Rattle.presolve_model.specs.Tallies.{open_on};
+ghost use Rattle.place_laws.specs.Choosing.{AreSorted, HasEach};
 ghost use Rattle.round_laws.specs.Passing.{IsSameBook};
 ghost use Rattle.round_marks.specs.Forming.{forms_of};
 ghost use Rattle.round_marks.specs.Marking.{AreReached};
@@ -178,18 +179,21 @@ fn end_at_limit(
     }
 }
 
-/// Rounds until nothing can be applied, a verdict was, or the limit is reached, with the groups of the book's problem. None where the book is
-/// decided.
+/// Rounds until nothing can be applied, a verdict was, or the limit is reached, with the groups of the book's problem. The first one looks at
+/// these ids. None where the book is decided.
 fn run_with<P: Passes, O: Onlooker>(
     alloc: Global,
     passes: &P,
     book: &mut Book,
     groups: &mut Parallels,
+    mut ids: Around,
     onlooker: &mut O,
 ) -> Result<Option<End>, AllocError>
     requires able { P.ready passes.now }
     requires groups { AreGroupsOf groups.old book.old.problem }
     requires undecided { book.old.verdict ≡ None }
+    requires sorted { AreSorted ids }
+    requires each { HasEach (open_on book.old.tally) book.old.problem ids }
     ensures book { OnOk result (IsSameBook book.old book.new) }
     ensures ordered { IfOk result (λ end. Ordered book.old end book.new) }
     ensures end { IfOk result (λ end. EndsWith end book.new) }
@@ -197,7 +201,6 @@ fn run_with<P: Passes, O: Onlooker>(
     book.stands();
     let limit = book.limit();
     let mut stamps = Stamps::of(alloc, book.problem())?;
-    let mut ids = Around::all_of(alloc, book.problem())?;
     let mut watch = Watch::of(alloc, book.problem())?;
     while book.applied() < limit {
         let applied = book.applied();
@@ -306,8 +309,33 @@ pub fn sweep<P: Passes, O: Onlooker>(
     Ok(swept)
 }
 
-/// Rounds until nothing can be applied, a verdict was, or the limit is reached, each gone over in this way. None where the book is decided.
-/// The onlooker is told after each round, and behind the last.
+/// Rounds until nothing can be applied, a verdict was, or the limit is reached, each gone over in this way. The first one looks at these ids, at
+/// which all is that is enabled and open. None where the book is decided. The onlooker is told after each round, and behind the last.
+///
+/// # Errors
+/// Memory ran out.
+pub fn run_from<P: Passes, O: Onlooker>(
+    alloc: Global,
+    passes: &P,
+    book: &mut Book,
+    ids: Around,
+    onlooker: &mut O,
+) -> Result<Option<End>, AllocError>
+    requires able { P.ready passes.now }
+    requires undecided { book.old.verdict ≡ None }
+    requires sorted { AreSorted ids }
+    requires each { HasEach (open_on book.old.tally) book.old.problem ids }
+    ensures book { OnOk result (IsSameBook book.old book.new) }
+    ensures ordered { IfOk result (λ end. Ordered book.old end book.new) }
+    ensures end { IfOk result (λ end. EndsWith end book.new) }
+{
+    let mut groups = Parallels::of(alloc, book.problem())?;
+    let end = run_with(alloc, passes, book, &mut groups, ids, onlooker);
+    onlooker.after_run();
+    end
+}
+
+/// The same, where the first round looks at everything.
 ///
 /// # Errors
 /// Memory ran out.
@@ -323,10 +351,8 @@ pub fn run_by<P: Passes, O: Onlooker>(
     ensures ordered { IfOk result (λ end. Ordered book.old end book.new) }
     ensures end { IfOk result (λ end. EndsWith end book.new) }
 {
-    let mut groups = Parallels::of(alloc, book.problem())?;
-    let end = run_with(alloc, passes, book, &mut groups, onlooker);
-    onlooker.after_run();
-    end
+    let ids = Around::all_of(alloc, book.problem())?;
+    run_from(alloc, passes, book, ids, onlooker)
 }
 
 /// The same on one thread, each instance looked at in its turn.

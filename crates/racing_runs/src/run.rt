@@ -13,13 +13,13 @@ use std::sync::Wait;
 use std::thread::Threads;
 use threaded_passes::ByThreads;
 use threaded_passes::presolve_rounds::txn_book::Book;
-use threaded_passes::presolve_rounds::{Onlooker, Swept, run_by, sweep};
+use threaded_passes::presolve_rounds::{Onlooker, Swept, run_by, run_from, sweep};
 use worker_gate::Gate;
-use worker_rounds::race;
+use worker_rounds::{RaceEnd, race};
 
 /// Rounds of workers, until nothing can be applied, a verdict was, or the limit is reached. Where a race has ended, one thread sweeps over
-/// everything; if that applies something, workers race again. Once their rounds are small, the run goes on in order. Gives the book that is
-/// left, and how the run ended: none where the book is decided.
+/// everything; if that applies something, workers race again. Once their rounds are small, the run goes on in order where the small one would
+/// look. Gives the book that is left, and how the run ended: none where the book is decided.
 ///
 /// # Errors
 /// Memory ran out. The book is dropped.
@@ -43,13 +43,17 @@ pub fn run_racing<R: Threads + Wait + Sync, G: Gate, O: Onlooker>(
     let limit = book.limit();
     let mut present = book;
     for _ in rt.forever() {
-        let (raced, is_small) = race(rt, alloc, present, gate, threads)?;
-        present = raced;
+        let RaceEnd { book, small } = race(rt, alloc, present, gate, threads)?;
+        present = book;
         onlooker.after_round(alloc, &present)?;
         if present.verdict().is_some() {
             return Ok((present, None));
         }
-        if is_small || present.applied() >= limit {
+        if let Some(ids) = small {
+            let end = run_from(alloc, &passes, &mut present, ids, onlooker)?;
+            return Ok((present, end));
+        }
+        if present.applied() >= limit {
             let end = run_by(alloc, &passes, &mut present, onlooker)?;
             return Ok((present, end));
         }

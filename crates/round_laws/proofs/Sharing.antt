@@ -60,9 +60,13 @@ noted_alike p m e x es alike c (a, r, k) = (
   subst (λ (ps : List Part). Contains ps a) (sym (noted_count m (reach_of (rule_at x)) (alike.by_value x c))) k,
 )
 
+-- one of them is stale, and reads a part that is noted
+pub row_noted : (opens : Open) (f : Sparse) (v : ℕ) (m : Marks) (b : Ledger) (e : Instance) (es : List Instance) → Follows opens f b → (IsFresh f b.problem e → ⊥) → ReadAlike e es → IsNoted b.problem m.noted e → Passed opens f v es m b m b
+row_noted opens f v m b e es h stale alike noted = all_left opens f v m b es h (λ x c. (stale_alike f b.problem e x es alike c stale, noted_alike b.problem m e x es alike c noted))
+
 pub row_stale : (opens : Open) (f : Sparse) (v : ℕ) (n m : Marks) (b : Ledger) (e : Instance) (es : List Instance) (a : Part) → Follows opens f b → (IsFresh f b.problem e → ⊥) → ReadAlike e es → Grows n m → Contains (heads e) a → Contains m.noted a → Passed opens f v es n b m b
 row_stale opens f v n m b e es a h stale alike kept own there = passed_on opens f v [] es n m m b b b (marked opens f v n m b h kept)
-    (all_left opens f v m b es h (λ x c. (stale_alike f b.problem e x es alike c stale, noted_alike b.problem m e x es alike c (a, Contains-append_left (heads e) (more e _) a own, there))))
+    (row_noted opens f v m b e es h stale alike (a, Contains-append_left (heads e) (more e _) a own, there))
 
 -- ---- one of them is applied: a part that it reads has changed
 module _ (opens : Open) (f : Sparse) (v : ℕ) (n m : Marks) (b : Ledger) (r : Reduction) (es : List Instance) (h : Follows opens f b) (fresh : IsFresh f b.problem (at.Reduction r)) (on : enabled_on b.problem (at.Reduction r) ≡ true)

@@ -19,7 +19,7 @@ ghost use Rattle.presolve_model.specs.Stuck.{Stuck};
 ghost use Rattle.presolve_model.specs.Tables.{heads};
 ghost use Rattle.presolve_model.specs.Tallies.{Open, open_on};
 ghost use Rattle.place_laws.specs.Choosing.{AreSorted, Around, IsComplete, visited};
-ghost use Rattle.place_laws.specs.Marks.{Grows, Marks, parts_for};
+ghost use Rattle.place_laws.specs.Marks.{Grows, IsNoted, Marks, parts_for};
 ghost use Rattle.place_laws.specs.Standing.{IsFresh};
 ghost use Rattle.round_laws.specs.Passing.{Follows, Passed, ReadAlike};
 ghost use Rattle.round_laws.specs.Turning.{MetIsPassed, OthersArePassed, PassMarksAll, RestIsPassed, SleeperIsPassed};
@@ -47,11 +47,12 @@ pub fn turns_pass()
     ensures more { (opens : Open) (f : Sparse) (v : ℕ) (es fs : List Instance) (n m k : Marks) (b c d : Ledger) → Passed opens f v es n b m c → Passed opens f v fs m c k d → Passed opens f v (es ++ fs) n b k d }
 {}
 
-/// Instances that read the same parts. Where the first of them is stale all are, and they are marked with one part that it reads. Where it
-/// is fresh each is. The first one that is applied changes a part that the others read, so that they are stale, and marked, as that is noted.
+/// Instances that read the same parts. Where the first of them is stale all are, and they are marked with one part that it reads; where a part
+/// that it reads is noted they are marked as they are. Where it is fresh each is. The first one that is applied changes a part that the others read, so that they are stale, and marked, as that is noted.
 /// The instances of a rule with a first id read the same parts, where they share their reading.
 pub fn rows_are_met()
     ensures stale { (opens : Open) (f : Sparse) (v : ℕ) (n m : Marks) (b : Ledger) (e : Instance) (es : List Instance) (a : Part) → Follows opens f b → (IsFresh f b.problem e → ⊥) → ReadAlike e es → Grows n m → Contains (heads e) a → Contains m.noted a → Passed opens f v es n b m b }
+    ensures noted { (opens : Open) (f : Sparse) (v : ℕ) (m : Marks) (b : Ledger) (e : Instance) (es : List Instance) → Follows opens f b → (IsFresh f b.problem e → ⊥) → ReadAlike e es → IsNoted b.problem m.noted e → Passed opens f v es m b m b }
     ensures fresh { (f p : Sparse) (e x : Instance) (es : List Instance) → ReadAlike e es → Contains es x → IsFresh f p e → IsFresh f p x }
     ensures stopped { OthersArePassed }
     ensures alike { (opens : Open) (p : Sparse) (r : Rule) (k : ℕ) (e : Instance) (es : List Instance) → shares_reading r ≡ true → Contains (instances_from opens p r k) e → ((x : Instance) → Contains es x → Contains (instances_from opens p r k) x) → ReadAlike e es }

@@ -2,7 +2,7 @@
 use Rattle.std.proofs.Common.{◌≡◌, ℕ, ◌+◌, ◌<◌, ◌≤◌, ◌^◌, true, List, [], ◌∷◌, ◌++◌, length, sym, ap, ◌∙◌, subst, arith, append_assoc}
 use Rattle.std.specs.Prelude.{Ok}
 use Rattle.shared_book.specs.declared.call.Call.TheVariants.{Commit, Freeze}
-use Rattle.shared_book.specs.History.{HasFrozen, IsAnswered, Known, Shared}
+use Rattle.shared_book.specs.History.{HasFrozen, IsAnswered, Known, Shared, StartsWith}
 use Rattle.problem_model.specs.declared.part.Part.{Part}
 use Rattle.problem_model.specs.Parts.{changes_of}
 use Rattle.problem_model.specs.Problems.{IsSparse}
@@ -80,38 +80,44 @@ follows_here b s short = follows_start b counted short (subst IsSparse (sym s.pr
         let few : changes_of b.problem a ≤ changes_of b.start a + length b.history = subst (λ (p : Sparse). changes_of p a ≤ changes_of b.start a + length b.history) (sym s.problem) (counted_along b.numbers b.start b.history a s.sound s.replays) in
         omega (arith, few, s.unchanged a)
 
+-- ---- a freeze, and calls behind it
+module _ (start : Ledger) (before rest : List Turn) (v : Version) (stands : Stands start) (short : start.limit < 2 ^ 64) (legal : IsHistory start (before ++ (Freeze (Ok v) ∷ rest))) where
+  abbrev early : Ledger
+  early = left_of start before
+
+  goes : GoesOn start early
+  goes = goes_along start before stands (history_front start before (Freeze (Ok v) ∷ rest) legal)
+
+  pub later_than : (w : Version) → w ≡ version_of (left_of start (before ++ (Freeze (Ok v) ∷ rest))) → IsLater v w
+  later_than w is = record {
+    earlier = early;
+    later = left_of early (Freeze (Ok v) ∷ rest);
+    before = frozen_is start before rest v legal;
+    after = is ∙ ap version_of (left_parts start before (Freeze (Ok v) ∷ rest));
+    follows = follows_calls (open_on early.tally) early.problem early (Freeze (Ok v) ∷ rest) (history_rest start before (Freeze (Ok v) ∷ rest) legal) (follows_here early goes.stands (omega (arith, short, goes.limit)));
+    opened = opened_calls early (Freeze (Ok v) ∷ rest);
+  }
+
 -- ---- two freezes
 module _ (s : Shared Ledger) (p q : Known Ledger Turn) (v w : Version) (stands : Stands s.start) (short : s.start.limit < 2 ^ 64) (frozen : HasFrozen p v) (call : IsCalled s p (Freeze (Ok w)) q) where
   abbrev before : List Turn
   before = frozen.0
 
   abbrev rest : List Turn
-  rest = Freeze (Ok v) ∷ (frozen.1 ++ call.seen.0)
+  rest = frozen.1 ++ call.seen.0
 
-  seen : q.seen ≡ (before ++ rest) ++ Freeze (Ok w) ∷ []
+  seen : q.seen ≡ (before ++ (Freeze (Ok v) ∷ rest)) ++ Freeze (Ok w) ∷ []
   seen = call.seen.1 ∙ ap (λ (cs : List Turn). cs ++ Freeze (Ok w) ∷ []) (ap (λ (cs : List Turn). cs ++ call.seen.0) frozen.2 ∙ append_assoc before (Freeze (Ok v) ∷ frozen.1) call.seen.0)
 
-  legal : IsHistory s.start ((before ++ rest) ++ Freeze (Ok w) ∷ [])
+  legal : IsHistory s.start ((before ++ (Freeze (Ok v) ∷ rest)) ++ Freeze (Ok w) ∷ [])
   legal = subst (IsHistory s.start) seen call.pass.legal
 
-  all : IsHistory s.start (before ++ rest)
-  all = history_front s.start (before ++ rest) (Freeze (Ok w) ∷ []) legal
-
-  abbrev early : Ledger
-  early = left_of s.start before
-
-  abbrev late : Ledger
-  late = left_of early rest
-
-  goes : GoesOn s.start early
-  goes = goes_along s.start before stands (history_front s.start before rest all)
-
   pub later_version : IsLater v w
-  later_version = record {
-    earlier = early;
-    later = late;
-    before = frozen_is s.start before (frozen.1 ++ call.seen.0) v all;
-    after = frozen_is s.start (before ++ rest) [] w legal ∙ ap version_of (left_parts s.start before rest);
-    follows = follows_calls (open_on early.tally) early.problem early rest (history_rest s.start before rest all) (follows_here early goes.stands (omega (arith, short, goes.limit)));
-    opened = opened_calls early rest;
-  }
+  later_version = later_than s.start before rest v stands short (history_front s.start (before ++ (Freeze (Ok v) ∷ rest)) (Freeze (Ok w) ∷ []) legal) w (frozen_is s.start (before ++ (Freeze (Ok v) ∷ rest)) [] w legal)
+
+-- ---- a freeze that a pass saw, and the book that is left when all is closed
+pub later_left : (s : Shared Ledger) (p : Known Ledger Turn) (c : Ledger) (v : Version) (log : List Turn) → Stands s.start → s.start.limit < 2 ^ 64 → IsHistory s.start log → c ≡ left_of s.start log → StartsWith log p.seen → HasFrozen p v → IsLater v (version_of c)
+later_left s p c v log stands short legal left begins frozen =
+    let long : log ≡ frozen.0 ++ (Freeze (Ok v) ∷ (frozen.1 ++ begins.0)) =
+    begins.1 ∙ ap (λ (cs : List Turn). cs ++ begins.0) frozen.2 ∙ append_assoc frozen.0 (Freeze (Ok v) ∷ frozen.1) begins.0 in
+    later_than s.start frozen.0 (frozen.1 ++ begins.0) v stands short (subst (IsHistory s.start) long legal) (version_of c) (ap version_of (left ∙ ap (left_of s.start) long))

@@ -12,5 +12,5 @@ mod workers;
 pub use done::is_all_done;
 pub use laws::{freezes_in_turn, rounds_mark_all};
 pub use marks::{ids_after, leave_found};
-pub use racing::race;
+pub use racing::{RaceEnd, race};
 pub use workers::{Worker, do_tasks, has_failed, hire, is_over};

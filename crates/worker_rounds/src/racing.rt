@@ -3,15 +3,16 @@
 ghost use Rattle.std.specs.Prelude.{◌≡◌, ℕ, ◌<◌, ◌≤◌, ◌^◌, true, [], IfOk, IfSome, OnOk};
 ghost use Rattle.shared_book.specs.History.{HasFrozen};
 ghost use Rattle.problem_model.specs.Problems.{IsSparse};
-ghost use Rattle.place_laws.specs.Choosing.{AreSorted};
+ghost use Rattle.place_laws.specs.Choosing.{AreSorted, HasEach};
 ghost use Rattle.presolve_model.specs.Ledger.{Stands};
 ghost use Rattle.undo_records.specs.declared.side.Side.{Side};
-ghost use Rattle.presolve_model.specs.Tallies.{tightenings};
+ghost use Rattle.presolve_model.specs.Tallies.{open_on, tightenings};
+ghost use Rattle.presolve_model.specs.Worlds.{version_of};
 ghost use Rattle.book_turns.specs.Turns.{GoesOn, IsPass};
 ghost use Rattle.round_marks.specs.Stamping.{stamps_of};
 ghost use Rattle.round_tasks.specs.Changes.{IsAsLong};
-ghost use Rattle.worker_rounds.specs.Looks.{IsLooking};
-ghost use Rattle.worker_rounds.specs.Marking.{HasLeft, LooksAt};
+ghost use Rattle.worker_rounds.specs.Looks.{HasAllOf, IsLooking};
+ghost use Rattle.worker_rounds.specs.Marking.{HasLeft, IsLater, LooksAt};
 
 use crate::marks::ids_after;
 use crate::round::round;
@@ -20,6 +21,7 @@ use round_marks::around::Around;
 use round_marks::rule_table::{reduction_rules, verdict_rules};
 use round_marks::stamps::Stamps;
 use round_marks::watch::Watch;
+use round_tasks::changed_parts;
 use shared_book::{Pass, SharedBook};
 use std::alloc::{AllocError, Global};
 use std::sync::Wait;
@@ -28,7 +30,7 @@ use txn_book::Book;
 use worker_gate::Gate;
 
 /// A round that looks at less than one in so many of all ids is left to one thread: to freeze the book costs more than it brings.
-const SMALL: u64 = 2;
+const SMALL: u64 = 1;
 
 /// At how many ids a round looks, of all rules.
 fn looks(ids: &Around) -> u64 {
@@ -160,7 +162,7 @@ fn next_look<R: Threads + Wait + Sync, G: Gate>(
     }))
 }
 
-/// Rounds on a shared book, until one applies nothing, does not find all, or is small. Gives whether they became small.
+/// Rounds on a shared book, until one applies nothing, does not find all, or is small. Gives where the small one would look.
 fn race_on<R: Threads + Wait + Sync, G: Gate>(
     rt: &R,
     alloc: Global,
@@ -168,29 +170,57 @@ fn race_on<R: Threads + Wait + Sync, G: Gate>(
     main: &mut Pass<Book>,
     gate: &G,
     threads: u32,
-) -> Result<bool, AllocError>
+) -> Result<Option<Looking>, AllocError>
     requires stands { Stands book.now.start }
     requires short { book.now.start.limit < 2 ^ 64 }
     requires some { 0 < threads }
     requires pass { IsPass book.now main.old }
-    ensures { OnOk result (IsPass book.now main.new) }
+    ensures pass { OnOk result (IsPass book.now main.new) }
+    ensures looking { IfOk result (λ small. IfSome small (IsLooking main.new)) }
 {
     let mut looking = first_look(rt, alloc, book, main)?;
     let all = looks(&looking.ids);
     for _ in rt.forever() {
         match next_look(rt, alloc, book, main, gate, threads, looking)? {
-            None => return Ok(false),
+            None => return Ok(None),
             Some(next) => looking = next,
         }
         if looks(&looking.ids) < all / SMALL {
-            return Ok(true);
+            return Ok(Some(looking));
         }
     }
     unreachable!()
 }
 
+/// The ids at which all is that is enabled and open on a book, where a version was looked at that it comes after: those of the version, if nothing
+/// has changed since.
+fn ids_on(alloc: Global, looking: Looking, book: &Book) -> Result<Around, AllocError>
+    requires later { IsLater looking.version (version_of book.now) }
+    requires sorted { AreSorted looking.ids }
+    requires looks { LooksAt looking.version looking.watch looking.ids }
+    ensures sorted { IfOk result AreSorted }
+    ensures each { IfOk result (HasEach (open_on book.now.tally) book.now.problem) }
+{
+    let Looking { version, ids, .. } = looking;
+    let (before, _) = kept(alloc, version)?;
+    let changed = changed_parts(alloc, &before, book.problem())?;
+    if changed.is_empty() {
+        return Ok(ids);
+    }
+    let all = Around::all_of(alloc, book.problem())?;
+    Ok(all)
+}
+
+/// A book after a race.
+#[derive(Drop)]
+pub struct RaceEnd {
+    pub book: Book,
+    /// Where the rounds became small: ids at which all is that is enabled and open on the book.
+    pub small: Option<Around>,
+}
+
 /// Rounds of so many workers over a book, until one of them applies nothing, a verdict is applied, or the limit is reached; or until they become
-/// small. Gives the book that they leave, and whether they became small.
+/// small. Gives the book that they leave, and where the small one would look.
 ///
 /// # Errors
 /// Memory ran out. The book is dropped.
@@ -200,18 +230,24 @@ pub fn race<R: Threads + Wait + Sync, G: Gate>(
     book: Book,
     gate: &G,
     threads: u32,
-) -> Result<(Book, bool), AllocError>
+) -> Result<RaceEnd, AllocError>
     requires some { 0 < threads }
     requires few { (j : ℕ) (side : Side) → tightenings book.records j side ≤ 10 }
-    ensures goes { IfOk result (λ left. GoesOn book left.0) }
-    ensures few { IfOk result (λ left. (j : ℕ) (side : Side) → tightenings left.0.records j side ≤ 10) }
+    ensures goes { IfOk result (λ raced. GoesOn book raced.book) }
+    ensures few { IfOk result (λ raced. (j : ℕ) (side : Side) → tightenings raced.book.records j side ≤ 10) }
+    ensures small { IfOk result (λ raced. IfSome raced.small (HasAllOf raced.book)) }
 {
     book.stands();
     let _limit = book.limit();
     let (shared, first) = SharedBook::new(alloc, book)?;
     let mut main = first;
-    let is_small = race_on(rt, alloc, &shared, &mut main, gate, threads)?;
+    let looking = race_on(rt, alloc, &shared, &mut main, gate, threads)?;
     let mut passes: Vec<Pass<Book>> = Vec::new(alloc);
     passes.push(main)?;
-    Ok((shared.close(rt, passes), is_small))
+    let book = shared.close(rt, passes);
+    let small = match looking {
+        None => None,
+        Some(looking) => Some(ids_on(alloc, looking, &book)?),
+    };
+    Ok(RaceEnd { book, small })
 }

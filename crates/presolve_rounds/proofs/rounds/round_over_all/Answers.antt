@@ -1,4 +1,4 @@
-use Rattle.std.proofs.Common.{◌≡◌, sym, ap, ◌∙◌, subst, arith}
+use Rattle.std.proofs.Common.{ap, ◌∙◌, arith}
 use Rattle.place_laws.specs.Choosing.{all_around}
 use Rattle.round_marks.specs.Stamping.{stamps_of}
 use Rattle.presolve_rounds.proofs.Running.{ready_first}

@@ -1,10 +1,9 @@
 use Rattle.std.proofs.Common.{◌≡◌, ◌<◌, length, None, Some, sym, refl, ap, ◌∙◌, arith}
-use Rattle.place_laws.specs.Choosing.{all_around}
 use Rattle.run_laws.proofs.Runs.{run_more, run_stops}
 use Rattle.round_marks.specs.Forming.{forms_of}
 use Rattle.round_marks.specs.Marking.{Watched}
 use Rattle.round_marks.specs.Stamping.{stamps_of}
-use Rattle.presolve_rounds.proofs.Running.{at_fixpoint, more_applied, none_of, ready_first, same_twice, some_of}
+use Rattle.presolve_rounds.proofs.Running.{at_fixpoint, more_applied, none_of, ready_from, same_twice, some_of}
 use Rattle.presolve_rounds.proofs.rounds.run_with.Goals as goal
 use Rattle.presolve_model.specs.declared.conclusion.End.TheVariants.{Fixpoint}
 
@@ -13,8 +12,8 @@ loop-book-init g c = record {
   same = record { start = refl; numbers = refl; limit = refl };
   limit = c.limit-limit.ensures;
   undecided = c.requires.undecided;
-  ready = λ room. ready_first c.args.book.now c.in_ok-stamps.stamps c.in_ok-ids.ids c.in_ok-watch.watch c.stands.ensures.stands (omega (arith, c.limit-limit.ensures, c.limit-limit.type_inv))
-      (c.in_ok-stamps.ensures ∙ ap stamps_of c.problem.ensures) (c.in_ok-ids.ensures ∙ ap all_around c.problem-2.ensures) (ap (λ (x : Watched). x.forms) c.in_ok-watch.ensures ∙ ap forms_of c.problem-3.ensures);
+  ready = λ room. ready_from c.args.book.now c.in_ok-stamps.stamps c.args.ids c.in_ok-watch.watch c.stands.ensures.stands (omega (arith, c.limit-limit.ensures, c.limit-limit.type_inv))
+      (c.in_ok-stamps.ensures ∙ ap stamps_of c.problem.ensures) c.requires.sorted c.requires.each (ap (λ (x : Watched). x.forms) c.in_ok-watch.ensures ∙ ap forms_of c.problem-2.ensures);
   groups = c.requires.groups;
   ordered = λ e d h. h;
 }

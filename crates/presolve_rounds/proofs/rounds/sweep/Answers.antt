@@ -1,4 +1,4 @@
-use Rattle.std.proofs.Common.{◌≡◌, ◌<◌, ◌≤◌, length, None, sym, ap, ◌∙◌, subst, arith}
+use Rattle.std.proofs.Common.{ap, ◌∙◌, subst, arith}
 use Rattle.line_groups.specs.Groups.{AreGroupsOf}
 use Rattle.round_marks.specs.Forming.{forms_of}
 use Rattle.round_marks.specs.Marking.{Watched}

@@ -1,5 +1,4 @@
-use Rattle.std.proofs.Common.{◌≡◌, ◌<◌, length, None, sym, ◌∙◌, arith}
-use Rattle.presolve_rounds.proofs.Running.{none_of, some_of}
+use Rattle.presolve_rounds.proofs.Running.{some_of}
 use Rattle.presolve_rounds.proofs.rounds.swept_to.Goals as goal
 
 pub returns-then-is_some : goal.returns-then-is_some

@@ -1,7 +1,6 @@
-use Rattle.std.proofs.Common.{◌≡◌, ℕ, ◌<◌, List, length, sym, ap, ◌∙◌, subst}
+use Rattle.std.proofs.Common.{ℕ, ◌<◌, List, length, sym, ap, ◌∙◌, subst}
 use Rattle.std.specs.List.{All}
 use Rattle.worker_tasks.specs.Tasks.{HoldsChunk, TaskData}
-use Rattle.round_tasks.specs.Cutting.{AreTasksOf, TaskList}
 use Rattle.worker_rounds.specs.Marking.{LeavesFound}
 use Rattle.worker_rounds.specs.Workers.{HasFound, IsDone, WorkerData}
 use Rattle.worker_rounds.proofs.Complete.{all_left}
