@@ -4,3 +4,4 @@ pub mod Pieces
 pub mod Turned
 pub mod Told
 pub mod RowLooks
+pub mod LastEntry

@@ -3,6 +3,7 @@
 ghost use Rattle.std.specs.Prelude.{◌≡◌, true};
 ghost use Rattle.lp_model.specs.EndTests.{is_in_order};
 ghost use Rattle.problem_model.specs.Problems.{bounds_at, column_at, row_at};
+ghost use Rattle.problem_model.specs.Showing.{reach_low, reach_high};
 ghost use Rattle.row_spans.specs.Spans.{spans_among, spans_of};
 ghost use Rattle.activity_laws.specs.Rows.{all_in_order, has_some, keeps_lower as lower_is_kept, keeps_upper as upper_is_kept};
 ghost use Rattle.activities.specs.Rows.{is_uncrossed as nothing_is_crossed};
@@ -12,12 +13,25 @@ use lp_model::Term;
 use lp_model::ends::in_order;
 use sparse_problem::Problem;
 
-/// Whether the bounds of a term's column are in order.
-fn bounds_in_order(problem: &Problem, term: &Term) -> bool
+/// Whether the ends that the values of a term's column reach are in order.
+#[cold]
+fn ends_in_order(problem: &Problem, term: &Term) -> bool
     requires { (column_at problem.now term.now.id).live ≡ true }
-    ensures { result ≡ is_in_order (bounds_at problem.now term.now.id).lower (bounds_at problem.now term.now.id).upper }
+    ensures { result ≡ is_in_order (reach_low (bounds_at problem.now term.now.id)) (reach_high (bounds_at problem.now term.now.id)) }
 {
     let bounds = problem.bounds(term.id);
+    in_order(&bounds.reach_lower(), &bounds.reach_upper())
+}
+
+/// The same, of the bounds as they stand where the column isn't semi-continuous.
+fn bounds_in_order(problem: &Problem, term: &Term) -> bool
+    requires { (column_at problem.now term.now.id).live ≡ true }
+    ensures { result ≡ is_in_order (reach_low (bounds_at problem.now term.now.id)) (reach_high (bounds_at problem.now term.now.id)) }
+{
+    let bounds = problem.bounds(term.id);
+    if bounds.semi {
+        return ends_in_order(problem, term);
+    }
     in_order(&bounds.lower, &bounds.upper)
 }
 

@@ -55,6 +55,7 @@ fn spans_but(
                 lower: end(*lower),
                 upper: end(*upper),
                 whole: false,
+                semi: false,
             })?;
         }
     }

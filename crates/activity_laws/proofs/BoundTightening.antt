@@ -1,5 +1,5 @@
 -- K8.
-use Rattle.std.proofs.Common.{◌≡◌, ◌≢◌, ◌⊎◌, inl, inr, ℕ, suc, ◌<◌, arith, length, Bool, true, false, List, [], ◌∷◌, map, Option, Some, None, Result, Ok, Err, refl, sym, ap, ap₂, ◌∙◌, subst}
+use Rattle.std.proofs.Common.{◌≡◌, ◌≢◌, ◌⊎◌, inl, inr, ℕ, suc, ◌<◌, arith, length, Bool, true, false, not, ◌&&◌, List, [], ◌∷◌, map, Option, Some, None, Result, Ok, Err, refl, sym, ap, ap₂, ◌∙◌, subst}
 use Rattle.std.specs.Prelude.{if◌then◌else◌}
 use Rattle.std.specs.List.{All, Contains}
 use Rattle.std.proofs.lemmas.Bool.{and_parts, cases_eq, eq-eqb, ne_eqb}
@@ -39,10 +39,10 @@ use Rattle.problem_model.specs.declared.part.Part.TheVariants as part
 use Rattle.problem_model.specs.EditedPrograms.{programs_edited}
 use Rattle.problem_model.specs.Edits.{bounds_set}
 use Rattle.problem_model.specs.Matrices.{no_line}
-use Rattle.problem_model.specs.Parts.{contents_of}
+use Rattle.problem_model.specs.Parts.{bounds_held, contents_of}
 use Rattle.problem_model.specs.Problems.{row_at, column_at, sides_at, bounds_at, no_bounds, row_entries, IsSparse}
 use Rattle.problem_model.specs.Raised.{changes_after, committed, numbered_bounds, numbered_line}
-use Rattle.problem_model.specs.Showing.{shown}
+use Rattle.problem_model.specs.Showing.{reach_low, reach_high, shown}
 use Rattle.problem_model.specs.Sparse.{Sparse}
 use Rattle.problem_laws.proofs.AtIds.{bounds_inside, bounds_set-same, column_inside, row_inside}
 use Rattle.problem_laws.proofs.Entries.{has-live_only, row_entries-ascend}
@@ -64,6 +64,7 @@ use Rattle.row_spans.proofs.Reading.{row_is_read}
 use Rattle.activity_laws.specs.Rows.{heads, row_found}
 use Rattle.activity_laws.specs.BoundTightening.{Improves, IsBetter, bound_set, by_lower_side, by_upper_side, edits, enabled, entry_at, has_two, holds, if_made, implied, is_better, is_tightened_at, is_bound_tightening, left_over, new_bound, old_bound, over_entry, record_of}
 use Rattle.activity_laws.proofs.Rows.{row_dense, said}
+use Rattle.rule_words.proofs.Solid.{low_solid, high_solid}
 
 -- ---- the entry of a column
 pub record IsFound (p : Sparse) (ts : List Term) (j : ℕ) (s : Span) : Type 0 where
@@ -88,9 +89,14 @@ found p j (t ∷ ts) s e = by (cases_eq t.id j) (found p j ts s)
       span = h.span ∙ ap (λ (a : Number). span_of p (record { id = j; value = a })) (sym (dense-cons_other t ts j d));
     }
 
+not_semi : (b : Bool) → not b ≡ true → b ≡ false
+not_semi true e = absurd (not_true e)
+not_semi false e = refl
+
 -- what the condition says of the entry of column j
 pub record Tightened (p : Sparse) (ts : List Term) (j : ℕ) (side : Side) (l u : Option Number) (ss : List Span) : Type 0 where
   pub named : has j ts ≡ true
+  pub solid : (bounds_at p j).semi ≡ false
   pub better : is_better side (old_bound side (bounds_at p j).lower (bounds_at p j).upper) (implied side j (dense ts j) l u ss) ≡ true
 
 tightened : (p : Sparse) (ts : List Term) (j : ℕ) (side : Side) (l u : Option Number) (ss : List Span) → is_tightened_at side j l u ss (entry_at j (map (span_of p) ts)) ≡ true → Tightened p ts j side l u ss
@@ -98,10 +104,16 @@ tightened p ts j side l u ss e = by (entry_at j (map (span_of p) ts)) refl e
   where
     by : (o : Option Span) → entry_at j (map (span_of p) ts) ≡ o → is_tightened_at side j l u ss o ≡ true → Tightened p ts j side l u ss
     by None f h = absurd (not_true h)
-    by (Some s) f h = let g = found p j ts s f in record {
-      named = g.named;
-      better = sym (ap (λ (x : Span). is_better side (old_bound side x.lower x.upper) (implied side j x.value l u ss)) g.span) ∙ h;
-    }
+    by (Some s) f h =
+        let g = found p j ts s f in
+        let b = and_parts (not s.semi) (is_better side (old_bound side s.lower s.upper) (implied side j s.value l u ss)) h in
+        let solid : (bounds_at p j).semi ≡ false = sym (ap (λ (x : Span). x.semi) g.span) ∙ not_semi s.semi b.0 in
+        record {
+          named = g.named;
+          solid = solid;
+          better = sym (ap₂ (λ (x y : Option Number). is_better side (old_bound side x y) (implied side j (dense ts j) l u ss)) (low_solid (bounds_at p j) solid) (high_solid (bounds_at p j) solid))
+              ∙ sym (ap (λ (x : Span). is_better side (old_bound side x.lower x.upper) (implied side j x.value l u ss)) g.span) ∙ b.1;
+        }
 
 -- ---- a bound that is made is the implied one
 pub record IsMade (a : Number) (side : Option Number) (r : Result (Option Number) Past) (b : Number) : Type 0 where
@@ -144,7 +156,7 @@ high_better : (old : Option Number) (b : Number) → IsBetter Upper old b → Hi
 high_better None b h = tt
 high_better (Some a) b h = <ℚ-≤ℚ h
 
-module _ (p : Sparse) (i j : ℕ) (s : IsSparse p) (live : (row_at p i).live ≡ true) (named : has j (row_entries p i) ≡ true) where
+module _ (p : Sparse) (i j : ℕ) (s : IsSparse p) (live : (row_at p i).live ≡ true) (named : has j (row_entries p i) ≡ true) (solid : (bounds_at p j).semi ≡ false) where
   abbrev M : LinearProgram
   M = shown p
 
@@ -197,10 +209,10 @@ module _ (p : Sparse) (i j : ℕ) (s : IsSparse p) (live : (row_at p i).live ≡
       by false f = from_lower b f
 
   low_shown : M.lower_bound j ≡ (bounds_at p j).lower
-  low_shown = end_live (column_at p j).live (bounds_at p j).lower column_on
+  low_shown = end_live (column_at p j).live (reach_low (bounds_at p j)) column_on ∙ low_solid (bounds_at p j) solid
 
   high_shown : M.upper_bound j ≡ (bounds_at p j).upper
-  high_shown = end_live (column_at p j).live (bounds_at p j).upper column_on
+  high_shown = end_live (column_at p j).live (reach_high (bounds_at p j)) column_on ∙ high_solid (bounds_at p j) solid
 
   named_on : All (λ k. is_on (lives p.matrix.columns) k ≡ true) (j ∷ ids_of (row_entries p i))
   named_on = All-cons (λ k. is_on (lives p.matrix.columns) k ≡ true) j (ids_of (row_entries p i))
@@ -222,7 +234,7 @@ module _ (p : Sparse) (i j : ℕ) (s : IsSparse p) (live : (row_at p i).live ≡
   lower_set b = ap₂ (with_bounds M j) (b.made ∙ sym (lower_is b.bound b.made)) (sym high_shown)
 
   lower_pairs : IsMadeBetter Lower (bounds_at p j).lower (new_bound p i j Lower) → ReducesPairs Min M (shown (committed p (edits p i j Lower))) (undone_pair (record_of p i j Lower))
-  lower_pairs b = pairs_by_edits p (edits p i j Lower) (lower_bound_tightened M i j) (undone_pair (record_of p i j Lower)) s (column_on, tt) (lower_set b)
+  lower_pairs b = pairs_by_edits p (edits p i j Lower) (lower_bound_tightened M i j) (undone_pair (record_of p i j Lower)) s ((column_on, solid), tt) (lower_set b)
       (subst (λ o. ReducesPairs Min M (lower_bound_tightened M i j) (undone_pair (kept Lower o))) low_shown (tightened_lower_pair M i j (row_entries p i) (is_tighter_lower b) (row_dense p i live)))
 
   is_tighter_upper : IsMadeBetter Upper (bounds_at p j).upper (new_bound p i j Upper) → IsUpperBoundTightening M i j
@@ -237,14 +249,14 @@ module _ (p : Sparse) (i j : ℕ) (s : IsSparse p) (live : (row_at p i).live ≡
   upper_set b = ap₂ (with_bounds M j) (sym low_shown) (b.made ∙ sym (upper_is b.bound b.made))
 
   upper_pairs : IsMadeBetter Upper (bounds_at p j).upper (new_bound p i j Upper) → ReducesPairs Min M (shown (committed p (edits p i j Upper))) (undone_pair (record_of p i j Upper))
-  upper_pairs b = pairs_by_edits p (edits p i j Upper) (upper_bound_tightened M i j) (undone_pair (record_of p i j Upper)) s (column_on, tt) (upper_set b)
+  upper_pairs b = pairs_by_edits p (edits p i j Upper) (upper_bound_tightened M i j) (undone_pair (record_of p i j Upper)) s ((column_on, solid), tt) (upper_set b)
       (subst (λ o. ReducesPairs Min M (upper_bound_tightened M i j) (undone_pair (kept Upper o))) high_shown (tightened_upper_pair M i j (row_entries p i) (is_tighter_upper b) (row_dense p i live)))
 
   owes_by : (side : Side) → is_better side (old_bound side (bounds_at p j).lower (bounds_at p j).upper) (new_bound p i j side) ≡ true → Owes p (edits p i j side) (record_of p i j side)
   owes_by Lower e = let b = better_is Lower (bounds_at p j).lower (new_bound p i j Lower) e in record {
-    allowed = (column_on, tt);
+    allowed = ((column_on, solid), tt);
     ordered = tt;
-    reduces = by_edits p (edits p i j Lower) (lower_bound_tightened M i j) (λ x. x) zero_ℚ s (column_on, tt) (lower_set b) nothing (lower_bound_implied Min M i j (is_tighter_lower b));
+    reduces = by_edits p (edits p i j Lower) (lower_bound_tightened M i j) (λ x. x) zero_ℚ s ((column_on, solid), tt) (lower_set b) nothing (lower_bound_implied Min M i j (is_tighter_lower b));
     pairs = λ continuous. lower_pairs b;
     sided = λ numbers h. one_sided (SetBounds j (new_bound p i j Lower) (bounds_at p j).upper) tt;
     sound = (row_inside p i live, column_inside p j column_on, row_entries-ascend p i s, named);
@@ -252,9 +264,9 @@ module _ (p : Sparse) (i j : ℕ) (s : IsSparse p) (live : (row_at p i).live ≡
     deletes = refl;
   }
   owes_by Upper e = let b = better_is Upper (bounds_at p j).upper (new_bound p i j Upper) e in record {
-    allowed = (column_on, tt);
+    allowed = ((column_on, solid), tt);
     ordered = tt;
-    reduces = by_edits p (edits p i j Upper) (upper_bound_tightened M i j) (λ x. x) zero_ℚ s (column_on, tt) (upper_set b) nothing (upper_bound_implied Min M i j (is_tighter_upper b));
+    reduces = by_edits p (edits p i j Upper) (upper_bound_tightened M i j) (λ x. x) zero_ℚ s ((column_on, solid), tt) (upper_set b) nothing (upper_bound_implied Min M i j (is_tighter_upper b));
     pairs = λ continuous. upper_pairs b;
     sided = λ numbers h. one_sided (SetBounds j (bounds_at p j).lower (new_bound p i j Upper)) tt;
     sound = (row_inside p i live, column_inside p j column_on, row_entries-ascend p i s, named);
@@ -270,7 +282,7 @@ said_at p i j side e =
     (and_parts (has_two (spans_of p i)) (is_tightened_at side j l u (spans_of p i) (entry_at j (spans_of p i))) (said (is_bound_tightening j side) p i e).holds).1
 
 pub owes : (p : Sparse) (i j : ℕ) (side : Side) → IsSparse p → enabled p i j side ≡ true → Owes p (edits p i j side) (record_of p i j side)
-owes p i j side s e = let t = said_at p i j side e in owes_by p i j s (said (is_bound_tightening j side) p i e).live t.named side t.better
+owes p i j side s e = let t = said_at p i j side e in owes_by p i j s (said (is_bound_tightening j side) p i e).live t.named t.solid side t.better
 
 pub improves : (p : Sparse) (i j : ℕ) (side : Side) → enabled p i j side ≡ true → Improves p i j side
 improves p i j side e = let b = better_is side (old_bound side (bounds_at p j).lower (bounds_at p j).upper) (new_bound p i j side) (said_at p i j side e).better in (b.bound, b.made, b.better)
@@ -314,6 +326,7 @@ entry_edits p ts j side l u ss e = by (entry_at j (map (span_of p) ts)) refl e
     by : (o : Option Span) → entry_at j (map (span_of p) ts) ≡ o → is_tightened_at side j l u ss o ≡ true → edits_at side j l u ss o ≡ bound_set side j (bounds_at p j) (implied side j (dense ts j) l u ss) ∷ []
     by None f h = absurd (not_true h)
     by (Some s) f h = ap (λ (x : Span). bound_moved side j x.lower x.upper (implied side j x.value l u ss) ∷ []) (found p j ts s f).span
+        ∙ ap₂ (λ (x y : Option Number). bound_moved side j x y (implied side j (dense ts j) l u ss) ∷ []) (low_solid (bounds_at p j) (tightened p ts j side l u ss e).solid) (high_solid (bounds_at p j) (tightened p ts j side l u ss e).solid)
         ∙ ap (λ (x : Edit). x ∷ []) (moved_is side j (bounds_at p j) (implied side j (dense ts j) l u ss))
 
 edits_told : (p : Sparse) (i j : ℕ) (side : Side) → enabled p i j side ≡ true → edits_of side j (row_found p i) ≡ edits p i j side
@@ -358,13 +371,19 @@ live_after : (p : Sparse) (j : ℕ) (l u : Option Number) → (column_at (commit
 live_after p j l u = let q : Sparse = bounds_set p j l u in
     each_at-field (λ (c : Line). c.live) (numbered_line (λ k. changes_after p q (part.Col k))) no_line (λ k c. refl) 0 q.matrix.columns j
 
+semi_after : (p : Sparse) (j : ℕ) (l u : Option Number) → j < length p.bounds → (bounds_at (committed p (SetBounds j l u ∷ [])) j).semi ≡ (bounds_at p j).semi
+semi_after p j l u h =
+    let q : Sparse = bounds_set p j l u in
+    each_at-field (λ (b : Bounds). b.semi) (numbered_bounds (λ k. changes_after p q (part.Bounds k))) no_bounds (λ k b. refl) 0 q.bounds j
+    ∙ ap (λ (b : Bounds). b.semi) (bounds_set-same p j l u h)
+
 -- the bound that bounds hold
 abbrev bound_in : Side → Contents → Option Number
 bound_in s (holding.Bounds l u w) = old_bound s l u
 bound_in s other = None
 
-held : (q : Sparse) (j : ℕ) (s : Side) → (column_at q j).live ≡ true → bound_in s (contents_of q (part.Bounds j)) ≡ old_bound s (bounds_at q j).lower (bounds_at q j).upper
-held q j s live = ap (λ (on : Bool). bound_in s (if on then holding.Bounds (bounds_at q j).lower (bounds_at q j).upper (bounds_at q j).whole else holding.Gone)) live
+held : (q : Sparse) (j : ℕ) (s : Side) → (column_at q j).live ≡ true → (bounds_at q j).semi ≡ false → bound_in s (contents_of q (part.Bounds j)) ≡ old_bound s (bounds_at q j).lower (bounds_at q j).upper
+held q j s live solid = ap₂ (λ (on semi : Bool). bound_in s (if on then bounds_held semi (bounds_at q j).lower (bounds_at q j).upper (bounds_at q j).whole else holding.Gone)) live solid
 
 some_is : (a b : Number) → Some a ≡ Some b → a ≡ b
 some_is a b e = cc
@@ -375,18 +394,18 @@ not_better Upper None b h e = cc
 not_better Lower (Some a) b h e = <ℚ-irrefl b (subst (λ (x : Number). x <ℚ b) (some_is a b e) h)
 not_better Upper (Some a) b h e = <ℚ-irrefl b (subst (λ (x : Number). b <ℚ x) (some_is a b e) h)
 
-set_to : (side : Side) (p : Sparse) (j : ℕ) (b : Option Number) → IsSparse p → (column_at p j).live ≡ true → contents_of (committed p (bound_set side j (bounds_at p j) b ∷ [])) (part.Bounds j) ≡ contents_of p (part.Bounds j)
+set_to : (side : Side) (p : Sparse) (j : ℕ) (b : Option Number) → IsSparse p → (column_at p j).live ≡ true → (bounds_at p j).semi ≡ false → contents_of (committed p (bound_set side j (bounds_at p j) b ∷ [])) (part.Bounds j) ≡ contents_of p (part.Bounds j)
     → old_bound side (bounds_at p j).lower (bounds_at p j).upper ≡ b
-set_to Lower p j b s live h =
-    sym (held p j Lower live) ∙ sym (ap (bound_in Lower) h)
-    ∙ held (committed p (SetBounds j b (bounds_at p j).upper ∷ [])) j Lower (live_after p j b (bounds_at p j).upper ∙ live)
+set_to Lower p j b s live solid h =
+    sym (held p j Lower live solid) ∙ sym (ap (bound_in Lower) h)
+    ∙ held (committed p (SetBounds j b (bounds_at p j).upper ∷ [])) j Lower (live_after p j b (bounds_at p j).upper ∙ live) (semi_after p j b (bounds_at p j).upper (bounds_inside p j s live) ∙ solid)
     ∙ bounds_after p j b (bounds_at p j).upper (bounds_inside p j s live) Lower
-set_to Upper p j b s live h =
-    sym (held p j Upper live) ∙ sym (ap (bound_in Upper) h)
-    ∙ held (committed p (SetBounds j (bounds_at p j).lower b ∷ [])) j Upper (live_after p j (bounds_at p j).lower b ∙ live)
+set_to Upper p j b s live solid h =
+    sym (held p j Upper live solid) ∙ sym (ap (bound_in Upper) h)
+    ∙ held (committed p (SetBounds j (bounds_at p j).lower b ∷ [])) j Upper (live_after p j (bounds_at p j).lower b ∙ live) (semi_after p j (bounds_at p j).lower b (bounds_inside p j s live) ∙ solid)
     ∙ bounds_after p j (bounds_at p j).lower b (bounds_inside p j s live) Upper
 
 pub bounds_differ : (p : Sparse) (i j : ℕ) (side : Side) → IsSparse p → enabled p i j side ≡ true → contents_of (committed p (edits p i j side)) (part.Bounds j) ≢ contents_of p (part.Bounds j)
 bounds_differ p i j side s e h =
     let b = improves p i j side e in
-    not_better side (old_bound side (bounds_at p j).lower (bounds_at p j).upper) b.0 b.2 (set_to side p j (new_bound p i j side) s (column_live p i j side e) h ∙ b.1)
+    not_better side (old_bound side (bounds_at p j).lower (bounds_at p j).upper) b.0 b.2 (set_to side p j (new_bound p i j side) s (column_live p i j side e) (said_at p i j side e).solid h ∙ b.1)

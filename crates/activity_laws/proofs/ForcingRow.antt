@@ -1,9 +1,9 @@
 -- K7.
-use Rattle.std.proofs.Common.{◌≡◌, ◌≢◌, ◌⊎◌, inl, inr, ℕ, suc, length, Bool, true, false, ◌||◌, arith, List, [], ◌∷◌, ◌++◌, map, Option, Some, None, refl, sym, ap, ap₂, ◌∙◌, subst}
-use Rattle.std.specs.Prelude.{if◌then◌else◌}
+use Rattle.std.proofs.Common.{◌≡◌, ◌≢◌, ◌⊎◌, inl, inr, ℕ, zero, suc, length, get_or, Bool, true, false, not, ◌&&◌, ◌||◌, arith, List, [], ◌∷◌, ◌++◌, map, Option, Some, None, refl, sym, ap, ap₂, ◌∙◌, subst}
+use Rattle.std.specs.Prelude.{if◌then◌else◌, slice_set}
 use Rattle.std.specs.List.{All}
 use Rattle.std.proofs.lemmas.Bool.{and_parts, cases_eq}
-use Rattle.std.proofs.lemmas.List.Elements.{All-cons, All-head, All-tail}
+use Rattle.std.proofs.lemmas.List.Elements.{All-nil, All-cons, All-head, All-tail}
 use Rattle.rational.specs.Number.{Number, zero_ℚ, ◌+ℚ◌}
 use Rattle.rational.specs.Order.{≤ℚ_antisym, <ℚ-not, <ℚ-≤ℚ}
 use Rattle.rational.specs.Compare.{lt_ℚ}
@@ -30,12 +30,12 @@ use Rattle.problem_model.specs.declared.edit.Edit.{Edit}
 use Rattle.problem_model.specs.declared.edit.Edit.TheVariants.{DeleteRow}
 use Rattle.problem_model.specs.Allowed.{AreAllowed, EntriesFirst, NoEntries}
 use Rattle.problem_model.specs.EditedPrograms.{programs_edited}
-use Rattle.problem_model.specs.Edits.{bounds_set}
+use Rattle.problem_model.specs.Edits.{bounds_moved, bounds_set}
 use Rattle.problem_model.specs.Living.{all_flags_edited}
 use Rattle.problem_model.specs.NewNumbers.{EditIsSided}
 use Rattle.problem_model.specs.Offsets.{added_by}
-use Rattle.problem_model.specs.Problems.{row_at, column_at, sides_at, bounds_at, row_entries, IsSparse}
-use Rattle.problem_model.specs.Showing.{end_if, shown}
+use Rattle.problem_model.specs.Problems.{row_at, column_at, sides_at, bounds_at, no_bounds, row_entries, IsSparse}
+use Rattle.problem_model.specs.Showing.{end_if, reach_low, reach_high, shown}
 use Rattle.problem_model.specs.Sparse.{Sparse}
 use Rattle.problem_laws.proofs.AtIds.{row_inside}
 use Rattle.problem_laws.proofs.Entries.{has-live_only, row_entries-ascend, row_entries-live}
@@ -49,22 +49,42 @@ use Rattle.row_spans.specs.declared.span.Extreme.{Extreme}
 use Rattle.row_spans.specs.declared.span.Extreme.TheVariants.{Least, Greatest}
 use Rattle.row_spans.specs.Spans.{span_of, spans_of}
 use Rattle.activity_laws.specs.Rows.{all_in_order, has_some, on_activities}
-use Rattle.activity_laws.specs.ForcingRow.{at_lower, edits, edits_by, enabled, end_of, fixed_at_end, is_forcing_row, is_reached, record_by, record_of}
+use Rattle.activity_laws.specs.ForcingRow.{all_solid, at_lower, edits, edits_by, enabled, end_of, fixed_at_end, is_forcing_row, is_reached, record_by, record_of}
 use Rattle.activity_laws.proofs.Rows.{known, made, row_dense, said}
+use Rattle.problem_model.specs.declared.line.Bounds.{Bounds}
 
 abbrev one_of : Bool → Option Number → Option Number → Option Number
 one_of b c d = if b then c else d
+
+-- new bounds of one column leave each semi-continuous or not as it was
+semi_kept : (bs : List Bounds) (j k : ℕ) (l u : Option Number) → (get_or (slice_set bs j (bounds_moved (get_or bs j no_bounds) l u)) k no_bounds).semi ≡ (get_or bs k no_bounds).semi
+semi_kept [] j k l u = refl
+semi_kept (b ∷ bs) zero zero l u = refl
+semi_kept (b ∷ bs) zero (suc k) l u = refl
+semi_kept (b ∷ bs) (suc j) zero l u = refl
+semi_kept (b ∷ bs) (suc j) (suc k) l u = semi_kept bs j k l u
+
+-- where no span is in a semi-continuous column
+not_semi : (b : Bool) → not b ≡ true → b ≡ false
+not_semi true e = absurd (not_true e)
+not_semi false e = refl
+
+solid_says : (p : Sparse) (ts : List Term) → all_solid (map (span_of p) ts) ≡ true → All (λ t. (bounds_at p t.id).semi ≡ false) ts
+solid_says p [] e = All-nil (λ t. (bounds_at p t.id).semi ≡ false)
+solid_says p (t ∷ ts) e = let b = and_parts (not (bounds_at p t.id).semi) (all_solid (map (span_of p) ts)) e in
+    All-cons (λ t. (bounds_at p t.id).semi ≡ false) t ts (not_semi (bounds_at p t.id).semi b.0) (solid_says p ts b.1)
 
 -- ---- the edits, column by column
 module _ (x : Extreme) (p : Sparse) (i : ℕ) where
   abbrev edits_on : List Term → List Edit
   edits_on ts = map (fixed_at_end x) (map (span_of p) ts) ++ DeleteRow i ∷ []
 
-  allowed_on : (q : Sparse) (ts : List Term) → All (λ t. (column_at q t.id).live ≡ true) ts → (row_at q i).live ≡ true → AreAllowed q (edits_on ts)
-  allowed_on q [] h live = (live, tt)
-  allowed_on q (t ∷ ts) h live = (
-    All-head (λ t. (column_at q t.id).live ≡ true) t ts h,
-    allowed_on (bounds_set q t.id (end_of x (span_of p t)) (end_of x (span_of p t))) ts (All-tail (λ t. (column_at q t.id).live ≡ true) t ts h) live,
+  allowed_on : (q : Sparse) (ts : List Term) → All (λ t. (column_at q t.id).live ≡ true) ts → All (λ t. (bounds_at q t.id).semi ≡ false) ts → (row_at q i).live ≡ true → AreAllowed q (edits_on ts)
+  allowed_on q [] h f live = (live, tt)
+  allowed_on q (t ∷ ts) h f live = (
+    (All-head (λ t. (column_at q t.id).live ≡ true) t ts h, All-head (λ t. (bounds_at q t.id).semi ≡ false) t ts f),
+    allowed_on (bounds_set q t.id (end_of x (span_of p t)) (end_of x (span_of p t))) ts (All-tail (λ t. (column_at q t.id).live ≡ true) t ts h)
+        (λ k d l. semi_kept q.bounds t.id (get_or ts k d).id (end_of x (span_of p t)) (end_of x (span_of p t)) ∙ All-tail (λ t. (bounds_at q t.id).semi ≡ false) t ts f k d l) live,
   )
 
   no_entries_on : (ts : List Term) → NoEntries (edits_on ts)
@@ -164,11 +184,11 @@ module _ (p : Sparse) (i : ℕ) (s : IsSparse p) (live : (row_at p i).live ≡ t
   none_there : (k : ℕ) → has k ts ≡ false → M.coefficient i k ≡ zero_ℚ
   none_there k e = row_has k ∙ dense-absent k ts e
 
-  low_is : (k : ℕ) → has k ts ≡ true → (bounds_at p k).lower ≡ M.lower_bound k
-  low_is k e = sym (end_live (column_at p k).live (bounds_at p k).lower (column_on k e))
+  low_is : (k : ℕ) → has k ts ≡ true → (reach_low (bounds_at p k)) ≡ M.lower_bound k
+  low_is k e = sym (end_live (column_at p k).live (reach_low (bounds_at p k)) (column_on k e))
 
-  high_is : (k : ℕ) → has k ts ≡ true → (bounds_at p k).upper ≡ M.upper_bound k
-  high_is k e = sym (end_live (column_at p k).live (bounds_at p k).upper (column_on k e))
+  high_is : (k : ℕ) → has k ts ≡ true → (reach_high (bounds_at p k)) ≡ M.upper_bound k
+  high_is k e = sym (end_live (column_at p k).live (reach_high (bounds_at p k)) (column_on k e))
 
   abbrev above : Number → Option Number → Option Number → Option Number
   above a y z = if lt_ℚ zero_ℚ a then y else z
@@ -223,15 +243,15 @@ not_crossed (Some l) None e c = c
 not_crossed (Some l) (Some u) e c = <ℚ-not c ((le_ℚ-is l u).0 e)
 
 -- an entry that isn't 0 is one of the spans
-in_order_at : (p : Sparse) (k : ℕ) (ts : List Term) → all_in_order (map (span_of p) ts) ≡ true → has k ts ≡ true → is_in_order (bounds_at p k).lower (bounds_at p k).upper ≡ true
+in_order_at : (p : Sparse) (k : ℕ) (ts : List Term) → all_in_order (map (span_of p) ts) ≡ true → has k ts ≡ true → is_in_order (reach_low (bounds_at p k)) (reach_high (bounds_at p k)) ≡ true
 in_order_at p k [] e h = absurd (not_true h)
 in_order_at p k (t ∷ ts) e h =
-    let b = and_parts (is_in_order (bounds_at p t.id).lower (bounds_at p t.id).upper) (all_in_order (map (span_of p) ts)) e in
+    let b = and_parts (is_in_order (reach_low (bounds_at p t.id)) (reach_high (bounds_at p t.id))) (all_in_order (map (span_of p) ts)) e in
     by b.0 (in_order_at p k ts b.1) (cases_eq t.id k)
   where
-    by : is_in_order (bounds_at p t.id).lower (bounds_at p t.id).upper ≡ true → (has k ts ≡ true → is_in_order (bounds_at p k).lower (bounds_at p k).upper ≡ true) → (t.id ≡ k) ⊎ (t.id ≢ k)
-        → is_in_order (bounds_at p k).lower (bounds_at p k).upper ≡ true
-    by g ih (inl f) = subst (λ (j : ℕ). is_in_order (bounds_at p j).lower (bounds_at p j).upper ≡ true) f g
+    by : is_in_order (reach_low (bounds_at p t.id)) (reach_high (bounds_at p t.id)) ≡ true → (has k ts ≡ true → is_in_order (reach_low (bounds_at p k)) (reach_high (bounds_at p k)) ≡ true) → (t.id ≡ k) ⊎ (t.id ≢ k)
+        → is_in_order (reach_low (bounds_at p k)) (reach_high (bounds_at p k)) ≡ true
+    by g ih (inl f) = subst (λ (j : ℕ). is_in_order (reach_low (bounds_at p j)) (reach_high (bounds_at p j)) ≡ true) f g
     by g ih (inr d) = ih (sym (has-cons_other k t ts d) ∙ h)
 
 record IsReached (l e : Option Number) : Type 0 where
@@ -247,7 +267,7 @@ either : (a b : Bool) → (a || b) ≡ true → a ≡ false → b ≡ true
 either true b e f = absurd (not_true (sym f))
 either false b e f = e
 
-module _ (p : Sparse) (i : ℕ) (s : IsSparse p) (live : (row_at p i).live ≡ true) (sides : is_in_order (sides_at p i).lower (sides_at p i).upper ≡ true) (bounds : all_in_order (spans_of p i) ≡ true) where
+module _ (p : Sparse) (i : ℕ) (s : IsSparse p) (live : (row_at p i).live ≡ true) (sides : is_in_order (sides_at p i).lower (sides_at p i).upper ≡ true) (bounds : all_in_order (spans_of p i) ≡ true) (solid : all_solid (spans_of p i) ≡ true) where
   uncrossed : IsUncrossed (shown p) i
   uncrossed = record {
     sides = λ c. not_crossed (sides_at p i).lower (sides_at p i).upper sides (as_they_are c);
@@ -285,11 +305,11 @@ module _ (p : Sparse) (i : ℕ) (s : IsSparse p) (live : (row_at p i).live ≡ t
   owes_by : (b : Bool) → (is_reached (sides_at p i).lower (greatest (shown p) i) || is_reached (sides_at p i).upper (least (shown p) i)) ≡ true → is_reached (sides_at p i).lower (greatest (shown p) i) ≡ b
       → Owes p (edits_by (if b then Greatest else Least) p i) (record_by (if b then Lower else Upper) p i)
   owes_by true h e = record {
-    allowed = allowed_on Greatest p i p ls (row_entries-live p i) live;
+    allowed = allowed_on Greatest p i p ls (row_entries-live p i) (solid_says p ls solid) live;
     ordered = ordered_on Greatest p i ls;
-    reduces = by_edits p (edits_by Greatest p i) (forced_at_lower_side (shown p) i) (λ x. x) zero_ℚ s (allowed_on Greatest p i p ls (row_entries-live p i) live)
+    reduces = by_edits p (edits_by Greatest p i) (forced_at_lower_side (shown p) i) (λ x. x) zero_ℚ s (allowed_on Greatest p i p ls (row_entries-live p i) (solid_says p ls solid) live)
         (program_greatest p i s live) (adds_on Greatest p i ls) (forced_at_lower_side_keeps (shown p) i (at_lower_side e) Min);
-    pairs = λ continuous. pairs_by_edits p (edits_by Greatest p i) (forced_at_lower_side (shown p) i) (undone_pair (record_by Lower p i)) s (allowed_on Greatest p i p ls (row_entries-live p i) live)
+    pairs = λ continuous. pairs_by_edits p (edits_by Greatest p i) (forced_at_lower_side (shown p) i) (undone_pair (record_by Lower p i)) s (allowed_on Greatest p i p ls (row_entries-live p i) (solid_says p ls solid) live)
         (program_greatest p i s live) (forced_lower_pair (shown p) i ls (at_lower_side e) (row_entries-ascend p i s) (row_dense p i live));
     sided = λ numbers w. sided_on Greatest p i ls;
     sound = (row_inside p i live, row_entries-ascend p i s);
@@ -297,11 +317,11 @@ module _ (p : Sparse) (i : ℕ) (s : IsSparse p) (live : (row_at p i).live ≡ t
     deletes = flags_on Greatest p i _ ls;
   }
   owes_by false h e = let f = at_upper_side (either (is_reached (sides_at p i).lower (greatest (shown p) i)) (is_reached (sides_at p i).upper (least (shown p) i)) h e) in record {
-    allowed = allowed_on Least p i p ls (row_entries-live p i) live;
+    allowed = allowed_on Least p i p ls (row_entries-live p i) (solid_says p ls solid) live;
     ordered = ordered_on Least p i ls;
-    reduces = by_edits p (edits_by Least p i) (forced_at_upper_side (shown p) i) (λ x. x) zero_ℚ s (allowed_on Least p i p ls (row_entries-live p i) live)
+    reduces = by_edits p (edits_by Least p i) (forced_at_upper_side (shown p) i) (λ x. x) zero_ℚ s (allowed_on Least p i p ls (row_entries-live p i) (solid_says p ls solid) live)
         (program_least p i s live) (adds_on Least p i ls) (forced_at_upper_side_keeps (shown p) i f Min);
-    pairs = λ continuous. pairs_by_edits p (edits_by Least p i) (forced_at_upper_side (shown p) i) (undone_pair (record_by Upper p i)) s (allowed_on Least p i p ls (row_entries-live p i) live)
+    pairs = λ continuous. pairs_by_edits p (edits_by Least p i) (forced_at_upper_side (shown p) i) (undone_pair (record_by Upper p i)) s (allowed_on Least p i p ls (row_entries-live p i) (solid_says p ls solid) live)
         (program_least p i s live) (forced_upper_pair (shown p) i ls f (row_entries-ascend p i s) (row_dense p i live));
     sided = λ numbers w. sided_on Least p i ls;
     sound = (row_inside p i live, row_entries-ascend p i s);
@@ -315,5 +335,7 @@ owes p i s e =
     let l : Option Number = (sides_at p i).lower in
     let u : Option Number = (sides_at p i).upper in
     let either_one : Bool = on_activities (λ a b. is_reached l b || is_reached u a) (spans_of p i) in
-    let k = known p i (λ a b. is_reached l b || is_reached u a) s r.live (and_parts (has_some (spans_of p i)) either_one r.holds).1 in
-    owes_by p i s r.live r.sides r.bounds (at_lower p i) k.holds (sym (made p i (λ a b. is_reached l b) k.low k.high))
+    let h = and_parts (has_some (spans_of p i)) (all_solid (spans_of p i) && either_one) r.holds in
+    let g = and_parts (all_solid (spans_of p i)) either_one h.1 in
+    let k = known p i (λ a b. is_reached l b || is_reached u a) s r.live g.1 in
+    owes_by p i s r.live r.sides r.bounds g.0 (at_lower p i) k.holds (sym (made p i (λ a b. is_reached l b) k.low k.high))

@@ -1,5 +1,5 @@
 -- K8: a bound of a column becomes the one that a row implies with the bounds of its other columns, where that is a better one.
-use Rattle.std.specs.Prelude.{◌≡◌, ℕ, ⊤, Bool, false, ◌&&◌, nat_eq, if◌then◌else◌, List, [], ◌∷◌, Option, Some, None, Result, Ok, Err}
+use Rattle.std.specs.Prelude.{◌≡◌, ℕ, ⊤, Bool, false, not, ◌&&◌, nat_eq, if◌then◌else◌, List, [], ◌∷◌, Option, Some, None, Result, Ok, Err}
 use Rattle.std.specs.List.{flat_map}
 use Rattle.rational.specs.Number.{Number, zero_ℚ}
 use Rattle.rational.specs.Order.{◌<ℚ◌}
@@ -74,7 +74,7 @@ old_bound Upper l u = u
 
 abbrev pub is_tightened_at : Side → ℕ → Option Number → Option Number → List Span → Option Span → Bool
 is_tightened_at side j l u ss None = false
-is_tightened_at side j l u ss (Some s) = is_better side (old_bound side s.lower s.upper) (implied side j s.value l u ss)
+is_tightened_at side j l u ss (Some s) = not s.semi && is_better side (old_bound side s.lower s.upper) (implied side j s.value l u ss)
 
 -- the row has two entries or more, one of them in column j, for which it implies a better bound
 abbrev pub is_bound_tightening : ℕ → Side → RowTest

@@ -1,6 +1,6 @@
 -- K7: a row that only just reaches one of its sides, and that only where each of its columns is at one end, is deleted, and the columns
 -- are fixed there.
-use Rattle.std.specs.Prelude.{ℕ, ⊤, Bool, false, ◌&&◌, ◌||◌, if◌then◌else◌, List, [], ◌∷◌, ◌++◌, map, Option, Some, None}
+use Rattle.std.specs.Prelude.{ℕ, ⊤, Bool, true, false, not, ◌&&◌, ◌||◌, if◌then◌else◌, List, [], ◌∷◌, ◌++◌, map, Option, Some, None}
 use Rattle.rational.specs.Number.{Number, zero_ℚ}
 use Rattle.rational.specs.Compare.{lt_ℚ}
 use Rattle.rational.specs.Ends.{same_end}
@@ -24,9 +24,14 @@ abbrev pub is_reached : Option Number → Option Number → Bool
 is_reached None e = false
 is_reached (Some b) e = same_end (Some b) e
 
--- the row has an entry, and the greatest activity is the lower side, or the least the upper side
+-- no column of the row is semi-continuous
+abbrev pub all_solid : List Span → Bool
+all_solid [] = true
+all_solid (s ∷ ss) = not s.semi && all_solid ss
+
+-- the row has an entry, none of them in a semi-continuous column, and the greatest activity is the lower side, or the least the upper side
 abbrev pub is_forcing_row : RowTest
-is_forcing_row l u ss = has_some ss && on_activities (λ least greatest. is_reached l greatest || is_reached u least) ss
+is_forcing_row l u ss = has_some ss && (all_solid ss && on_activities (λ least greatest. is_reached l greatest || is_reached u least) ss)
 
 abbrev pub holds : List Contents → Bool
 holds cs = on_row is_forcing_row cs

@@ -1,6 +1,6 @@
 -- A row with two infinite ends: each rest is infinite, and no bound follows.
 use Rattle.std.proofs.Common.{◌≡◌, ◌≢◌, ◌⊎◌, inl, inr, ℕ, suc, ◌+◌, ◌<◌, ◌≤◌, ltb, Bool, true, false, not, List, [], ◌∷◌, ◌++◌, append-nil, Option, Some, None, Ok, refl, sym, ap, ap₂, ◌∙◌, arith}
-use Rattle.std.specs.Prelude.{if◌then◌else◌}
+use Rattle.std.specs.Prelude.{◌&&◌, if◌then◌else◌}
 use Rattle.std.specs.List.{filter}
 use Rattle.std.proofs.lemmas.Bool.{cases_eq, eq-eqb, le-ltb, ne_eqb, or_parts}
 use Rattle.rational.specs.Number.{Number, zero_ℚ}
@@ -62,9 +62,13 @@ nothing_implied : (side : Side) (j : ℕ) (v : Number) (l u : Option Number) (ss
 nothing_implied Lower j v l u ss a e f = either (lt_ℚ zero_ℚ v) (left_over v l (rest Greatest j ss)) (left_over v u (rest Least j ss)) (nothing_left Greatest j v l ss a e) (nothing_left Least j v u ss a f)
 nothing_implied Upper j v l u ss a e f = either (lt_ℚ zero_ℚ v) (left_over v u (rest Least j ss)) (left_over v l (rest Greatest j ss)) (nothing_left Least j v u ss a f) (nothing_left Greatest j v l ss a e)
 
+and_false : (b : Bool) → (b && false) ≡ false
+and_false true = refl
+and_false false = refl
+
 not_tight : (b : Sides) (ss : List Span) (s : Span) (side : Side) → AreSpans 0 ss → may_tighten b ss ≡ false → is_tight b ss s side ≡ false
 not_tight b ss s side a e = let h = or_parts (may_tell Greatest b.lower ss) (may_tell Least b.upper ss) e in
-    ap (is_better side (old_bound side s.lower s.upper)) (nothing_implied side s.id s.value b.lower b.upper ss a h.0 h.1)
+    ap (λ (o : Option Number). not s.semi && is_better side (old_bound side s.lower s.upper) o) (nothing_implied side s.id s.value b.lower b.upper ss a h.0 h.1) ∙ and_false (not s.semi)
 
 none_found : (b : Sides) (ss ts : List Span) → AreSpans 0 ss → may_tighten b ss ≡ false → found_among b ss ts ≡ []
 none_found b ss [] a e = refl

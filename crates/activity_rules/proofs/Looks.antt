@@ -122,3 +122,11 @@ pub none_below : (l : Option Number) (a : Result (Option Number) Past) → is_no
 none_below None (Ok v) h = refl
 none_below None (Err e) h = refl
 none_below (Some l) a h = absurd (true≢false (sym h))
+
+-- whether columns are semi-continuous is looked at last
+pub solid_last : (h s r : Bool) → (h && (s && r)) ≡ (h && (r && s))
+solid_last false s r = refl
+solid_last true true true = refl
+solid_last true true false = refl
+solid_last true false true = refl
+solid_last true false false = refl

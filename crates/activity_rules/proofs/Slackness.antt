@@ -1,6 +1,6 @@
 -- Where a row keeps its side with a column at its other end, it implies no better bound.
 use Rattle.std.proofs.Common.{◌≡◌, ◌≢◌, inl, inr, Bool, true, false, not, [], ◌∷◌, List, Option, Some, None, Result, Ok, refl, sym, ap, ◌∙◌, subst}
-use Rattle.std.specs.Prelude.{if◌then◌else◌}
+use Rattle.std.specs.Prelude.{◌&&◌, if◌then◌else◌}
 use Rattle.rational.specs.Number.{Number, zero_ℚ, ◌+ℚ◌, ◌-ℚ◌, ◌*ℚ◌, neg_ℚ}
 use Rattle.rational.specs.Order.{◌≤ℚ◌, ◌<ℚ◌}
 use Rattle.rational.specs.Linear.{linear, fact}
@@ -24,7 +24,7 @@ use Rattle.row_spans.specs.Exact.{fits, sum_fits, if_room}
 use Rattle.kept_sums.specs.KeptSides.{EndKept, IsQuiet, Keeps, KeepsTurned, opposite}
 use Rattle.row_spans.specs.RowSums.{rest}
 use Rattle.row_spans.specs.Spans.{end_at}
-use Rattle.activity_laws.specs.BoundTightening.{if_made, is_better, left_over, old_bound, over_entry}
+use Rattle.activity_laws.specs.BoundTightening.{if_made, implied, is_better, left_over, old_bound, over_entry}
 use Rattle.activities.specs.Rows.{source_of}
 use Rattle.activity_rules.specs.Tightened.{AreQuiet, is_below, is_tight}
 use Rattle.kept_sums.specs.declared.kept_sides.QuietSides.{QuietSides}
@@ -121,14 +121,21 @@ quiet_not_better side x s ss o n e (inr h) = ap (λ (r : Result (Option Number) 
     none_left None = none_better side (old_bound side s.lower s.upper)
     none_left (Some b) = none_better side (old_bound side s.lower s.upper)
 
-pub quiet_not_tight : (sides : Sides) (ss : List Span) (s : Span) (q : QuietSides) → s.value ≢ zero_ℚ → AreQuiet sides ss s q → (side : Side) → (if is_below side (lt_ℚ zero_ℚ s.value) then q.lower else q.upper) ≡ true → is_tight sides ss s side ≡ false
-quiet_not_tight sides ss s q n a Lower t = by (lt_ℚ zero_ℚ s.value) refl t
+quiet_not_better_side : (sides : Sides) (ss : List Span) (s : Span) (q : QuietSides) → s.value ≢ zero_ℚ → AreQuiet sides ss s q → (side : Side) → (if is_below side (lt_ℚ zero_ℚ s.value) then q.lower else q.upper) ≡ true → is_better side (old_bound side s.lower s.upper) (implied side s.id s.value sides.lower sides.upper ss) ≡ false
+quiet_not_better_side sides ss s q n a Lower t = by (lt_ℚ zero_ℚ s.value) refl t
   where
     by : (c : Bool) → lt_ℚ zero_ℚ s.value ≡ c → (if c then q.lower else q.upper) ≡ true → is_better Lower (old_bound Lower s.lower s.upper) (if c then left_over s.value sides.lower (rest Greatest s.id ss) else left_over s.value sides.upper (rest Least s.id ss)) ≡ false
     by true e t = quiet_not_better Lower Greatest s ss sides.lower n (sym (ap (source_of Lower) e)) (a.lower t)
     by false e t = quiet_not_better Lower Least s ss sides.upper n (sym (ap (source_of Lower) e)) (a.upper t)
-quiet_not_tight sides ss s q n a Upper t = by (lt_ℚ zero_ℚ s.value) refl t
+quiet_not_better_side sides ss s q n a Upper t = by (lt_ℚ zero_ℚ s.value) refl t
   where
     by : (c : Bool) → lt_ℚ zero_ℚ s.value ≡ c → (if not c then q.lower else q.upper) ≡ true → is_better Upper (old_bound Upper s.lower s.upper) (if c then left_over s.value sides.upper (rest Least s.id ss) else left_over s.value sides.lower (rest Greatest s.id ss)) ≡ false
     by true e t = quiet_not_better Upper Least s ss sides.upper n (sym (ap (source_of Upper) e)) (a.upper t)
     by false e t = quiet_not_better Upper Greatest s ss sides.lower n (sym (ap (source_of Upper) e)) (a.lower t)
+
+and_false : (b : Bool) → (b && false) ≡ false
+and_false true = refl
+and_false false = refl
+
+pub quiet_not_tight : (sides : Sides) (ss : List Span) (s : Span) (q : QuietSides) → s.value ≢ zero_ℚ → AreQuiet sides ss s q → (side : Side) → (if is_below side (lt_ℚ zero_ℚ s.value) then q.lower else q.upper) ≡ true → is_tight sides ss s side ≡ false
+quiet_not_tight sides ss s q n a side t = ap (λ (b : Bool). not s.semi && b) (quiet_not_better_side sides ss s q n a side t) ∙ and_false (not s.semi)

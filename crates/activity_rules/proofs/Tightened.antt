@@ -12,6 +12,7 @@ use Rattle.undo_records.specs.declared.side.Side.TheVariants.{Lower, Upper}
 use Rattle.problem_model.specs.declared.line.Sides.{Sides}
 use Rattle.problem_model.specs.Problems.{bounds_at, column_at, row_at, row_entries, sides_at, IsSparse}
 use Rattle.problem_model.specs.Sparse.{Sparse}
+use Rattle.problem_model.specs.Showing.{reach_high, reach_low}
 use Rattle.problem_laws.proofs.Entries.{has-live_only, row_entries-tell}
 use Rattle.problem_laws.proofs.Terms.{dense-absent, dense-cons_other, dense-cons_same, has-cons_other, has-cons_same, not_both}
 use Rattle.lp_model.specs.EndTests.{is_in_order}
@@ -34,12 +35,12 @@ has_two_is p i = two_of p (row_entries p i)
 
 -- ---- the entry of a column
 at_entry : (p : Sparse) (j : ℕ) (side : Side) (l u : Option Number) (ss : List Span) (ts : List Term)
-    → is_tightened_at side j l u ss (entry_at j (map (span_of p) ts)) ≡ (has j ts && is_better side (old_bound side (bounds_at p j).lower (bounds_at p j).upper) (implied side j (dense ts j) l u ss))
+    → is_tightened_at side j l u ss (entry_at j (map (span_of p) ts)) ≡ (has j ts && (not (bounds_at p j).semi && is_better side (old_bound side (reach_low (bounds_at p j)) (reach_high (bounds_at p j))) (implied side j (dense ts j) l u ss)))
 at_entry p j side l u ss [] = refl
 at_entry p j side l u ss (t ∷ ts) = by (cases_eq t.id j) (at_entry p j side l u ss ts)
   where
     asked : ℕ → Number → Bool
-    asked k a = is_better side (old_bound side (bounds_at p k).lower (bounds_at p k).upper) (implied side j a l u ss)
+    asked k a = not (bounds_at p k).semi && is_better side (old_bound side (reach_low (bounds_at p k)) (reach_high (bounds_at p k))) (implied side j a l u ss)
 
     there : Bool → Bool
     there b = is_tightened_at side j l u ss (if b then Some (span_of p t) else entry_at j (map (span_of p) ts))
@@ -120,7 +121,7 @@ module _ (p : Sparse) (i : ℕ) (looked : is_looked_at p i ≡ true) where
   unfolding InRow
   bound_is t side h = bound_tightening_is p i t.id side
       ∙ ap₂ (λ (x y : Bool). x && (y && gets_better p i t.id side)) looked h.0
-      ∙ ap (λ (a : Number). is_better side (old_bound side (bounds_at p t.id).lower (bounds_at p t.id).upper) (implied side t.id a ends.lower ends.upper spans)) h.1
+      ∙ ap (λ (a : Number). not (bounds_at p t.id).semi && is_better side (old_bound side (reach_low (bounds_at p t.id)) (reach_high (bounds_at p t.id))) (implied side t.id a ends.lower ends.upper spans)) h.1
 
   both_are : (t : Term) → InRow t → filter (λ x. enabled p i x.0 x.1) ((t.id, Lower) ∷ (t.id, Upper) ∷ []) ≡ found_at ends spans (span_of p t)
   both_are t h = ap₂ (λ (x y : Bool). cond x ((t.id, Lower) ∷ cond y ((t.id, Upper) ∷ []) []) (cond y ((t.id, Upper) ∷ []) [])) (bound_is t Lower h) (bound_is t Upper h)

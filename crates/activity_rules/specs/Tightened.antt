@@ -5,6 +5,7 @@ use Rattle.undo_records.specs.declared.side.Side.{Side}
 use Rattle.undo_records.specs.declared.side.Side.TheVariants.{Lower, Upper}
 use Rattle.problem_model.specs.declared.line.Sides.{Sides}
 use Rattle.problem_model.specs.Problems.{bounds_at}
+use Rattle.problem_model.specs.Showing.{reach_high, reach_low}
 use Rattle.problem_model.specs.Sparse.{Sparse}
 use Rattle.row_spans.specs.declared.span.Span.{Span}
 use Rattle.rational.specs.Number.{Number}
@@ -22,13 +23,13 @@ use Rattle.activity_rules.specs.declared.tightened_bounds.Cursor.{Cursor}
 abbrev pub is_looked_at : Sparse → ℕ → Bool
 is_looked_at p i = is_uncrossed p i && has_two (spans_of p i)
 
--- the new bound of column j is a better one
+-- column j is not semi-continuous, and its new bound is a better one
 abbrev pub gets_better : Sparse → ℕ → ℕ → Side → Bool
-gets_better p i j side = is_better side (old_bound side (bounds_at p j).lower (bounds_at p j).upper) (new_bound p i j side)
+gets_better p i j side = not (bounds_at p j).semi && is_better side (old_bound side (reach_low (bounds_at p j)) (reach_high (bounds_at p j))) (new_bound p i j side)
 
--- a row with these sides and entries implies a better bound for the column of this entry
+-- a row with these sides and entries implies a better bound for the column of this entry, which is not semi-continuous
 abbrev pub is_tight : Sides → List Span → Span → Side → Bool
-is_tight b ss s side = is_better side (old_bound side s.lower s.upper) (implied side s.id s.value b.lower b.upper ss)
+is_tight b ss s side = not s.semi && is_better side (old_bound side s.lower s.upper) (implied side s.id s.value b.lower b.upper ss)
 
 -- a bound of a column, or none
 abbrev pub bound_if : Bool → ℕ → Side → List (ℕ × Side)

@@ -54,7 +54,7 @@ fn new_bound(problem: &Problem, row: u32, column: u32, side: Side) -> Ext
     left_over(&entry, &end, rest_of(problem, row, column, extreme))
 }
 
-/// Whether that bound is better than the column's own.
+/// Whether that bound is better than the column's own, which is not semi-continuous.
 #[tactic(auto, using(crate::proofs::Tightened::column_on))]
 fn gets_better(problem: &Problem, row: u32, column: u32, side: Side) -> bool
     requires row { (row_at problem.now row).live ≡ true }
@@ -62,7 +62,10 @@ fn gets_better(problem: &Problem, row: u32, column: u32, side: Side) -> bool
     ensures { result ≡ bound_gets_better problem.now row column side }
 {
     let bounds = problem.bounds(column);
-    let old = old_bound(side, &bounds.lower, &bounds.upper);
+    if bounds.semi {
+        return false;
+    }
+    let old = old_bound(side, &bounds.reach_lower(), &bounds.reach_upper());
     is_better(side, &old, &new_bound(problem, row, column, side))
 }
 

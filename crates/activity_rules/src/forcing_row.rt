@@ -5,18 +5,19 @@ ghost use Rattle.std.specs.Prelude.{◌≡◌, ◌||◌, ◌++◌, ◌∷◌, []
 ghost use Rattle.problem_model.specs.Problems.{row_at, row_entries, sides_at};
 ghost use Rattle.problem_model.specs.declared.edit.Edit.TheVariants as edit;
 ghost use Rattle.rule_words.specs.Answers.{Changes};
-ghost use Rattle.row_spans.specs.Spans.{spans_of};
+ghost use Rattle.row_spans.specs.Spans.{spans_among, spans_of};
 ghost use Rattle.row_spans.specs.declared.span.Extreme.TheVariants.{Greatest, Least};
 ghost use Rattle.row_spans.specs.RowSums.{activity};
 ghost use Rattle.activity_laws.specs.Rows.{on_activities};
 ghost use Rattle.activity_rules.specs.Looks.{on_one};
-ghost use Rattle.activity_laws.specs.ForcingRow.{at_lower, enabled, edits, edits_by, end_of as end_with, fixed_at_end as fixed_with, is_reached as side_is_reached, record_by, record_of, Computes};
+ghost use Rattle.activity_laws.specs.ForcingRow.{all_solid, at_lower, enabled, edits, edits_by, end_of as end_with, fixed_at_end as fixed_with, is_reached as side_is_reached, record_by, record_of, Computes};
 ghost use Rattle.undo_records.specs.declared.side.Side.TheVariants.{Lower, Upper};
 ghost use Rattle.undo_records.specs.declared.undo.Undo.TheVariants as undone;
 
 use activities::rows::{has_entries, is_uncrossed};
 use activities::{RowSums, greatest, least};
 use fractions::ext::Ext;
+use lp_model::Term;
 use problem_model::{Edit, Refusal};
 use row_spans::{Extreme, Span};
 use rule_words::Change;
@@ -78,14 +79,38 @@ fn only_reaches(problem: &Problem, row: u32) -> bool
         || (least_reaches(problem, row, &sides.upper) && greatest(problem, row, None).is_ok())
 }
 
-/// Whether a row has an entry, nothing of it is crossed, and it only just reaches one of its sides.
-#[tactic(auto, using(crate::proofs::Looks::forcing_row_is))]
+/// Whether no live column that terms name is semi-continuous.
+fn are_solid(problem: &Problem, terms: &[Term]) -> bool
+    ensures { result ≡ all_solid (spans_among problem.now terms.now) }
+{
+    let mut rest = terms;
+    while let [term, after @ ..] = rest {
+        if problem.is_column_live(term.id) && problem.bounds(term.id).semi {
+            return false;
+        }
+        rest = after;
+    }
+    true
+}
+
+/// Whether no column of a row is semi-continuous.
+fn is_solid(problem: &Problem, row: u32) -> bool
+    requires { (row_at problem.now row).live ≡ true }
+    ensures { result ≡ all_solid (spans_of problem.now row) }
+{
+    let line = problem.row_line(row);
+    are_solid(problem, line.entries.as_slice())
+}
+
+/// Whether a row has an entry, none of its columns is semi-continuous, nothing of it is crossed, and it only just reaches one of its sides.
+#[tactic(auto, using(crate::proofs::Looks::forcing_row_is, crate::proofs::Looks::solid_last))]
 pub fn is_enabled(problem: &Problem, row: u32) -> bool
     ensures { result ≡ enabled problem.now row }
 {
     problem.is_row_live(row)
         && has_entries(problem, row)
         && only_reaches(problem, row)
+        && is_solid(problem, row)
         && is_uncrossed(problem, row)
 }
 

@@ -32,8 +32,12 @@ fn is_finite(problem: &Problem, extreme: Extreme, term: &Term) -> bool
 {
     let bounds = problem.bounds(term.id);
     match extreme {
-        Extreme::Least => is_least_finite(&term.value, &bounds.lower, &bounds.upper),
-        Extreme::Greatest => is_least_finite(&term.value, &bounds.upper, &bounds.lower),
+        Extreme::Least => {
+            is_least_finite(&term.value, &bounds.reach_lower(), &bounds.reach_upper())
+        }
+        Extreme::Greatest => {
+            is_least_finite(&term.value, &bounds.reach_upper(), &bounds.reach_lower())
+        }
     }
 }
 

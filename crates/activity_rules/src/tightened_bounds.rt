@@ -46,12 +46,15 @@ fn implied_at(sums: &RowSums, sides: &Sides, place: usize, side: Side) -> Ext
     left_over(&span.value, &end, sums.rest(extreme, place))
 }
 
-/// Whether the implied bound is better than the column's own.
+/// Whether the implied bound is better than the column's own, which is not semi-continuous.
 fn is_tight(sums: &RowSums, sides: &Sides, place: usize, side: Side) -> bool
     requires { place < length sums.now }
     ensures { result ≡ is_tight_by sides.now sums.now (span_at sums.now place) side }
 {
     let span = span_of(sums, place);
+    if span.semi {
+        return false;
+    }
     let old = old_bound(side, &span.lower, &span.upper);
     is_better(side, &old, &implied_at(sums, sides, place, side))
 }

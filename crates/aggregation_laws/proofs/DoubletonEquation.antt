@@ -45,7 +45,7 @@ use Rattle.problem_model.specs.LeftOut.{column_left_out}
 use Rattle.problem_model.specs.Matrices.{line_at}
 use Rattle.problem_model.specs.NewNumbers.{EditIsSided}
 use Rattle.problem_model.specs.Offsets.{added_by}
-use Rattle.problem_model.specs.Problems.{row_at, column_at, row_entries, column_entries, sides_at, bounds_at, cost_at, IsSparse}
+use Rattle.problem_model.specs.Problems.{row_at, column_at, row_entries, column_entries, sides_at, bounds_at, cost_at, IsSparse, no_bounds}
 use Rattle.problem_model.specs.Raised.{committed}
 use Rattle.problem_model.specs.Showing.{coefficient_of, end_if, shown}
 use Rattle.problem_model.specs.Sparse.{Sparse}
@@ -55,14 +55,17 @@ use Rattle.problem_laws.proofs.Entries.{column_entries-ascend, column_entries-li
 use Rattle.problem_laws.proofs.Terms.{ascends-filter, dense-absent, dense-cons_other, dense-cons_same, dense-without, has-without, terms_tell}
 use Rattle.edit_laws.proofs.Lists.{allowed_more}
 use Rattle.edit_laws.proofs.Reducing.{by_edits, pairs_by_edits}
-use Rattle.edit_laws.proofs.Sweeps.{sweep, programs_more, added_more, sweep_matrix, sweep_allowed, sweep_added, sweep_flags, sweep_no_entries, sweep_sided, sweep_only, sweep_lower, sweep_upper}
+use Rattle.edit_laws.proofs.Sweeps.{sweep, sweep_bounds, programs_more, added_more, sweep_matrix, sweep_allowed, sweep_added, sweep_flags, sweep_no_entries, sweep_sided, sweep_only, sweep_lower, sweep_upper}
 use Rattle.row_spans.specs.Exact.{exact_quotient, if_room}
 use Rattle.rule_words.specs.Owed.{Owes}
 use Rattle.rule_words.proofs.Coefficients.{coefficient_in_column, coefficient_in_row, end_live}
 use Rattle.rule_words.proofs.EndTestsSay.{AreFixed, fixed_ends, not_true}
 use Rattle.rule_words.proofs.Named.{lives, one_on, two_sided}
 use Rattle.aggregation_laws.specs.DoubletonEquation.{are_at, column_joined, edits, enabled, entry_at, equal_of, factor, is_doubleton_equation, is_made_whole, joined_cost, joined_lower, joined_upper, new_entry, others, record_of, shift, stays_whole}
-use Rattle.aggregation_laws.proofs.Entries.{set_added, set_all, set_allowed, set_column, set_columns, set_first, set_flags, set_rows, set_sided, with_column}
+use Rattle.aggregation_laws.proofs.Entries.{set_added, set_bounds_stay, set_all, set_allowed, set_column, set_columns, set_first, set_flags, set_rows, set_sided, with_column}
+use Rattle.problem_model.specs.Parts.{bounds_held}
+use Rattle.rule_words.proofs.Solid.{gap_solid, low_shown, high_shown}
+use Rattle.problem_model.specs.declared.line.Bounds.{Bounds}
 
 -- ---- two entries
 pub record IsPair (ts : List Term) (j k : ℕ) : Type 0 where
@@ -109,33 +112,38 @@ whole_are true second a b r e w =
     (x.0, made_whole _ (b /ℚ a) y.0, made_whole _ (r /ℚ a) y.1)
 
 -- ---- what the condition says: of a live row and two live columns
-pub record Said (row first second : Bool) (ts : List Term) (l u : Option Number) (w x : Bool) (j k : ℕ) : Type 0 where
+pub record Said (row first second semi other : Bool) (ts : List Term) (l u : Option Number) (w x : Bool) (j k : ℕ) : Type 0 where
   pub row_on : row ≡ true
   pub first_on : first ≡ true
   pub second_on : second ≡ true
+  pub first_solid : semi ≡ false
+  pub second_solid : other ≡ false
   pub at : are_at j k ts ≡ true
   pub ends : AreFixed l u false (unwrap_or l zero_ℚ)
   pub whole : IsTrue w → IsTrue x × IsWhole (dense ts k /ℚ dense ts j) × IsWhole (unwrap_or l zero_ℚ /ℚ dense ts j)
 
-says : (row first second : Bool) (ts : List Term) (l u m o n q : Option Number) (w y : Bool) (j k : ℕ)
+says : (row first second semi other : Bool) (ts : List Term) (l u m o n q : Option Number) (w y : Bool) (j k : ℕ)
     → is_doubleton_equation j k (if row then holding.Entries ts else holding.Gone) (if row then holding.Sides l u else holding.Gone)
-    (if first then holding.Bounds m o w else holding.Gone) (if second then holding.Bounds n q y else holding.Gone) ≡ true
-    → Said row first second ts l u w y j k
-says true true true ts l u m o n q w y j k e =
+    (if first then bounds_held semi m o w else holding.Gone) (if second then bounds_held other n q y else holding.Gone) ≡ true
+    → Said row first second semi other ts l u w y j k
+says true true true true other ts l u m o n q w y j k e = absurd (not_true e)
+says true true true false true ts l u m o n q w y j k e = absurd (not_true e)
+says true true true false false ts l u m o n q w y j k e =
     let e1 = and_parts (are_at j k ts) _ e in
     let e2 = and_parts (is_fixed l u false) _ e1.1 in
     let e3 = and_parts (is_in_order m o) _ e2.1 in
     let e4 = and_parts (is_in_order n q) _ e3.1 in
-    record { row_on = refl; first_on = refl; second_on = refl; at = e1.0; ends = fixed_ends l u false e2.0; whole = whole_are w y (dense ts j) (dense ts k) (unwrap_or l zero_ℚ) e4.1 }
-says true true false ts l u m o n q w y j k e = absurd (not_true e)
-says true false second ts l u m o n q w y j k e = absurd (not_true e)
-says false first second ts l u m o n q w y j k e = absurd (not_true e)
+    record { row_on = refl; first_on = refl; second_on = refl; first_solid = refl; second_solid = refl; at = e1.0; ends = fixed_ends l u false e2.0; whole = whole_are w y (dense ts j) (dense ts k) (unwrap_or l zero_ℚ) e4.1 }
+says true true false true other ts l u m o n q w y j k e = absurd (not_true e)
+says true true false false other ts l u m o n q w y j k e = absurd (not_true e)
+says true false second semi other ts l u m o n q w y j k e = absurd (not_true e)
+says false first second semi other ts l u m o n q w y j k e = absurd (not_true e)
 
 abbrev pub SaidOf : Sparse → ℕ → ℕ → ℕ → Type 0
-SaidOf p i j k = Said (row_at p i).live (column_at p j).live (column_at p k).live (row_entries p i) (sides_at p i).lower (sides_at p i).upper (bounds_at p j).whole (bounds_at p k).whole j k
+SaidOf p i j k = Said (row_at p i).live (column_at p j).live (column_at p k).live (bounds_at p j).semi (bounds_at p k).semi (row_entries p i) (sides_at p i).lower (sides_at p i).upper (bounds_at p j).whole (bounds_at p k).whole j k
 
 pub said : (p : Sparse) (i j k : ℕ) → enabled p i j k ≡ true → SaidOf p i j k
-said p i j k = says (row_at p i).live (column_at p j).live (column_at p k).live (row_entries p i) (sides_at p i).lower (sides_at p i).upper
+said p i j k = says (row_at p i).live (column_at p j).live (column_at p k).live (bounds_at p j).semi (bounds_at p k).semi (row_entries p i) (sides_at p i).lower (sides_at p i).upper
     (bounds_at p j).lower (bounds_at p j).upper (bounds_at p k).lower (bounds_at p k).upper (bounds_at p j).whole (bounds_at p k).whole j k
 
 -- ---- ends less products
@@ -200,6 +208,7 @@ module _ (p : Sparse) (s : IsSparse p) (i j k : ℕ) (f : SaidOf p i j k) where
     row = row_inside p i f.row_on;
     first = column_inside p j f.first_on;
     second = column_inside p k f.second_on;
+    solid = gap_solid (column_at p j).live (bounds_at p j) f.first_solid;
     apart = pair.apart;
     first_entry = λ z. pair.first (a_is ∙ z);
     second_entry = λ z. pair.second (b_is ∙ z);
@@ -305,10 +314,10 @@ module _ (p : Sparse) (s : IsSparse p) (i j k : ℕ) (f : SaidOf p i j k) where
   cost_is = sym (ap₂ (λ (x y : Bool). (if x then cost_at p k else zero_ℚ) -ℚ (if y then cost_at p j else zero_ℚ) *ℚ factor p i j k) f.second_on f.first_on)
 
   lower_is : joined_lower p i j k ≡ meet_low (M.lower_bound k) (image_lower a b r (M.lower_bound j) (M.upper_bound j))
-  lower_is = sym (ap₂ (λ (x y : Bool). meet_low (end_if x (bounds_at p k).lower) (image_lower a b r (end_if y (bounds_at p j).lower) (end_if y (bounds_at p j).upper))) f.second_on f.first_on)
+  lower_is t = meet_low (sym (low_shown p k f.second_on f.second_solid) t) (image_lower a b r (sym (low_shown p j f.first_on f.first_solid) t) (sym (high_shown p j f.first_on f.first_solid) t))
 
   upper_is : joined_upper p i j k ≡ meet_high (M.upper_bound k) (image_upper a b r (M.lower_bound j) (M.upper_bound j))
-  upper_is = sym (ap₂ (λ (x y : Bool). meet_high (end_if x (bounds_at p k).upper) (image_upper a b r (end_if y (bounds_at p j).lower) (end_if y (bounds_at p j).upper))) f.second_on f.first_on)
+  upper_is t = meet_high (sym (high_shown p k f.second_on f.second_solid) t) (image_upper a b r (sym (low_shown p j f.first_on f.first_solid) t) (sym (high_shown p j f.first_on f.first_solid) t))
 
   shows_joined : column_left_out (without_row (with_bounds (with_cost M2 k (joined_cost p i j k)) k (joined_lower p i j k) (joined_upper p i j k)) i) j ≡ R
   shows_joined t = record R {
@@ -345,10 +354,13 @@ module _ (p : Sparse) (s : IsSparse p) (i j k : ℕ) (f : SaidOf p i j k) where
   row_there : (row_at p2 i).live ≡ true
   row_there = ap (λ g. (line_at g.rows i).live) (sweep_matrix low high ts p1) ∙ row_stays i ∙ f.row_on
 
+  solid_stays : (bounds_at p2 k).semi ≡ false
+  solid_stays = ap (λ (bs : List Bounds). (get_or bs k no_bounds).semi) (sweep_bounds low high ts p1 ∙ set_bounds_stay k (new_entry p k (factor p i j k)) ts p) ∙ f.second_solid
+
   allowed : AreAllowed p (edits p i j k)
   allowed = allowed_more p entries (sides ++ joined) (set_allowed k (new_entry p k (factor p i j k)) ts p terms_live f.second_on)
       (allowed_more p1 sides joined (sweep_allowed low high ts p1 (λ x d l. row_stays (get_or ts x d).id ∙ terms_live x d l))
-      (column_stays k ∙ f.second_on, (column_stays k ∙ f.second_on, (tt, (row_there, (losing-live (row_deleted p2 i).matrix.rows p2.matrix.columns i j ∙ column_stays j ∙ f.first_on, tt))))))
+      (column_stays k ∙ f.second_on, ((column_stays k ∙ f.second_on, solid_stays), (tt, (row_there, (losing-live (row_deleted p2 i).matrix.rows p2.matrix.columns i j ∙ column_stays j ∙ f.first_on, tt))))))
 
   -- ---- what they add
   adds : doubleton_equation_offset M i j r ≡ added_by (edits p i j k)
@@ -373,8 +385,8 @@ module _ (p : Sparse) (s : IsSparse p) (i j k : ℕ) (f : SaidOf p i j k) where
     value = sym a_is z;
     kept_value = sym b_is z;
     equal = r;
-    lower = end_live (column_at p k).live (bounds_at p k).lower f.second_on z;
-    upper = end_live (column_at p k).live (bounds_at p k).upper f.second_on z;
+    lower = low_shown p k f.second_on f.second_solid z;
+    upper = high_shown p k f.second_on f.second_solid z;
     cost = ap (λ (on : Bool). if on then cost_at p j else zero_ℚ) f.first_on z;
     entries = ts;
   })

@@ -46,6 +46,10 @@ module _ (k : ℕ) (value : Term → Number) where
   set_columns [] p h j = refl
   set_columns (t ∷ ts) p h j = set_columns ts (entry_set p t.id k (value t)) (put_column_live p t.id k (value t) h k ∙ h) j ∙ put_column_live p t.id k (value t) h j
 
+  pub set_bounds_stay : (ts : List Term) (p : Sparse) → (applied p (set_all ts)).bounds ≡ p.bounds
+  set_bounds_stay [] p = refl
+  set_bounds_stay (t ∷ ts) p = set_bounds_stay ts (entry_set p t.id k (value t))
+
   pub set_allowed : (ts : List Term) (p : Sparse) → All (λ t. (row_at p t.id).live ≡ true) ts → (column_at p k).live ≡ true → AreAllowed p (set_all ts)
   set_allowed [] p h c = tt
   set_allowed (t ∷ ts) p h c =

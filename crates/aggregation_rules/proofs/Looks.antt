@@ -11,6 +11,7 @@ use Rattle.lp_model.specs.Sparse.{dense}
 use Rattle.problem_model.specs.Problems.{IsSparse, row_at, column_at, row_entries, sides_at, bounds_at}
 use Rattle.problem_model.specs.Sparse.{Sparse}
 use Rattle.problem_model.specs.declared.part.Contents.TheVariants as holding
+use Rattle.problem_model.specs.Parts.{bounds_held}
 use Rattle.problem_laws.proofs.Entries.{row_entries-ascend}
 use Rattle.problem_laws.proofs.Terms.{dense-cons_other, not_both}
 use Rattle.rule_words.proofs.EndTestsSay.{not_true}
@@ -113,17 +114,29 @@ regroup true true false d e = refl
 regroup true false c d e = refl
 regroup false b c d e = refl
 
-looks : (row first second : Bool) (ts : List Term) (l u m o n q : Option Number) (w y : Bool) (j k : ℕ)
+one_semi : (a b e : Bool) → false ≡ (a && ((b && false) && e))
+one_semi true true e = refl
+one_semi true false e = refl
+one_semi false b e = refl
+
+other_semi : (a b c e : Bool) → false ≡ (a && ((b && (c && false)) && e))
+other_semi a b true e = one_semi a b e
+other_semi a b false e = one_semi a b e
+
+looks : (row first second s t : Bool) (ts : List Term) (l u m o n q : Option Number) (w y : Bool) (j k : ℕ)
     → is_doubleton_equation j k (if row then holding.Entries ts else holding.Gone) (if row then holding.Sides l u else holding.Gone)
-    (if first then holding.Bounds m o w else holding.Gone) (if second then holding.Bounds n q y else holding.Gone)
-    ≡ ((row && (first && (second && are_at j k ts))) && ((is_fixed l u false && (is_in_order m o && is_in_order n q)) && stays_whole w y (dense ts j) (dense ts k) (unwrap_or l zero_ℚ)))
-looks true true true ts l u m o n q w y j k = regroup (are_at j k ts) (is_fixed l u false) (is_in_order m o) (is_in_order n q) (stays_whole w y (dense ts j) (dense ts k) (unwrap_or l zero_ℚ))
-looks true true false ts l u m o n q w y j k = refl
-looks true false second ts l u m o n q w y j k = refl
-looks false first second ts l u m o n q w y j k = refl
+    (if first then bounds_held s m o w else holding.Gone) (if second then bounds_held t n q y else holding.Gone)
+    ≡ ((row && (first && (second && are_at j k ts))) && ((is_fixed l u false && ((not s && is_in_order m o) && (not t && is_in_order n q))) && stays_whole w y (dense ts j) (dense ts k) (unwrap_or l zero_ℚ)))
+looks true true true true t ts l u m o n q w y j k = one_semi (are_at j k ts) (is_fixed l u false) (stays_whole w y (dense ts j) (dense ts k) (unwrap_or l zero_ℚ))
+looks true true true false true ts l u m o n q w y j k = other_semi (are_at j k ts) (is_fixed l u false) (is_in_order m o) (stays_whole w y (dense ts j) (dense ts k) (unwrap_or l zero_ℚ))
+looks true true true false false ts l u m o n q w y j k = regroup (are_at j k ts) (is_fixed l u false) (is_in_order m o) (is_in_order n q) (stays_whole w y (dense ts j) (dense ts k) (unwrap_or l zero_ℚ))
+looks true true false true t ts l u m o n q w y j k = refl
+looks true true false false t ts l u m o n q w y j k = refl
+looks true false second s t ts l u m o n q w y j k = refl
+looks false first second s t ts l u m o n q w y j k = refl
 
 pub enabled_is : (p : Sparse) (i j k : ℕ) → enabled p i j k ≡ (is_pair p i j k && (is_in_range p i j k && keeps_whole p i j k))
-enabled_is p i j k = looks (row_at p i).live (column_at p j).live (column_at p k).live (row_entries p i) (sides_at p i).lower (sides_at p i).upper
+enabled_is p i j k = looks (row_at p i).live (column_at p j).live (column_at p k).live (bounds_at p j).semi (bounds_at p k).semi (row_entries p i) (sides_at p i).lower (sides_at p i).upper
     (bounds_at p j).lower (bounds_at p j).upper (bounds_at p k).lower (bounds_at p k).upper (bounds_at p j).whole (bounds_at p k).whole j k
 
 pub pair_on : (p : Sparse) (i j k : ℕ) → enabled p i j k ≡ true → is_pair p i j k ≡ true

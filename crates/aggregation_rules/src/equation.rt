@@ -6,7 +6,7 @@ ghost use Rattle.lp_model.specs.EndTests.{is_in_order};
 ghost use Rattle.problem_model.specs.Problems.{bounds_at, column_at, row_at, row_entries};
 ghost use Rattle.row_spans.specs.Exact.{exact_quotient};
 ghost use Rattle.aggregation_laws.specs.DoubletonEquation.{are_at, entry_at, equal_of, is_made_whole};
-ghost use Rattle.aggregation_rules.specs.Looks.{equation_at, is_in_range as is_within, is_pair as is_pair_of, keeps_whole as whole_is_kept};
+ghost use Rattle.aggregation_rules.specs.Looks.{equation_at, is_in_range as is_within, is_open as column_is_open, is_pair as is_pair_of, keeps_whole as whole_is_kept};
 
 use fractions::frac::Frac;
 use lp_model::ends::{fixed, in_order};
@@ -64,25 +64,23 @@ pub fn is_pair(problem: &Problem, row: u32, column: u32, other: u32) -> bool
         && has_two(problem, row, column, other)
 }
 
-/// Whether the bounds of a column are in order.
-fn bounds_in_order(problem: &Problem, column: u32) -> bool
+/// Whether a column is not semi-continuous, and its bounds are in order.
+fn is_open(problem: &Problem, column: u32) -> bool
     requires { (column_at problem.now column).live ≡ true }
-    ensures { result ≡ is_in_order (bounds_at problem.now column).lower (bounds_at problem.now column).upper }
+    ensures { result ≡ column_is_open problem.now column }
 {
     let bounds = problem.bounds(column);
-    in_order(&bounds.lower, &bounds.upper)
+    !bounds.semi && in_order(&bounds.lower, &bounds.upper)
 }
 
-/// Whether both sides of the row are one number, and the bounds of its columns are in order.
+/// Whether both sides of the row are one number, and both columns are not semi-continuous, with bounds in order.
 #[tactic(auto, using(crate::proofs::Looks::row_on, crate::proofs::Looks::first_on, crate::proofs::Looks::second_on))]
 pub fn is_in_range(problem: &Problem, row: u32, column: u32, other: u32) -> bool
     requires { is_pair_of problem.now row column other ≡ true }
     ensures { result ≡ is_within problem.now row column other }
 {
     let sides = problem.sides(row);
-    fixed(&sides.lower, &sides.upper, false)
-        && bounds_in_order(problem, column)
-        && bounds_in_order(problem, other)
+    fixed(&sides.lower, &sides.upper, false) && is_open(problem, column) && is_open(problem, other)
 }
 
 /// What a row is equal to, if both its sides are one number.

@@ -76,6 +76,7 @@ fn column(
         lower: bound(rt, model.lower),
         upper: bound(rt, model.upper),
         whole: true,
+        semi: false,
         entries,
     })
 }

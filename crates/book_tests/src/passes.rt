@@ -62,6 +62,7 @@ fn column(
         lower: Ext::at(Frac::zero()),
         upper: Ext::at(number(rt, (upper, 1))),
         whole: false,
+        semi: false,
         entries: Terms::new(terms),
     })
 }

@@ -89,7 +89,7 @@ const STORIES: [Story; 10] = [
             Told {
                 by: 0,
                 version: 0,
-                reads: &[(Part::Row(0), 0), (Part::Sides(0), 0)],
+                reads: &[(Part::Row(0), 0), (Part::Sides(0), 0), (Part::Bounds(0), 0)],
             },
             Told {
                 by: 1,
@@ -123,7 +123,7 @@ const STORIES: [Story; 10] = [
         told: &[Told {
             by: 0,
             version: 0,
-            reads: &[(Part::Row(0), 0), (Part::Sides(0), 0)],
+            reads: &[(Part::Row(0), 0), (Part::Sides(0), 0), (Part::Bounds(0), 0)],
         }],
     },
     // nothing is applied after a verdict, which needs no room
@@ -155,7 +155,7 @@ const STORIES: [Story; 10] = [
         told: &[Told {
             by: 0,
             version: 0,
-            reads: &[(Part::Row(0), 0), (Part::Sides(0), 0)],
+            reads: &[(Part::Row(0), 0), (Part::Sides(0), 0), (Part::Bounds(0), 0)],
         }],
     },
     // x <= 1/3 is no decimal number
@@ -260,6 +260,7 @@ const STORIES: [Story; 10] = [
         }],
     },
     // of each of two proposals that were found elsewhere, on a version that is not below its place, the one before that place is told
+    // of one that was found on a version further below, that version
     Story {
         model: Model {
             second: true,
@@ -277,7 +278,12 @@ const STORIES: [Story; 10] = [
             Step::Commit(1, Some(Outcome::Applied { place: 1 })),
             Step::Commit(1, Some(Outcome::Applied { place: 2 })),
             Step::Find(0, Rule::SingletonRow, 1),
+            Step::Commit(0, Some(Outcome::Stale { place: 2 })),
+            Step::Freeze(0),
+            Step::Find(0, Rule::EmptyColumn, 1),
+            Step::Find(0, Rule::SingletonRow, 1),
             Step::Commit(0, Some(Outcome::Applied { place: 3 })),
+            Step::Commit(0, Some(Outcome::Applied { place: 4 })),
         ],
         told: &[
             Told {
@@ -292,8 +298,13 @@ const STORIES: [Story; 10] = [
             },
             Told {
                 by: 0,
-                version: 0,
-                reads: &[(Part::Row(0), 0), (Part::Sides(0), 0)],
+                version: 2,
+                reads: &[(Part::Col(1), 0), (Part::Bounds(1), 1)],
+            },
+            Told {
+                by: 0,
+                version: 2,
+                reads: &[(Part::Row(0), 0), (Part::Sides(0), 0), (Part::Bounds(0), 1)],
             },
         ],
     },
@@ -428,6 +439,19 @@ fn two_workers(rt: HostRuntime) -> Result<(), Fail> {
     Ok(())
 }
 
+/// Applies an instance that is enabled.
+fn apply(
+    rt: &impl Abort,
+    alloc: Global,
+    book: &mut Book,
+    by: u32,
+    instance: Instance,
+    changed: &mut Vec<Part>,
+) -> Outcome {
+    assert!(rt; is_enabled(book.problem(), instance));
+    book.apply(alloc, by, instance, changed)
+}
+
 #[test]
 fn applied_at_once(rt: HostRuntime) -> Result<(), Fail> {
     let alloc = rt.alloc();
@@ -435,15 +459,13 @@ fn applied_at_once(rt: HostRuntime) -> Result<(), Fail> {
     let mut book = Book::open(alloc, plain, Numbers::Fractions, 1)?;
     let mut changed = Vec::new(alloc);
     let row = Instance::Reduction(Reduction::SingletonRow { row: 0 });
-    assert!(rt; is_enabled(book.problem(), row));
-    let outcome = book.apply(alloc, 0, row, &mut changed);
+    let outcome = apply(&rt, alloc, &mut book, 0, row, &mut changed);
     assert_eq!(rt; outcome, Outcome::Applied { place: 1 });
     for part in [Part::Row(0), Part::Sides(0), Part::Col(0), Part::Bounds(0)] {
         assert!(rt; changed.contains(&part));
     }
     let column = Instance::Reduction(Reduction::EmptyColumn { column: 0 });
-    assert!(rt; is_enabled(book.problem(), column));
-    let outcome = book.apply(alloc, 1, column, &mut changed);
+    let outcome = apply(&rt, alloc, &mut book, 1, column, &mut changed);
     assert_eq!(rt; outcome, Outcome::Full);
     Ok(())
 }

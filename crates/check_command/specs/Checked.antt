@@ -13,7 +13,7 @@ use Rattle.lp_check.specs.Deciding.{Decides}
 use Rattle.lp_check.specs.DecidingPairs.{DecidesPair}
 use Rattle.lp_check.specs.declared.verdicts.Verdict.{Verdict}
 use Rattle.lp_check.specs.declared.pair_verdicts.PairVerdict.{PairVerdict}
-use Rattle.endings.specs.Continuity.{NamesFirstWhole}
+use Rattle.endings.specs.Continuity.{NamesFirstNotContinuous}
 use Rattle.endings.specs.declared.forms.Form.{Form}
 use Rattle.endings.specs.Forms.{fractions_form}
 use Rattle.endings.specs.Ending.{When, no_memory_line, read_fault_line}
@@ -57,7 +57,7 @@ pub record IsProvedBest (program : ProgramData) (point duals : List Number) (pri
   pub cost : printed ≡ yes_text (cost_at (meaning program) (vector_of point))
   pub best : (other : Vector) → Feasible (meaning program) other → NoWorse program.sense (cost_at (meaning program) (vector_of point)) (cost_at (meaning program) other)
 
--- SOL has duals, no column of IN has to be whole, and this status and this line are those of the verdict on the point with the duals;
+-- SOL has duals, no column of IN has to be whole or is semi-continuous, and this status and this line are those of the verdict on the point with the duals;
 -- where it is yes, it is a proof
 pub record IsPairJudged (program : ProgramData) (solution : Told) (status : ℕ) (printed : List ℕ) : Type 0 where
   pub point : List Number
@@ -74,12 +74,12 @@ pub record IsPairJudged (program : ProgramData) (solution : Told) (status : ℕ)
 abbrev pub IsJudged : ProgramData → Told → ℕ → List ℕ → Type 0
 IsJudged program solution status printed = IsPointJudged program solution status printed ⊎ IsPairJudged program solution status printed
 
--- SOL has duals, and this line names the first column of IN that has to be whole
+-- SOL has duals, and this line names the first column of IN that has to be whole or is semi-continuous
 pub record IsNotContinuous (program : ProgramData) (solution : Told) (printed : List ℕ) : Type 0 where
   pub point : List Number
   pub duals : List Number
   pub given : Reads SOLUTION_LIMIT solution (λ text. IsPairOf program text point (Some duals))
-  pub names : NamesFirstWhole program printed
+  pub names : NamesFirstNotContinuous program printed
 
 -- what an ending says of a program and the solution by this name
 abbrev pub SaysSolution : ProgramData → List ℕ → Moment → Moment → Ending → Type 0
@@ -98,7 +98,7 @@ IsProgramIn names before program = Reads INPUT_LIMIT (before.told names.input) (
 abbrev pub IsChecked : CheckNames → ℕ → List ℕ → Moment → Type 0
 IsChecked names status printed before = (program : ProgramData) × IsProgramIn names before program × IsJudged program (before.told names.solution) status printed
 
--- this is said of IN's text, or IN has no fault and a column that has to be whole, and SOL has duals
+-- this is said of IN's text, or IN has no fault and a column that has to be whole or is semi-continuous, and SOL has duals
 abbrev pub RefusesProgram : CheckNames → List ℕ → Moment → Moment → Type 0
 RefusesProgram names said before now = SaysFaultOf INPUT_LIMIT (check_form names) names.input said before now
     ⊎ ((program : ProgramData) × IsProgramIn names before program × IsNotContinuous program (before.told names.solution) said)

@@ -17,7 +17,7 @@ use crate::verdict_text::verdict_ending;
 use endings::{
     Ending, Form, ProgramError, fault_line, not_continuous_text, read_program, solution_fault_line,
 };
-use lp_check::{check_pair, check_point, first_whole_column};
+use lp_check::{check_pair, check_point, first_not_continuous};
 use lp_model::{Duals, Pair, Point, Program};
 use point_text::{SolError, read_pair};
 use std::alloc::{AllocError, Global};
@@ -35,7 +35,7 @@ fn judge_point(alloc: Global, program: &Program, point: &Point) -> Result<Ending
     }
 }
 
-/// What is said of a point with duals, where no column has to be whole.
+/// What is said of a point with duals, where no column has to be whole or is semi-continuous.
 fn judge_continuous(
     alloc: Global,
     program: &Program,
@@ -56,7 +56,7 @@ fn judge_continuous(
     }
 }
 
-/// What is said of a point with duals. Where a column has to be whole, that is all that is said.
+/// What is said of a point with duals. Where a column has to be whole or is semi-continuous, that is all that is said.
 fn judge_pair(
     alloc: Global,
     program: &Program,
@@ -70,7 +70,7 @@ fn judge_pair(
     ensures { (name : List ℕ) → (before now : Moment) → Reads SOLUTION_LIMIT (before.told name) (λ text. IsPairOf program.now text point.now (Some duals.now))
         → IfOk result (λ ending. SaysSolution program.now name before now ending) }
 {
-    match first_whole_column(program) {
+    match first_not_continuous(program) {
         Some(column) => Ok(Ending::Refused(not_continuous_text(alloc, program, column)?)),
         None => judge_continuous(alloc, program, point, duals),
     }

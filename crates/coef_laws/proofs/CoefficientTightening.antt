@@ -52,6 +52,7 @@ use Rattle.activity_laws.proofs.Rows.{said}
 use Rattle.activity_laws.proofs.BoundTightening.{found}
 use Rattle.coef_laws.specs.declared.tightening.Tightening.{Tightening}
 use Rattle.coef_laws.specs.CoefficientTightening.{Shrinks, best_bound, edits, edits_by, enabled, extreme_of, given, if_finite, if_short, is_coefficient_tightening, left_at, new_coefficient, new_limit, next_best, one_side, record_of, side_set, slack, step, tightened_at, tightened_by, tightened_in, tightening, tightening_of, turned, whole_bounds}
+use Rattle.problem_model.specs.Showing.{reach_low, reach_high}
 
 -- ---- what comes of a value
 record IsGiven (A B : Type 0) (o : Option A) (f : A → Option B) (b : B) : Type 0 where
@@ -176,7 +177,7 @@ record Tells (j : ℕ) (l u : Option Number) (ss : List Span) (t : Tightening) :
   span : Span
   entry : entry_at j ss ≡ Some span
   bounds : Number × Number
-  are : AreBounds span.lower span.upper span.whole bounds
+  are : AreBounds span.lower span.upper (not span.semi && span.whole) bounds
   greatest : Number
   known : rest (extreme_of side) j ss ≡ Ok (Some greatest)
   gap : Number
@@ -190,7 +191,7 @@ tells j l u ss t e =
     let b : Number = a.value.1 in
     let c = is_given Span Tightening (entry_at j ss) (λ s. tightened_at f b s (rest (extreme_of f) j ss)) t a.after in
     let s : Span = c.value in
-    let k = is_given (Number × Number) Tightening (whole_bounds s.lower s.upper s.whole) (λ bounds. given (if_finite (rest (extreme_of f) j ss)) (λ h. tightened_by f (turned f s.value) (turned f b) (turned f h) bounds.0 bounds.1)) t c.after in
+    let k = is_given (Number × Number) Tightening (whole_bounds s.lower s.upper (not s.semi && s.whole)) (λ bounds. given (if_finite (rest (extreme_of f) j ss)) (λ h. tightened_by f (turned f s.value) (turned f b) (turned f h) bounds.0 bounds.1)) t c.after in
     let m = is_given Number Tightening (if_finite (rest (extreme_of f) j ss)) (λ h. tightened_by f (turned f s.value) (turned f b) (turned f h) k.value.0 k.value.1) t k.after in
     let n = is_given Number Tightening (if_made (slack (turned f s.value) (turned f b) (turned f m.value) k.value.0 k.value.1)) (λ d. if_short (told f s.value b k.value.0 k.value.1 m.value d)) t m.after in
     record {
@@ -200,7 +201,7 @@ tells j l u ss t e =
       span = s;
       entry = c.there;
       bounds = k.value;
-      are = are_bounds s.lower s.upper s.whole k.value k.there;
+      are = are_bounds s.lower s.upper (not s.semi && s.whole) k.value k.there;
       greatest = m.value;
       known = finite_is (rest (extreme_of f) j ss) m.value m.there;
       gap = n.value;
@@ -299,9 +300,9 @@ module _ (p : Sparse) (i j : ℕ) (s : IsSparse p) (live : (row_at p i).live ≡
     lower_side = end_live (row_at p i).live (sides_at p i).lower live ∙ x.sides.lower;
     upper_side = end_live (row_at p i).live (sides_at p i).upper live ∙ x.sides.upper;
     rest = rest_known p i j x.side x.greatest s live x.known;
-    whole = ap₂ (λ (c d : Bool). c && d) column_on (sym (ap (λ (y : Span). y.whole) span_is) ∙ x.are.whole);
-    lower = end_live (column_at p j).live (bounds_at p j).lower column_on ∙ sym (ap (λ (y : Span). y.lower) span_is) ∙ x.are.lower;
-    upper = end_live (column_at p j).live (bounds_at p j).upper column_on ∙ sym (ap (λ (y : Span). y.upper) span_is) ∙ x.are.upper;
+    whole = ap₂ (λ (c d : Bool). c && d) column_on (sym (ap (λ (y : Span). y.whole) span_is) ∙ (and_parts (not x.span.semi) x.span.whole x.are.whole).1);
+    lower = end_live (column_at p j).live (reach_low (bounds_at p j)) column_on ∙ sym (ap (λ (y : Span). y.lower) span_is) ∙ x.are.lower;
+    upper = end_live (column_at p j).live (reach_high (bounds_at p j)) column_on ∙ sym (ap (λ (y : Span). y.upper) span_is) ∙ x.are.upper;
     whole_lower = x.are.whole_lower;
     whole_upper = x.are.whole_upper;
     positive = subst (λ d. zero_ℚ <ℚ d) (sym gap_at) x.short.positive;

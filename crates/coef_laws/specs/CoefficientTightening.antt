@@ -1,6 +1,6 @@
 -- K9: the coefficient of a whole column shrinks in a row with one finite side, and the side with it. f is 1 where that side is the upper
 -- one, and -1 where it is the lower one: times f the row has an upper side.
-use Rattle.std.specs.Prelude.{◌≡◌, ◌≢◌, ℕ, ⊤, Bool, true, ◌&&◌, if◌then◌else◌, List, [], ◌∷◌, Option, Some, None, is_some, Result, Ok, Err}
+use Rattle.std.specs.Prelude.{◌≡◌, ◌≢◌, ℕ, ⊤, Bool, true, not, ◌&&◌, if◌then◌else◌, List, [], ◌∷◌, Option, Some, None, is_some, Result, Ok, Err}
 use Rattle.rational.specs.Number.{Number, zero_ℚ, one_ℚ, neg_ℚ, ◌+ℚ◌, ◌*ℚ◌}
 use Rattle.rational.specs.Order.{◌<ℚ◌}
 use Rattle.rational.specs.Compare.{lt_ℚ}
@@ -85,7 +85,7 @@ tightened_by f a b h l u = given (if_made (slack a b h l u)) (λ d. if_short (re
 -- at an entry of a row whose side f is b, by the rest without its column
 abbrev pub tightened_at : Side → Number → Span → Result (Option Number) Past → Option Tightening
 tightened_at f b s r =
-    given (whole_bounds s.lower s.upper s.whole) (λ bounds.
+    given (whole_bounds s.lower s.upper (not s.semi && s.whole)) (λ bounds.
     given (if_finite r) (λ h. tightened_by f (turned f s.value) (turned f b) (turned f h) bounds.0 bounds.1))
 
 -- in column j of a row whose side f is b

@@ -1,5 +1,5 @@
 -- Columns of a row at which its coefficient is tightened.
-use Rattle.std.proofs.Common.{◌≡◌, ◌≢◌, ℕ, zero, suc, ◌<◌, ◌≤◌, nat_eq, arith, Bool, true, false, true≢false, ◌&&◌, ◌||◌, Result, cond, List, [], ◌∷◌, ◌++◌, length, map, append-nil, Option, Some, None, is_some, refl, sym, ap, ◌∙◌}
+use Rattle.std.proofs.Common.{◌≡◌, ◌≢◌, ℕ, zero, suc, ◌<◌, ◌≤◌, nat_eq, arith, Bool, true, false, true≢false, not, ◌&&◌, ◌||◌, Result, cond, List, [], ◌∷◌, ◌++◌, length, map, append-nil, Option, Some, None, is_some, refl, sym, ap, ◌∙◌}
 use Rattle.std.specs.Prelude.{if◌then◌else◌}
 use Rattle.std.specs.List.{filter}
 use Rattle.std.proofs.lemmas.Bool.{eq-eqb, ne_eqb}
@@ -62,19 +62,19 @@ both_parts false b e = (refl, e)
 
 -- where no column is whole no coefficient is tightened
 module _ (p : Sparse) (f : Side) (b : Number) (j : ℕ) (r : Result (Option Number) Past) where
-  not_here : (s : Span) → s.whole ≡ false → tightened_at f b s r ≡ None
-  not_here s e = ap (λ (o : Option (Number × Number)). given o (λ bounds. given (if_finite r) (λ h. tightened_by f (turned f s.value) (turned f b) (turned f h) bounds.0 bounds.1))) (no_bounds s.lower s.upper s.whole e)
+  not_here : (s : Span) → (not s.semi && s.whole) ≡ false → tightened_at f b s r ≡ None
+  not_here s e = ap (λ (o : Option (Number × Number)). given o (λ bounds. given (if_finite r) (λ h. tightened_by f (turned f s.value) (turned f b) (turned f h) bounds.0 bounds.1))) (no_bounds s.lower s.upper (not s.semi && s.whole) e)
 
   none_tightened : (ts : List Term) → any_whole p ts ≡ false → given (entry_at j (map (span_of p) (live_only p.matrix.columns ts))) (λ s. tightened_at f b s r) ≡ None
   none_tightened [] e = refl
   none_tightened (t ∷ ts) e = by (column_at p t.id).live (both_parts (is_whole_column p t.id) (any_whole p ts) e).0 (none_tightened ts (both_parts (is_whole_column p t.id) (any_whole p ts) e).1)
     where
-      by : (l : Bool) → (l && (bounds_at p t.id).whole) ≡ false → given (entry_at j (map (span_of p) (live_only p.matrix.columns ts))) (λ s. tightened_at f b s r) ≡ None
+      by : (l : Bool) → (l && (not (bounds_at p t.id).semi && (bounds_at p t.id).whole)) ≡ false → given (entry_at j (map (span_of p) (live_only p.matrix.columns ts))) (λ s. tightened_at f b s r) ≡ None
           → given (entry_at j (map (span_of p) (cond l (t ∷ live_only p.matrix.columns ts) (live_only p.matrix.columns ts)))) (λ s. tightened_at f b s r) ≡ None
       by false w ih = ih
       by true w ih = here (nat_eq t.id j) w ih
         where
-          here : (c : Bool) → (bounds_at p t.id).whole ≡ false → given (entry_at j (map (span_of p) (live_only p.matrix.columns ts))) (λ s. tightened_at f b s r) ≡ None
+          here : (c : Bool) → (not (bounds_at p t.id).semi && (bounds_at p t.id).whole) ≡ false → given (entry_at j (map (span_of p) (live_only p.matrix.columns ts))) (λ s. tightened_at f b s r) ≡ None
               → given (if c then Some (span_of p t) else entry_at j (map (span_of p) (live_only p.matrix.columns ts))) (λ s. tightened_at f b s r) ≡ None
           here true w ih = not_here (span_of p t) w
           here false w ih = ih

@@ -34,9 +34,10 @@ fn span_of(problem: &Problem, term: &Term) -> Span
     Span {
         id: term.id,
         value: term.value,
-        lower: bounds.lower,
-        upper: bounds.upper,
+        lower: bounds.reach_lower(),
+        upper: bounds.reach_upper(),
         whole: bounds.whole,
+        semi: bounds.semi,
     }
 }
 

@@ -63,11 +63,15 @@ fn add_columns(
     Ok(())
 }
 
-/// Whether a column is live and whole.
+/// Whether a column is live and whole, and not semi-continuous.
 fn is_whole(problem: &Problem, column: u32) -> bool
     ensures { result ≡ is_whole_column problem.now column }
 {
-    problem.is_column_live(column) && problem.bounds(column).whole
+    if !problem.is_column_live(column) {
+        return false;
+    }
+    let bounds = problem.bounds(column);
+    !bounds.semi && bounds.whole
 }
 
 /// Whether one of the columns that terms name is.

@@ -1,6 +1,6 @@
 //! Whether a coefficient is tightened, and by how much.
 
-ghost use Rattle.std.specs.Prelude.{◌≡◌};
+ghost use Rattle.std.specs.Prelude.{◌≡◌, ◌&&◌, not};
 ghost use Rattle.rational.specs.MinMax.{abs_ℚ};
 ghost use Rattle.coef_laws.specs.CoefficientTightening.{best_bound as best_of, extreme_of as extreme_at, if_finite, if_short as short, left_at as left_by, next_best as next_of, one_side as sole_side, slack as slack_by, tightened_at as tightened_with, tightened_by as made_by, turned as times, whole_bounds as bounds_of};
 
@@ -49,9 +49,9 @@ pub fn extreme_of(side: Side) -> Extreme
     }
 }
 
-/// The bounds of a whole column that are finite, whole and apart.
+/// The bounds of a whole column that are finite, whole and apart; none of a semi-continuous one.
 pub fn whole_bounds(span: &Span) -> Option<(Frac, Frac)>
-    ensures { result ≡ bounds_of span.now.lower span.now.upper span.now.whole }
+    ensures { result ≡ bounds_of span.now.lower span.now.upper (not span.now.semi && span.now.whole) }
 {
     let Some(lower) = span.lower.number() else {
         return None;
@@ -59,7 +59,7 @@ pub fn whole_bounds(span: &Span) -> Option<(Frac, Frac)>
     let Some(upper) = span.upper.number() else {
         return None;
     };
-    if span.whole && lower.is_whole() && upper.is_whole() && lower.lt(&upper) {
+    if !span.semi && span.whole && lower.is_whole() && upper.is_whole() && lower.lt(&upper) {
         Some((lower, upper))
     } else {
         None

@@ -1,5 +1,5 @@
 -- K13.
-use Rattle.std.proofs.Common.{◌≡◌, ℕ, Bool, true, false, not, List, [], ◌∷◌, Option, Some, None, unwrap_or, refl, sym, ap, ap₂, ◌∙◌, subst}
+use Rattle.std.proofs.Common.{◌≡◌, ℕ, Bool, true, false, not, ◌&&◌, List, [], ◌∷◌, Option, Some, None, unwrap_or, refl, sym, ap, ap₂, ◌∙◌, subst}
 use Rattle.std.specs.Prelude.{if◌then◌else◌}
 use Rattle.std.proofs.lemmas.Bool.{and_parts}
 use Rattle.rational.specs.Number.{Number, zero_ℚ, ◌-ℚ◌, ◌*ℚ◌}
@@ -50,6 +50,7 @@ use Rattle.activity_laws.proofs.BoundTightening.{found, is_made}
 use Rattle.column_laws.specs.SoleEntry.{entry_of, is_sole_at, others_of, price_of}
 use Rattle.column_laws.specs.FreeColumnSingleton.{cheapest_for, edits, enabled, gain_of, is_free, is_free_column_singleton, is_implied_at, record_of, side_for, value_of}
 use Rattle.column_laws.proofs.SoleEntry.{IsSole, IsSoleEntry, costs_are, costs_moved, entry_is, entry_sound, in_order, named_on, not_whole, others_have, others_sound, out_allowed, owes_with, price_is, singleton, sole, sum_is, with_costs}
+use Rattle.problem_model.specs.Showing.{reach_low, reach_high}
 
 -- ---- what the condition says
 -- o is a number at which the bounds of column j are implied
@@ -67,19 +68,23 @@ implied_told j ss s (Some w) e =
 -- column j is continuous, and its bounds are implied at the cheapest side
 pub record IsFree (p : Sparse) (j i : ℕ) (c : Number) (l u : Option Number) (ss : List Span) : Type 0 where
   pub continuous : (bounds_at p j).whole ≡ false
+  pub solid : (bounds_at p j).semi ≡ false
   pub bounds : IsImplied j ss (span_of p (record { id = j; value = entry_of p j i })) (side_for c (entry_of p j i) l u)
 
 free_told : (p : Sparse) (j i : ℕ) (c : Number) (l u : Option Number) → is_free j c l u (spans_of p i) (entry_at j (spans_of p i)) ≡ true → IsFree p j i c l u (spans_of p i)
 free_told p j i c l u e = by (entry_at j (spans_of p i)) refl e
   where
-    parts : (s : Span) → is_free j c l u (spans_of p i) (Some s) ≡ true → (s.whole ≡ false) × IsImplied j (spans_of p i) s (side_for c s.value l u)
-    parts s h = let b = and_parts (not s.whole) (is_implied_at j (spans_of p i) s (side_for c s.value l u)) h in (not_whole s.whole b.0, implied_told j (spans_of p i) s (side_for c s.value l u) b.1)
+    parts : (s : Span) → is_free j c l u (spans_of p i) (Some s) ≡ true → (s.whole ≡ false) × (s.semi ≡ false) × IsImplied j (spans_of p i) s (side_for c s.value l u)
+    parts s h =
+        let b = and_parts (not s.whole) (not s.semi && is_implied_at j (spans_of p i) s (side_for c s.value l u)) h in
+        let d = and_parts (not s.semi) (is_implied_at j (spans_of p i) s (side_for c s.value l u)) b.1 in
+        (not_whole s.whole b.0, not_whole s.semi d.0, implied_told j (spans_of p i) s (side_for c s.value l u) d.1)
 
     by : (o : Option Span) → entry_at j (spans_of p i) ≡ o → is_free j c l u (spans_of p i) o ≡ true → IsFree p j i c l u (spans_of p i)
     by None f h = absurd (not_true h)
     by (Some s) f h =
         let b = parts (span_of p (record { id = j; value = entry_of p j i })) (subst (λ (x : Span). is_free j c l u (spans_of p i) (Some x) ≡ true) (found p j (row_entries p i) s f).span h) in
-        record { continuous = b.0; bounds = b.1 }
+        record { continuous = b.0; solid = b.1; bounds = b.2 }
 
 -- and it is live, with its one entry in row i
 pub record IsColumnFree (p : Sparse) (on : Bool) (j i : ℕ) (es : List Term) (c : Number) (l u : Option Number) : Type 0 where
@@ -124,7 +129,7 @@ high_from (Some a) (Some b) y h k = subst (HighAbove (Some a)) (sym (k b refl)) 
 
 module _ (p : Sparse) (s : IsSparse p) (j i : ℕ) (f : Said p j i) where
   there : IsSoleEntry p j i
-  there = record { row = f.row_live; column = f.column.live; sole = f.column.sole_there; continuous = f.column.free.continuous }
+  there = record { row = f.row_live; column = f.column.live; sole = f.column.sole_there; continuous = f.column.free.continuous; solid = f.column.free.solid }
 
   abbrev M : LinearProgram
   M = shown p
@@ -185,10 +190,10 @@ module _ (p : Sparse) (s : IsSparse p) (j i : ℕ) (f : Said p j i) where
     sides = subst (λ (e : Option Number). InOrder e (M.upper_side i)) (sym lower_side_is) (subst (λ (e : Option Number). InOrder L e) (sym upper_side_is) f.sides);
     side = ap (λ q. cheapest_side q (M.lower_side i) (M.upper_side i)) (price_is p s j i there) ∙ ap₂ (cheapest_side (price_of p j i)) lower_side_is upper_side_is
         ∙ side_is (price_of p j i) L U w (fits (price_of p j i)) f.column.free.bounds.side;
-    lower = subst (λ (e : Option Number). LowBelow e (implied_lower M j i w)) (sym (end_live (column_at p j).live (bounds_at p j).lower f.column.live))
-        (low_from (bounds_at p j).lower (implied Lower j a (Some w) (Some w) ss) (implied_lower M j i w) (low_below (bounds_at p j).lower (implied Lower j a (Some w) (Some w) ss) f.column.free.bounds.lower) lower_is);
-    upper = subst (λ (e : Option Number). HighAbove e (implied_upper M j i w)) (sym (end_live (column_at p j).live (bounds_at p j).upper f.column.live))
-        (high_from (bounds_at p j).upper (implied Upper j a (Some w) (Some w) ss) (implied_upper M j i w) (high_above (bounds_at p j).upper (implied Upper j a (Some w) (Some w) ss) f.column.free.bounds.upper) upper_is);
+    lower = subst (λ (e : Option Number). LowBelow e (implied_lower M j i w)) (sym (end_live (column_at p j).live (reach_low (bounds_at p j)) f.column.live))
+        (low_from (reach_low (bounds_at p j)) (implied Lower j a (Some w) (Some w) ss) (implied_lower M j i w) (low_below (reach_low (bounds_at p j)) (implied Lower j a (Some w) (Some w) ss) f.column.free.bounds.lower) lower_is);
+    upper = subst (λ (e : Option Number). HighAbove e (implied_upper M j i w)) (sym (end_live (column_at p j).live (reach_high (bounds_at p j)) f.column.live))
+        (high_from (reach_high (bounds_at p j)) (implied Upper j a (Some w) (Some w) ss) (implied_upper M j i w) (high_above (reach_high (bounds_at p j)) (implied Upper j a (Some w) (Some w) ss) f.column.free.bounds.upper) upper_is);
   }
 
   undone_is : free_column_singleton_point M j i w ≡ undone (record_of p j i)

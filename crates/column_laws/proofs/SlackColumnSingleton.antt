@@ -46,6 +46,8 @@ use Rattle.rule_words.proofs.Named.{nothing_twice, one_on, two_sided}
 use Rattle.column_laws.specs.SoleEntry.{entry_of, is_sole_at, others_of, price_of}
 use Rattle.column_laws.specs.SlackColumnSingleton.{column_out, edits, enabled, fate_of, gain_of, is_equation_or_free, is_slack_column_singleton, least_at, new_lower, new_upper, record_by, record_of}
 use Rattle.column_laws.proofs.SoleEntry.{IsSole, IsSoleEntry, column_on, costs_are, costs_moved, entry_is, entry_sound, in_order, named_on, not_whole, others_have, others_sound, out_allowed, owes_with, price_is, row_on, singleton, sole, sum_is, with_costs}
+use Rattle.problem_model.specs.Parts.{bounds_held}
+use Rattle.rule_words.proofs.Solid.{low_shown, high_shown}
 
 -- ---- what the condition says
 equation_or_free : (l u : Option Number) (c : Number) → is_equation_or_free l u c ≡ true → IsEquation l u ⊎ (c ≡ zero_ℚ)
@@ -56,19 +58,21 @@ equation_or_free l u c e = by (is_fixed l u false) refl e
     by false f g = inr ((eq_ℚ-is c zero_ℚ).0 g)
 
 -- a live row and a live column, continuous, with its one entry in the row; nothing is crossed
-pub record Said (row column : Bool) (i : ℕ) (es : List Term) (c : Number) (l u m n : Option Number) (w : Bool) : Type 0 where
+pub record Said (row column semi : Bool) (i : ℕ) (es : List Term) (c : Number) (l u m n : Option Number) (w : Bool) : Type 0 where
   pub row_live : row ≡ true
   pub column_live : column ≡ true
+  pub solid : semi ≡ false
   pub sides : InOrder l u
   pub bounds : InOrder m n
   pub continuous : w ≡ false
   pub sole_there : IsSole i es
   pub either : IsEquation l u ⊎ (c ≡ zero_ℚ)
 
-says : (row column : Bool) (i : ℕ) (ts es : List Term) (c : Number) (l u m n : Option Number) (w : Bool)
-    → is_slack_column_singleton i (if row then holding.Entries ts else holding.Gone) (if row then holding.Sides l u else holding.Gone) (if column then holding.Column es c else holding.Gone) (if column then holding.Bounds m n w else holding.Gone) ≡ true
-    → Said row column i es c l u m n w
-says true true i ts es c l u m n w e =
+says : (row column semi : Bool) (i : ℕ) (ts es : List Term) (c : Number) (l u m n : Option Number) (w : Bool)
+    → is_slack_column_singleton i (if row then holding.Entries ts else holding.Gone) (if row then holding.Sides l u else holding.Gone) (if column then holding.Column es c else holding.Gone) (if column then bounds_held semi m n w else holding.Gone) ≡ true
+    → Said row column semi i es c l u m n w
+says true true true i ts es c l u m n w e = absurd (not_true e)
+says true true false i ts es c l u m n w e =
     let e1 = and_parts (is_in_order l u) (is_in_order m n && (not w && (is_sole_at i es && is_equation_or_free l u c))) e in
     let e2 = and_parts (is_in_order m n) (not w && (is_sole_at i es && is_equation_or_free l u c)) e1.1 in
     let e3 = and_parts (not w) (is_sole_at i es && is_equation_or_free l u c) e2.1 in
@@ -76,20 +80,21 @@ says true true i ts es c l u m n w e =
     record {
       row_live = refl;
       column_live = refl;
+      solid = refl;
       sides = in_order l u e1.0;
       bounds = in_order m n e2.0;
       continuous = not_whole w e3.0;
       sole_there = sole i es e4.0;
       either = equation_or_free l u c e4.1;
     }
-says true false i ts es c l u m n w e = absurd (not_true e)
-says false column i ts es c l u m n w e = absurd (not_true e)
+says true false semi i ts es c l u m n w e = absurd (not_true e)
+says false column semi i ts es c l u m n w e = absurd (not_true e)
 
 abbrev pub SaidAt : Sparse → ℕ → ℕ → Type 0
-SaidAt p j i = Said (row_at p i).live (column_at p j).live i (column_entries p j) (cost_at p j) (sides_at p i).lower (sides_at p i).upper (bounds_at p j).lower (bounds_at p j).upper (bounds_at p j).whole
+SaidAt p j i = Said (row_at p i).live (column_at p j).live (bounds_at p j).semi i (column_entries p j) (cost_at p j) (sides_at p i).lower (sides_at p i).upper (bounds_at p j).lower (bounds_at p j).upper (bounds_at p j).whole
 
 pub said : (p : Sparse) (j i : ℕ) → enabled p j i ≡ true → SaidAt p j i
-said p j i = says (row_at p i).live (column_at p j).live i (row_entries p i) (column_entries p j) (cost_at p j) (sides_at p i).lower (sides_at p i).upper (bounds_at p j).lower (bounds_at p j).upper (bounds_at p j).whole
+said p j i = says (row_at p i).live (column_at p j).live (bounds_at p j).semi i (row_entries p i) (column_entries p j) (cost_at p j) (sides_at p i).lower (sides_at p i).upper (bounds_at p j).lower (bounds_at p j).upper (bounds_at p j).whole
 
 -- ---- the greatest and the least of an entry times its column
 least_there : (a : Number) (l u : Option Number) → a ≢ zero_ℚ → least_term a l u ≡ scaled a (least_at a l u)
@@ -117,7 +122,7 @@ put_twice f i a b u k = at k (cases_eq k i) u
 
 module _ (p : Sparse) (s : IsSparse p) (j i : ℕ) (f : SaidAt p j i) where
   there : IsSoleEntry p j i
-  there = record { row = f.row_live; column = f.column_live; sole = f.sole_there; continuous = f.continuous }
+  there = record { row = f.row_live; column = f.column_live; sole = f.sole_there; continuous = f.continuous; solid = f.solid }
 
   abbrev M : LinearProgram
   M = shown p
@@ -150,10 +155,10 @@ module _ (p : Sparse) (s : IsSparse p) (j i : ℕ) (f : SaidAt p j i) where
   upper_side_is = end_live (row_at p i).live U f.row_live
 
   lower_bound_is : M.lower_bound j ≡ l
-  lower_bound_is = end_live (column_at p j).live l f.column_live
+  lower_bound_is = low_shown p j f.column_live f.solid
 
   upper_bound_is : M.upper_bound j ≡ u
-  upper_bound_is = end_live (column_at p j).live u f.column_live
+  upper_bound_is = high_shown p j f.column_live f.solid
 
   cost_is : M.costs j ≡ cost_at p j
   cost_is = ap (λ (on : Bool). if on then cost_at p j else zero_ℚ) f.column_live

@@ -53,6 +53,7 @@ use Rattle.edit_laws.proofs.Lists.{allowed_more, entries_first_none}
 use Rattle.edit_laws.proofs.Reducing.{by_edits, pairs_by_edits}
 use Rattle.edit_laws.proofs.Sweeps.{added_more, programs_more}
 use Rattle.column_laws.specs.SoleEntry.{cost_less, costs_less, entry_of, is_sole_at, others_of, price_of}
+use Rattle.rule_words.proofs.Solid.{gap_solid}
 
 -- ---- what conditions say
 pub in_order : (l u : Option Number) → is_in_order l u ≡ true → InOrder l u
@@ -142,6 +143,7 @@ pub record IsSoleEntry (p : Sparse) (j i : ℕ) : Type 0 where
   pub column : (column_at p j).live ≡ true
   pub sole : IsSole i (column_entries p j)
   pub continuous : (bounds_at p j).whole ≡ false
+  pub solid : (bounds_at p j).semi ≡ false
 
 module _ (p : Sparse) (s : IsSparse p) (j i : ℕ) (f : IsSoleEntry p j i) where
   abbrev M : LinearProgram
@@ -181,6 +183,7 @@ module _ (p : Sparse) (s : IsSparse p) (j i : ℕ) (f : IsSoleEntry p j i) where
     entry = λ z. entry_some (sym entry_is ∙ z);
     only = λ m l d. only m d;
     continuous = ap₂ (λ (a b : Bool). a && b) f.column f.continuous;
+    solid = gap_solid (column_at p j).live (bounds_at p j) f.solid;
   }
 
   -- the other entries of the row

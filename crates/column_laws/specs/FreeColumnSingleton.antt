@@ -46,7 +46,7 @@ is_implied_at j ss s (Some v) = is_implied j ss s v
 -- the column is continuous, and its bounds are implied at the cheapest side
 abbrev pub is_free : ℕ → Number → Option Number → Option Number → List Span → Option Span → Bool
 is_free j c l u ss None = false
-is_free j c l u ss (Some s) = not s.whole && is_implied_at j ss s (side_for c s.value l u)
+is_free j c l u ss (Some s) = not s.whole && (not s.semi && is_implied_at j ss s (side_for c s.value l u))
 
 -- and its one entry is in row i
 abbrev pub is_free_column_singleton : ℕ → ℕ → Contents → RowTest

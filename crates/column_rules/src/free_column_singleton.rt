@@ -156,11 +156,11 @@ fn is_implied(problem: &Problem, column: u32, row: u32, value: &Frac) -> bool
 {
     let bounds = problem.bounds(column);
     let entry = value_at(problem, column, row);
-    implies_lower(problem, column, row, &entry, value, &bounds.lower)
-        && implies_upper(problem, column, row, &entry, value, &bounds.upper)
+    implies_lower(problem, column, row, &entry, value, &bounds.reach_lower())
+        && implies_upper(problem, column, row, &entry, value, &bounds.reach_upper())
 }
 
-/// Whether a column is continuous, and its bounds are implied at the cheapest side.
+/// Whether a column is continuous and not semi-continuous, and its bounds are implied at the cheapest side.
 #[tactic(auto, using(crate::proofs::FreeColumnSingletons::entry_there))]
 fn is_free(problem: &Problem, column: u32, row: u32) -> bool
     requires row { (row_at problem.now row).live ≡ true }
@@ -169,7 +169,8 @@ fn is_free(problem: &Problem, column: u32, row: u32) -> bool
     ensures { result ≡ is_free_by column (cost_at problem.now column) (sides_at problem.now row).lower (sides_at problem.now row).upper (spans_of problem.now row) (entry_at column (spans_of problem.now row)) }
 {
     problem.is_sparse();
-    if problem.bounds(column).whole {
+    let bounds = problem.bounds(column);
+    if bounds.whole || bounds.semi {
         return false;
     }
     match side_of(problem, column, row).number() {

@@ -31,7 +31,8 @@ pub fn is_enabled(problem: &Problem, column: u32, row: u32) -> bool
     }
     let sides = problem.sides(row);
     let bounds = problem.bounds(column);
-    in_order(&sides.lower, &sides.upper)
+    !bounds.semi
+        && in_order(&sides.lower, &sides.upper)
         && in_order(&bounds.lower, &bounds.upper)
         && !bounds.whole
         && is_sole_at(problem, column, row)

@@ -25,7 +25,7 @@ use Rattle.problem_model.specs.declared.part.Part.{Part}
 use Rattle.problem_model.specs.declared.part.Part.TheVariants as part
 use Rattle.problem_model.specs.declared.line.Line.{Line}
 use Rattle.problem_model.specs.Matrices.{line_at}
-use Rattle.problem_model.specs.Parts.{contents_of}
+use Rattle.problem_model.specs.Parts.{contents_of, bounds_held}
 use Rattle.problem_model.specs.Problems.{row_at, column_at, sides_at, bounds_at, cost_at, row_entries, column_entries, IsSparse}
 use Rattle.problem_model.specs.Showing.{coefficient_of, end_if, shown}
 use Rattle.problem_model.specs.Sparse.{Sparse}
@@ -40,12 +40,15 @@ use Rattle.edit_laws.proofs.Reducing.{by_edits, pairs_by_edits}
 use Rattle.dual_laws.specs.DominatedColumn.{all_take_over, enabled, edits, is_dominated_column, record_of, rows_of_both, share, takes_over}
 use Rattle.dual_laws.specs.Locks.{are_uncrossed}
 use Rattle.dual_laws.proofs.Locks.{column_has, cost_live, none_is}
+use Rattle.rule_words.proofs.Solid.{gap_solid, low_shown, high_shown}
 
 -- what the condition says: a live row and two live columns, j without an upper bound and no dearer than k, which has v as its lower bound
-pub record Said (row first second : Bool) (j k : ℕ) (rs ts us : List Term) (c d : Number) (u : Option Number) (w : Bool) (m n : Option Number) (x : Bool) (sides : List Contents) (v : Number) : Type 0 where
+pub record Said (row first second semi other : Bool) (j k : ℕ) (rs ts us : List Term) (c d : Number) (u : Option Number) (w : Bool) (m n : Option Number) (x : Bool) (sides : List Contents) (v : Number) : Type 0 where
   pub row_live : row ≡ true
   pub first_live : first ≡ true
   pub second_live : second ≡ true
+  pub first_solid : semi ≡ false
+  pub second_solid : other ≡ false
   pub differ : j ≢ k
   pub first_in : has j rs ≡ true
   pub second_in : has k rs ≡ true
@@ -68,7 +71,7 @@ module _ (j k : ℕ) (row ts us : List Term) (c d : Number) (l u m n : Option Nu
   over = all_take_over (dense ts) (dense us) (rows_of_both ts us) sides
 
   parts_said : is_dominated_column (holding.Entries row) (holding.Column ts c) (holding.Column us d) (holding.Bounds l u w) (holding.Bounds m n x) sides j k ≡ true
-      → Said true true true j k row ts us c d u w m n x sides (unwrap_or m zero_ℚ)
+      → Said true true true false false j k row ts us c d u w m n x sides (unwrap_or m zero_ℚ)
   parts_said e =
       let e1 = and_parts (not (nat_eq j k)) (share row j k && (is_none u && (is_apart m n && (is_place m x && (le_ℚ c d && ((not w || x) && (are_uncrossed sides && over))))))) e in
       let both = and_parts (has j row) (has k row) (and_parts (nat_le (length row) 64) (has j row && has k row) (and_parts (share row j k) (is_none u && (is_apart m n && (is_place m x && (le_ℚ c d && ((not w || x) && (are_uncrossed sides && over)))))) e1.1).0).1 in
@@ -83,6 +86,8 @@ module _ (j k : ℕ) (row ts us : List Term) (c d : Number) (l u m n : Option Nu
         row_live = refl;
         first_live = refl;
         second_live = refl;
+        first_solid = refl;
+        second_solid = refl;
         differ = differ_of j k e1.0;
         first_in = both.0;
         second_in = both.1;
@@ -94,25 +99,28 @@ module _ (j k : ℕ) (row ts us : List Term) (c d : Number) (l u m n : Option Nu
         rows = e8.1;
       }
 
-says : (f : Part → Contents) (j k : ℕ) (row ts us : List Term) (c d : Number) (l u m n : Option Number) (w x : Bool) (r a b : Bool)
-    → is_dominated_column (if r then holding.Entries row else holding.Gone) (if a then holding.Column ts c else holding.Gone) (if b then holding.Column us d else holding.Gone) (if a then holding.Bounds l u w else holding.Gone) (if b then holding.Bounds m n x else holding.Gone)
+says : (f : Part → Contents) (j k : ℕ) (row ts us : List Term) (c d : Number) (l u m n : Option Number) (w x : Bool) (r a b s t : Bool)
+    → is_dominated_column (if r then holding.Entries row else holding.Gone) (if a then holding.Column ts c else holding.Gone) (if b then holding.Column us d else holding.Gone) (if a then bounds_held s l u w else holding.Gone) (if b then bounds_held t m n x else holding.Gone)
     (map f (map part.Sides (rows_of_both (terms_in (if a then holding.Column ts c else holding.Gone)) (terms_in (if b then holding.Column us d else holding.Gone))))) j k ≡ true
-    → Said r a b j k row ts us c d u w m n x (map f (map part.Sides (rows_of_both ts us))) (unwrap_or m zero_ℚ)
-says f j k row ts us c d l u m n w x true true true e = parts_said j k row ts us c d l u m n w x (map f (map part.Sides (rows_of_both ts us))) e
-says f j k row ts us c d l u m n w x true true false e = absurd (not_true e)
-says f j k row ts us c d l u m n w x true false b e = absurd (not_true e)
-says f j k row ts us c d l u m n w x false a b e = absurd (not_true e)
+    → Said r a b s t j k row ts us c d u w m n x (map f (map part.Sides (rows_of_both ts us))) (unwrap_or m zero_ℚ)
+says f j k row ts us c d l u m n w x true true true true t e = absurd (not_true e)
+says f j k row ts us c d l u m n w x true true true false true e = absurd (not_true e)
+says f j k row ts us c d l u m n w x true true true false false e = parts_said j k row ts us c d l u m n w x (map f (map part.Sides (rows_of_both ts us))) e
+says f j k row ts us c d l u m n w x true true false true t e = absurd (not_true e)
+says f j k row ts us c d l u m n w x true true false false t e = absurd (not_true e)
+says f j k row ts us c d l u m n w x true false b s t e = absurd (not_true e)
+says f j k row ts us c d l u m n w x false a b s t e = absurd (not_true e)
 
 abbrev sides_of_both : Sparse → ℕ → ℕ → List Contents
 sides_of_both p j k = map (contents_of p) (map part.Sides (rows_of_both (column_entries p j) (column_entries p k)))
 
 abbrev pub SaidAt : Sparse → ℕ → ℕ → ℕ → Type 0
-SaidAt p i j k = Said (row_at p i).live (column_at p j).live (column_at p k).live j k (row_entries p i) (column_entries p j) (column_entries p k) (cost_at p j) (cost_at p k) (bounds_at p j).upper (bounds_at p j).whole
+SaidAt p i j k = Said (row_at p i).live (column_at p j).live (column_at p k).live (bounds_at p j).semi (bounds_at p k).semi j k (row_entries p i) (column_entries p j) (column_entries p k) (cost_at p j) (cost_at p k) (bounds_at p j).upper (bounds_at p j).whole
     (bounds_at p k).lower (bounds_at p k).upper (bounds_at p k).whole (sides_of_both p j k) (unwrap_or (bounds_at p k).lower zero_ℚ)
 
 pub said : (p : Sparse) (i j k : ℕ) → enabled p i j k ≡ true → SaidAt p i j k
 said p i j k = says (contents_of p) j k (row_entries p i) (column_entries p j) (column_entries p k) (cost_at p j) (cost_at p k) (bounds_at p j).lower (bounds_at p j).upper (bounds_at p k).lower (bounds_at p k).upper
-    (bounds_at p j).whole (bounds_at p k).whole (row_at p i).live (column_at p j).live (column_at p k).live
+    (bounds_at p j).whole (bounds_at p k).whole (row_at p i).live (column_at p j).live (column_at p k).live (bounds_at p j).semi (bounds_at p k).semi
 
 -- ---- one row
 module _ (a b : Number) (l u : Option Number) where
@@ -220,9 +228,11 @@ module _ (p : Sparse) (s : IsSparse p) (i j k : ℕ) (r : SaidAt p i j k) where
     first = column_inside p j r.first_live;
     second = column_inside p k r.second_live;
     differ = r.differ;
-    endless = end_live (column_at p j).live (bounds_at p j).upper r.first_live ∙ r.endless;
-    lower = end_live (column_at p k).live (bounds_at p k).lower r.second_live ∙ r.place.value;
-    apart = λ u e. apart_ends (bounds_at p k).lower (bounds_at p k).upper r.apart v u r.place.value (sym (end_live (column_at p k).live (bounds_at p k).upper r.second_live) ∙ e);
+    endless = high_shown p j r.first_live r.first_solid ∙ r.endless;
+    lower = low_shown p k r.second_live r.second_solid ∙ r.place.value;
+    first_solid = gap_solid (column_at p j).live (bounds_at p j) r.first_solid;
+    second_solid = gap_solid (column_at p k).live (bounds_at p k) r.second_solid;
+    apart = λ u e. apart_ends (bounds_at p k).lower (bounds_at p k).upper r.apart v u r.place.value (sym (high_shown p k r.second_live r.second_solid) ∙ e);
     costs = costs_shown;
     below = λ q l e f. below_at q e f (at_row q);
     above = λ q l e f. above_at q e f (at_row q);
@@ -239,11 +249,11 @@ two_on lines j k h g = All-cons (λ i. is_on (lives lines) i ≡ true) j (k ∷ 
 
 pub owes : (p : Sparse) (i j k : ℕ) → IsSparse p → enabled p i j k ≡ true → Owes p (edits p k) (record_of i j k)
 owes p i j k s e = let r = said p i j k e in let w : Number = unwrap_or (bounds_at p k).lower zero_ℚ in record {
-  allowed = (r.second_live, tt);
+  allowed = ((r.second_live, r.second_solid), tt);
   ordered = tt;
-  reduces = by_edits p (edits p k) (with_bounds (shown p) k (Some w) (Some w)) (λ x. x) zero_ℚ s (r.second_live, tt)
+  reduces = by_edits p (edits p k) (with_bounds (shown p) k (Some w) (Some w)) (λ x. x) zero_ℚ s ((r.second_live, r.second_solid), tt)
       (ap (λ (o : Option Number). with_bounds (shown p) k o o) r.place.value) nothing (dominated_column (shown p) j k w (shows p s i j k r));
-  pairs = λ continuous. pairs_by_edits p (edits p k) (with_bounds (shown p) k (Some w) (Some w)) (undone_pair (record_of i j k)) s (r.second_live, tt)
+  pairs = λ continuous. pairs_by_edits p (edits p k) (with_bounds (shown p) k (Some w) (Some w)) (undone_pair (record_of i j k)) s ((r.second_live, r.second_solid), tt)
       (ap (λ (o : Option Number). with_bounds (shown p) k o o) r.place.value) (dominated_column_pair (shown p) i j k w (shows p s i j k r));
   sided = λ numbers h. one_sided (SetBounds k (bounds_at p k).lower (bounds_at p k).lower) tt;
   sound = (row_inside p i r.row_live, (column_inside p j r.first_live, column_inside p k r.second_live, r.differ));

@@ -17,7 +17,7 @@ use Rattle.problem_model.specs.declared.edit.Edit.TheVariants.{SetBounds}
 use Rattle.problem_model.specs.declared.part.Contents.{Contents}
 use Rattle.problem_model.specs.declared.part.Contents.TheVariants as holding
 use Rattle.problem_model.specs.declared.part.Part.{Part}
-use Rattle.problem_model.specs.Parts.{contents_of}
+use Rattle.problem_model.specs.Parts.{contents_of, bounds_held}
 use Rattle.problem_model.specs.Problems.{column_at, bounds_at, cost_at, column_entries, IsSparse}
 use Rattle.problem_model.specs.Showing.{shown}
 use Rattle.problem_model.specs.Sparse.{Sparse}
@@ -31,6 +31,7 @@ use Rattle.edit_laws.proofs.Reducing.{by_edits, pairs_by_edits}
 use Rattle.dual_laws.specs.DualFixing.{goes_down, goes_up, is_dual_fixing, enabled, end_kept, place_of, edits, record_of}
 use Rattle.dual_laws.specs.Locks.{all_take, are_uncrossed, sides_on, takes_down, takes_up}
 use Rattle.dual_laws.proofs.Locks.{cost_live, no_down_lock, no_up_lock}
+use Rattle.rule_words.proofs.Solid.{gap_solid, low_shown, high_shown}
 
 -- a number that is not below another is above it, or the same
 not_less : (p q : Number) → not (lt_ℚ q p) ≡ true → p ≤ℚ q
@@ -52,8 +53,9 @@ pub record Up (ts : List Term) (c : Number) (u : Option Number) (w : Bool) (side
   pub rows : all_take takes_up ts sides ≡ true
 
 -- what the condition says: a live column with bounds apart that goes down to v, or up to v
-pub record Said (on : Bool) (ts : List Term) (c : Number) (l u : Option Number) (w : Bool) (sides : List Contents) (v : Number) : Type 0 where
+pub record Said (on semi : Bool) (ts : List Term) (c : Number) (l u : Option Number) (w : Bool) (sides : List Contents) (v : Number) : Type 0 where
   pub live : on ≡ true
+  pub solid : semi ≡ false
   pub apart : is_apart l u ≡ true
   pub place : end_kept ts c l u w sides ≡ Some v
   pub goes : Down ts c l w sides v ⊎ Up ts c u w sides v
@@ -78,22 +80,23 @@ module _ (ts : List Term) (c : Number) (l u : Option Number) (w : Bool) (sides :
   goes_said true e h = let x = down_said e in (x.place.value, inl x)
   goes_said false e h = let x = up_said h in (x.place.value, inr x)
 
-says : (on : Bool) (f : Part → Contents) (ts : List Term) (c : Number) (l u : Option Number) (w : Bool)
-    → is_dual_fixing (if on then holding.Column ts c else holding.Gone) (if on then holding.Bounds l u w else holding.Gone) (map f (sides_of (terms_in (if on then holding.Column ts c else holding.Gone)))) ≡ true
-    → Said on ts c l u w (map f (sides_of ts)) (unwrap_or (end_kept ts c l u w (map f (sides_of ts))) zero_ℚ)
-says true f ts c l u w e =
+says : (on semi : Bool) (f : Part → Contents) (ts : List Term) (c : Number) (l u : Option Number) (w : Bool)
+    → is_dual_fixing (if on then holding.Column ts c else holding.Gone) (if on then bounds_held semi l u w else holding.Gone) (map f (sides_of (terms_in (if on then holding.Column ts c else holding.Gone)))) ≡ true
+    → Said on semi ts c l u w (map f (sides_of ts)) (unwrap_or (end_kept ts c l u w (map f (sides_of ts))) zero_ℚ)
+says true true f ts c l u w e = absurd (not_true e)
+says true false f ts c l u w e =
     let sides : List Contents = map f (sides_of ts) in
     let a = and_parts (is_apart l u) (are_uncrossed sides && (goes_down ts c l w sides || goes_up ts c u w sides)) e in
     let b = and_parts (are_uncrossed sides) (goes_down ts c l w sides || goes_up ts c u w sides) a.1 in
     let g = goes_said ts c l u w sides (goes_down ts c l w sides) refl b.1 in
-    record { live = refl; apart = a.0; place = g.0; goes = g.1 }
-says false f ts c l u w e = absurd (not_true e)
+    record { live = refl; solid = refl; apart = a.0; place = g.0; goes = g.1 }
+says false semi f ts c l u w e = absurd (not_true e)
 
 abbrev SaidAt : Sparse → ℕ → Type 0
-SaidAt p j = Said (column_at p j).live (column_entries p j) (cost_at p j) (bounds_at p j).lower (bounds_at p j).upper (bounds_at p j).whole (sides_on p j) (unwrap_or (place_of p j) zero_ℚ)
+SaidAt p j = Said (column_at p j).live (bounds_at p j).semi (column_entries p j) (cost_at p j) (bounds_at p j).lower (bounds_at p j).upper (bounds_at p j).whole (sides_on p j) (unwrap_or (place_of p j) zero_ℚ)
 
 pub said : (p : Sparse) (j : ℕ) → enabled p j ≡ true → SaidAt p j
-said p j = says (column_at p j).live (contents_of p) (column_entries p j) (cost_at p j) (bounds_at p j).lower (bounds_at p j).upper (bounds_at p j).whole
+said p j = says (column_at p j).live (bounds_at p j).semi (contents_of p) (column_entries p j) (cost_at p j) (bounds_at p j).lower (bounds_at p j).upper (bounds_at p j).whole
 
 module _ (p : Sparse) (j : ℕ) (s : IsSparse p) (r : SaidAt p j) where
   abbrev v : Number
@@ -102,13 +105,13 @@ module _ (p : Sparse) (j : ℕ) (s : IsSparse p) (r : SaidAt p j) where
   goes_shown : Down (column_entries p j) (cost_at p j) (bounds_at p j).lower (bounds_at p j).whole (sides_on p j) v ⊎ Up (column_entries p j) (cost_at p j) (bounds_at p j).upper (bounds_at p j).whole (sides_on p j) v
       → GoesDown (shown p) j v ⊎ GoesUp (shown p) j v
   goes_shown (inl d) = inl (record {
-    lower = end_live (column_at p j).live (bounds_at p j).lower r.live ∙ d.place.value;
+    lower = low_shown p j r.live r.solid ∙ d.place.value;
     whole = λ h. d.place.whole (and_parts (column_at p j).live (bounds_at p j).whole h).1;
     cost = subst (λ (c : Number). zero_ℚ ≤ℚ c) (sym (cost_live (column_at p j).live (cost_at p j) r.live)) d.cost;
     rows = no_down_lock p j s r.live d.rows;
   })
   goes_shown (inr d) = inr (record {
-    upper = end_live (column_at p j).live (bounds_at p j).upper r.live ∙ d.place.value;
+    upper = high_shown p j r.live r.solid ∙ d.place.value;
     whole = λ h. d.place.whole (and_parts (column_at p j).live (bounds_at p j).whole h).1;
     cost = subst (λ (c : Number). c ≤ℚ zero_ℚ) (sym (cost_live (column_at p j).live (cost_at p j) r.live)) d.cost;
     rows = no_up_lock p j s r.live d.rows;
@@ -118,17 +121,18 @@ module _ (p : Sparse) (j : ℕ) (s : IsSparse p) (r : SaidAt p j) where
   shows = record {
     column = column_inside p j r.live;
     apart = λ l u e g. apart_ends (bounds_at p j).lower (bounds_at p j).upper r.apart l u
-        (sym (end_live (column_at p j).live (bounds_at p j).lower r.live) ∙ e) (sym (end_live (column_at p j).live (bounds_at p j).upper r.live) ∙ g);
+        (sym (low_shown p j r.live r.solid) ∙ e) (sym (high_shown p j r.live r.solid) ∙ g);
+    solid = gap_solid (column_at p j).live (bounds_at p j) r.solid;
     goes = goes_shown r.goes;
   }
 
 pub owes : RuleOwes enabled edits record_of
 owes p j s e = let r = said p j e in let w : Number = unwrap_or (place_of p j) zero_ℚ in record {
-  allowed = (r.live, tt);
+  allowed = ((r.live, r.solid), tt);
   ordered = tt;
-  reduces = by_edits p (edits p j) (with_bounds (shown p) j (Some w) (Some w)) (λ x. x) zero_ℚ s (r.live, tt)
+  reduces = by_edits p (edits p j) (with_bounds (shown p) j (Some w) (Some w)) (λ x. x) zero_ℚ s ((r.live, r.solid), tt)
       (ap (λ (o : Option Number). with_bounds (shown p) j o o) r.place) nothing (dual_fixing (shown p) j w (shows p j s r));
-  pairs = λ continuous. pairs_by_edits p (edits p j) (with_bounds (shown p) j (Some w) (Some w)) (undone_pair (record_of p j)) s (r.live, tt)
+  pairs = λ continuous. pairs_by_edits p (edits p j) (with_bounds (shown p) j (Some w) (Some w)) (undone_pair (record_of p j)) s ((r.live, r.solid), tt)
       (ap (λ (o : Option Number). with_bounds (shown p) j o o) r.place) (cost_pair (shown p) j w (shows p j s r));
   sided = λ numbers h. one_sided (SetBounds j (place_of p j) (place_of p j)) tt;
   sound = column_inside p j r.live;

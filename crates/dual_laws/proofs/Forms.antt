@@ -252,6 +252,7 @@ terms_rest (holding.Entries ts) = refl
 terms_rest (holding.Sides l u) = refl
 terms_rest (holding.Column ts c) = refl
 terms_rest (holding.Bounds l u w) = refl
+terms_rest (holding.Semi l u w) = refl
 
 named_rests : (cs : List Contents) → sides_named cs ≡ sides_named (map line_of cs)
 named_rests [] = refl

@@ -15,7 +15,7 @@ use Rattle.lp_columns.proofs.UnboundedColumn.{unbounded_column}
 use Rattle.problem_model.specs.declared.part.Contents.{Contents}
 use Rattle.problem_model.specs.declared.part.Contents.TheVariants as holding
 use Rattle.problem_model.specs.declared.part.Part.{Part}
-use Rattle.problem_model.specs.Parts.{contents_of}
+use Rattle.problem_model.specs.Parts.{contents_of, bounds_held}
 use Rattle.problem_model.specs.Problems.{column_at, bounds_at, cost_at, column_entries, IsSparse}
 use Rattle.problem_model.specs.Showing.{shown}
 use Rattle.problem_model.specs.Sparse.{Sparse}
@@ -27,6 +27,7 @@ use Rattle.rule_words.proofs.EndTestsSay.{not_true}
 use Rattle.dual_laws.specs.Locks.{all_take, are_uncrossed, sides_on, takes_down, takes_up}
 use Rattle.dual_laws.specs.UnboundedColumn.{enabled, falls, is_unbounded_column, rises}
 use Rattle.dual_laws.proofs.Locks.{cost_live, none_is, no_down_lock, no_up_lock}
+use Rattle.rule_words.proofs.Solid.{gap_solid, low_shown, high_shown}
 
 -- what it says that a column rises, and that it falls
 pub record Rises (ts : List Term) (c : Number) (u : Option Number) (sides : List Contents) : Type 0 where
@@ -40,8 +41,9 @@ pub record Falls (ts : List Term) (c : Number) (l : Option Number) (sides : List
   pub rows : all_take takes_down ts sides ≡ true
 
 -- what the condition says: a live column that rises or falls
-pub record Said (on : Bool) (ts : List Term) (c : Number) (l u : Option Number) (sides : List Contents) : Type 0 where
+pub record Said (on semi : Bool) (ts : List Term) (c : Number) (l u : Option Number) (sides : List Contents) : Type 0 where
   pub live : on ≡ true
+  pub solid : semi ≡ false
   pub goes : Rises ts c u sides ⊎ Falls ts c l sides
 
 module _ (ts : List Term) (c : Number) (l u : Option Number) (sides : List Contents) where
@@ -61,35 +63,36 @@ module _ (ts : List Term) (c : Number) (l u : Option Number) (sides : List Conte
   goes_said true e h = inl (rises_said e)
   goes_said false e h = inr (falls_said h)
 
-says : (on : Bool) (f : Part → Contents) (ts : List Term) (c : Number) (l u : Option Number) (w : Bool)
-    → is_unbounded_column (if on then holding.Column ts c else holding.Gone) (if on then holding.Bounds l u w else holding.Gone) (map f (sides_of (terms_in (if on then holding.Column ts c else holding.Gone)))) ≡ true
-    → Said on ts c l u (map f (sides_of ts))
-says true f ts c l u w e =
+says : (on semi : Bool) (f : Part → Contents) (ts : List Term) (c : Number) (l u : Option Number) (w : Bool)
+    → is_unbounded_column (if on then holding.Column ts c else holding.Gone) (if on then bounds_held semi l u w else holding.Gone) (map f (sides_of (terms_in (if on then holding.Column ts c else holding.Gone)))) ≡ true
+    → Said on semi ts c l u (map f (sides_of ts))
+says true true f ts c l u w e = absurd (not_true e)
+says true false f ts c l u w e =
     let sides : List Contents = map f (sides_of ts) in
     let a = and_parts (is_in_order l u) (are_uncrossed sides && (rises ts c u sides || falls ts c l sides)) e in
     let b = and_parts (are_uncrossed sides) (rises ts c u sides || falls ts c l sides) a.1 in
-    record { live = refl; goes = goes_said ts c l u sides (rises ts c u sides) refl b.1 }
-says false f ts c l u w e = absurd (not_true e)
+    record { live = refl; solid = refl; goes = goes_said ts c l u sides (rises ts c u sides) refl b.1 }
+says false semi f ts c l u w e = absurd (not_true e)
 
 abbrev SaidAt : Sparse → ℕ → Type 0
-SaidAt p j = Said (column_at p j).live (column_entries p j) (cost_at p j) (bounds_at p j).lower (bounds_at p j).upper (sides_on p j)
+SaidAt p j = Said (column_at p j).live (bounds_at p j).semi (column_entries p j) (cost_at p j) (bounds_at p j).lower (bounds_at p j).upper (sides_on p j)
 
 pub said : (p : Sparse) (j : ℕ) → enabled p j ≡ true → SaidAt p j
-said p j = says (column_at p j).live (contents_of p) (column_entries p j) (cost_at p j) (bounds_at p j).lower (bounds_at p j).upper (bounds_at p j).whole
+said p j = says (column_at p j).live (bounds_at p j).semi (contents_of p) (column_entries p j) (cost_at p j) (bounds_at p j).lower (bounds_at p j).upper (bounds_at p j).whole
 
-module _ (p : Sparse) (j : ℕ) (s : IsSparse p) (live : (column_at p j).live ≡ true) where
+module _ (p : Sparse) (j : ℕ) (s : IsSparse p) (live : (column_at p j).live ≡ true) (solid : (bounds_at p j).semi ≡ false) where
   goes_shown : Rises (column_entries p j) (cost_at p j) (bounds_at p j).upper (sides_on p j) ⊎ Falls (column_entries p j) (cost_at p j) (bounds_at p j).lower (sides_on p j)
       → RisesForEver (shown p) j ⊎ FallsForEver (shown p) j
   goes_shown (inl r) = inl (record {
     cost = subst (λ (c : Number). c <ℚ zero_ℚ) (sym (cost_live (column_at p j).live (cost_at p j) live)) r.cost;
-    upper = end_live (column_at p j).live (bounds_at p j).upper live ∙ r.upper;
+    upper = high_shown p j live solid ∙ r.upper;
     rows = no_up_lock p j s live r.rows;
   })
   goes_shown (inr r) = inr (record {
     cost = subst (λ (c : Number). zero_ℚ <ℚ c) (sym (cost_live (column_at p j).live (cost_at p j) live)) r.cost;
-    lower = end_live (column_at p j).live (bounds_at p j).lower live ∙ r.lower;
+    lower = low_shown p j live solid ∙ r.lower;
     rows = no_down_lock p j s live r.rows;
   })
 
 pub decides : RuleDecides enabled (NoPointOrEndless Min)
-decides p j s e = let r = said p j e in unbounded_column (shown p) j (record { column = column_inside p j r.live; goes = goes_shown p j s r.live r.goes })
+decides p j s e = let r = said p j e in unbounded_column (shown p) j (record { column = column_inside p j r.live; solid = gap_solid (column_at p j).live (bounds_at p j) r.solid; goes = goes_shown p j s r.live r.solid r.goes })

@@ -17,7 +17,7 @@ use Rattle.problem_model.specs.declared.part.Contents.TheVariants as holding
 use Rattle.problem_model.specs.declared.part.Part.{Part}
 use Rattle.problem_model.specs.declared.part.Part.TheVariants as part
 use Rattle.problem_model.specs.Matrices.{live_only}
-use Rattle.problem_model.specs.Parts.{contents_of}
+use Rattle.problem_model.specs.Parts.{bounds_held, contents_of}
 use Rattle.problem_model.specs.Problems.{bounds_at, column_at, column_entries, cost_at, row_at, row_entries, sides_at, IsSparse}
 use Rattle.problem_model.specs.Sparse.{Sparse}
 use Rattle.rule_words.specs.Reading.{terms_in}
@@ -27,7 +27,7 @@ use Rattle.problem_laws.proofs.Entries.{live_entries_name, live_entries_tell, ro
 use Rattle.problem_laws.proofs.Terms.{has-cons_same, not_both}
 use Rattle.dual_rules.specs.Merging.{admits, all_admit}
 use Rattle.dual_rules.specs.declared.dominated_column.Standing.{Standing}
-use Rattle.dual_rules.specs.Pairs.{IsStanding, Tells, are_live, dominates, entries_of, is_endless, is_short, pair_if, pairs_among, pairs_beside}
+use Rattle.dual_rules.specs.Pairs.{IsStanding, Tells, are_live, dominates, entries_of, is_endless, is_short, may_stay, pair_if, pairs_among, pairs_beside}
 use Rattle.dual_rules.proofs.Merging.{admits_at}
 use Rattle.dual_rules.proofs.Remaining.{left, one_more}
 
@@ -45,21 +45,37 @@ regroup true true true true false c w m = refl
 regroup true true true true true false w m = refl
 regroup true true true true true true w m = refl
 
-by_parts : (f : Part → Contents) (j k : ℕ) (row ts us : List Term) (c d : Number) (l u m n : Option Number) (w x : Bool) (r a b : Bool)
-    → is_dominated_column (if r then holding.Entries row else holding.Gone) (if a then holding.Column ts c else holding.Gone) (if b then holding.Column us d else holding.Gone) (if a then holding.Bounds l u w else holding.Gone) (if b then holding.Bounds m n x else holding.Gone)
+-- a semi-continuous column neither stands in for another one nor is dominated
+first_refused : (n s m : Bool) → false ≡ (s && ((n && false) && m))
+first_refused n false m = refl
+first_refused false true m = refl
+first_refused true true m = refl
+
+second_refused : (n s u m : Bool) → false ≡ (s && ((n && (u && false)) && m))
+second_refused n false u m = refl
+second_refused false true u m = refl
+second_refused true true false m = refl
+second_refused true true true m = refl
+
+by_parts : (f : Part → Contents) (j k : ℕ) (row ts us : List Term) (c d : Number) (l u m n : Option Number) (w x : Bool) (r a b y z : Bool)
+    → is_dominated_column (if r then holding.Entries row else holding.Gone) (if a then holding.Column ts c else holding.Gone) (if b then holding.Column us d else holding.Gone) (if a then bounds_held y l u w else holding.Gone) (if b then bounds_held z m n x else holding.Gone)
     (map f (map part.Sides (rows_of_both (terms_in (if a then holding.Column ts c else holding.Gone)) (terms_in (if b then holding.Column us d else holding.Gone))))) j k
-    ≡ ((r && (a && b)) && (share row j k && ((not (nat_eq j k) && (is_none u && (is_apart m n && (is_place m x && (le_ℚ c d && (not w || x)))))) && (are_uncrossed (map f (map part.Sides (rows_of_both ts us)))
+    ≡ ((r && (a && b)) && (share row j k && ((not (nat_eq j k) && (not y && (is_none u && (not z && (is_apart m n && (is_place m x && (le_ℚ c d && (not w || x)))))))) && (are_uncrossed (map f (map part.Sides (rows_of_both ts us)))
     && all_take_over (dense ts) (dense us) (rows_of_both ts us) (map f (map part.Sides (rows_of_both ts us)))))))
-by_parts f j k row ts us c d l u m n w x true true true =
+by_parts f j k row ts us c d l u m n w x true true true false false =
     regroup (not (nat_eq j k)) (share row j k) (is_none u) (is_apart m n) (is_place m x) (le_ℚ c d) (not w || x)
     (are_uncrossed (map f (map part.Sides (rows_of_both ts us))) && all_take_over (dense ts) (dense us) (rows_of_both ts us) (map f (map part.Sides (rows_of_both ts us))))
-by_parts f j k row ts us c d l u m n w x true true false = refl
-by_parts f j k row ts us c d l u m n w x true false b = refl
-by_parts f j k row ts us c d l u m n w x false a b = refl
+by_parts f j k row ts us c d l u m n w x true true true true z =
+    first_refused (not (nat_eq j k)) (share row j k) (are_uncrossed (map f (map part.Sides (rows_of_both ts us))) && all_take_over (dense ts) (dense us) (rows_of_both ts us) (map f (map part.Sides (rows_of_both ts us))))
+by_parts f j k row ts us c d l u m n w x true true true false true =
+    second_refused (not (nat_eq j k)) (share row j k) (is_none u) (are_uncrossed (map f (map part.Sides (rows_of_both ts us))) && all_take_over (dense ts) (dense us) (rows_of_both ts us) (map f (map part.Sides (rows_of_both ts us))))
+by_parts f j k row ts us c d l u m n w x true true false y z = refl
+by_parts f j k row ts us c d l u m n w x true false b y z = refl
+by_parts f j k row ts us c d l u m n w x false a b y z = refl
 
 pub enabled_is : (p : Sparse) (i j k : ℕ) → enabled p i j k ≡ (are_live p i j k && (share (row_entries p i) j k && dominates p j k))
 enabled_is p i j k = by_parts (contents_of p) j k (row_entries p i) (column_entries p j) (column_entries p k) (cost_at p j) (cost_at p k) (bounds_at p j).lower (bounds_at p j).upper (bounds_at p k).lower (bounds_at p k).upper
-    (bounds_at p j).whole (bounds_at p k).whole (row_at p i).live (column_at p j).live (column_at p k).live
+    (bounds_at p j).whole (bounds_at p k).whole (row_at p i).live (column_at p j).live (column_at p k).live (bounds_at p j).semi (bounds_at p k).semi
 
 -- ---- lists of pairs
 abbrev Pair : Type 0
@@ -69,21 +85,25 @@ none_kept : (P : Pair → Bool) (xs : List Pair) → ((x : Pair) → P x ≡ fal
 none_kept P [] h = refl
 none_kept P (x ∷ xs) h = ap (λ (b : Bool). cond b (x ∷ filter P xs) (filter P xs)) (h x) ∙ none_kept P xs h
 
--- a column with an upper bound dominates none
-dominates_none : (p : Sparse) (j k : ℕ) → is_none (bounds_at p j).upper ≡ false → dominates p j k ≡ false
-dominates_none p j k e = by (not (nat_eq j k)) (is_none (bounds_at p j).upper) e
-  where
-    by : (n u : Bool) → u ≡ false → ((n && (u && (is_apart (bounds_at p k).lower (bounds_at p k).upper && (is_place (bounds_at p k).lower (bounds_at p k).whole && (le_ℚ (cost_at p j) (cost_at p k) && (not (bounds_at p j).whole || (bounds_at p k).whole))))))
-        && all_admit p (column_entries p j) (column_entries p k)) ≡ false
-    by false u f = refl
-    by true false f = refl
-    by true true f = absurd (not_both refl f)
+-- a column may stand in for others: it has no upper bound, and isn't semi-continuous
+abbrev may_stand_in : Sparse → ℕ → Bool
+may_stand_in p j = not (bounds_at p j).semi && is_none (bounds_at p j).upper
 
-pub none_beside : (p : Sparse) (j : ℕ) (ts : List Term) → is_none (bounds_at p j).upper ≡ false → pairs_beside p j ts ≡ []
+-- any other one dominates none
+dominates_none : (p : Sparse) (j k : ℕ) → may_stand_in p j ≡ false → dominates p j k ≡ false
+dominates_none p j k e = by (not (nat_eq j k)) (not (bounds_at p j).semi) (is_none (bounds_at p j).upper) e
+  where
+    by : (n s u : Bool) → (s && u) ≡ false → ((n && (s && (u && may_stay p (cost_at p j) (bounds_at p j).whole k))) && all_admit p (column_entries p j) (column_entries p k)) ≡ false
+    by false s u f = refl
+    by true false u f = refl
+    by true true false f = refl
+    by true true true f = absurd (not_both refl f)
+
+pub none_beside : (p : Sparse) (j : ℕ) (ts : List Term) → may_stand_in p j ≡ false → pairs_beside p j ts ≡ []
 none_beside p j [] e = refl
 none_beside p j (t ∷ ts) e = ap (λ (b : Bool). cond b ((j, t.id) ∷ pairs_beside p j ts) (pairs_beside p j ts)) (dominates_none p j t.id e) ∙ none_beside p j ts e
 
-pub at_once : (p : Sparse) (j : ℕ) (ts : List Term) (x : List Pair) (q : Bool) → q ≡ is_none (bounds_at p j).upper → q ≡ false → x ≡ x ++ pairs_beside p j ts
+pub at_once : (p : Sparse) (j : ℕ) (ts : List Term) (x : List Pair) (q : Bool) → q ≡ may_stand_in p j → q ≡ false → x ≡ x ++ pairs_beside p j ts
 at_once p j ts x q e g = sym (ap (λ (l : List Pair). x ++ l) (none_beside p j ts (sym e ∙ g)) ∙ append-nil x)
 
 beside_step : (p : Sparse) (j : ℕ) (t : Term) (ts : List Term) → pairs_beside p j (t ∷ ts) ≡ pair_if (dominates p j t.id) j t.id ++ pairs_beside p j ts
@@ -204,7 +224,7 @@ Ended p t = is_none (bounds_at p t.id).upper ≡ false
 
 pub none_among : (p : Sparse) (ts us : List Term) → All (Ended p) ts → pairs_among p ts us ≡ []
 none_among p [] us h = refl
-none_among p (t ∷ ts) us h = filter-append (λ x. dominates p x.0 x.1) (map (λ u. (t.id, u.id)) us) (flat_map (λ t. map (λ u. (t.id, u.id)) us) ts) ∙ ap₂ (λ (x y : List Pair). x ++ y) (none_beside p t.id us (All-head (Ended p) t ts h)) (none_among p ts us (All-tail (Ended p) t ts h))
+none_among p (t ∷ ts) us h = filter-append (λ x. dominates p x.0 x.1) (map (λ u. (t.id, u.id)) us) (flat_map (λ t. map (λ u. (t.id, u.id)) us) ts) ∙ ap₂ (λ (x y : List Pair). x ++ y) (none_beside p t.id us (ap (λ (b : Bool). not (bounds_at p t.id).semi && b) (All-head (Ended p) t ts h) ∙ and_none (not (bounds_at p t.id).semi))) (none_among p ts us (All-tail (Ended p) t ts h))
 
 pub one_ended : (p : Sparse) (t : Term) (ts : List Term) → is_endless p t.id ≡ false → All (Ended p) (live_only p.matrix.columns ts) → All (Ended p) (live_only p.matrix.columns (t ∷ ts))
 one_ended p t ts e h = by (column_at p t.id).live e

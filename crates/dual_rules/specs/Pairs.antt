@@ -16,11 +16,11 @@ use Rattle.dual_rules.specs.Merging.{all_admit}
 
 -- what is asked of k beside a column that has no upper bound, has the cost c, and is whole or not
 abbrev pub may_stay : Sparse → Number → Bool → ℕ → Bool
-may_stay p c w k = is_apart (bounds_at p k).lower (bounds_at p k).upper && (is_place (bounds_at p k).lower (bounds_at p k).whole && (le_ℚ c (cost_at p k) && (not w || (bounds_at p k).whole)))
+may_stay p c w k = not (bounds_at p k).semi && (is_apart (bounds_at p k).lower (bounds_at p k).upper && (is_place (bounds_at p k).lower (bounds_at p k).whole && (le_ℚ c (cost_at p k) && (not w || (bounds_at p k).whole))))
 
 -- what is asked of the bounds and costs of j and k
 abbrev pub is_better : Sparse → ℕ → ℕ → Bool
-is_better p j k = not (nat_eq j k) && (is_none (bounds_at p j).upper && may_stay p (cost_at p j) (bounds_at p j).whole k)
+is_better p j k = not (nat_eq j k) && (not (bounds_at p j).semi && (is_none (bounds_at p j).upper && may_stay p (cost_at p j) (bounds_at p j).whole k))
 
 -- and of their rows too: j dominates k
 abbrev pub dominates : Sparse → ℕ → ℕ → Bool
@@ -31,9 +31,9 @@ pub record IsStanding (p : Sparse) (s : Standing) : Type 0 where
   pub live : (column_at p s.entry.id).live ≡ true
   pub cost : s.cost ≡ cost_at p s.entry.id
   pub whole : s.whole ≡ (bounds_at p s.entry.id).whole
-  pub endless : s.endless ≡ is_none (bounds_at p s.entry.id).upper
+  pub endless : s.endless ≡ (not (bounds_at p s.entry.id).semi && is_none (bounds_at p s.entry.id).upper)
   pub footprint : IfSome s.footprint (λ f. IsFootprint p (column_entries p s.entry.id) f)
-  pub placed : s.placed ≡ (is_apart (bounds_at p s.entry.id).lower (bounds_at p s.entry.id).upper && is_place (bounds_at p s.entry.id).lower (bounds_at p s.entry.id).whole)
+  pub placed : s.placed ≡ (not (bounds_at p s.entry.id).semi && (is_apart (bounds_at p s.entry.id).lower (bounds_at p s.entry.id).upper && is_place (bounds_at p s.entry.id).lower (bounds_at p s.entry.id).whole))
 
 -- their entries in the row
 abbrev pub entries_of : List Standing → List Term

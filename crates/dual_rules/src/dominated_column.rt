@@ -35,7 +35,8 @@ fn may_stay(problem: &Problem, cost: &Frac, whole: bool, column: u32) -> bool
     ensures { result ≡ may_stay problem.now cost.now whole column }
 {
     let bounds = problem.bounds(column);
-    apart(&bounds.lower, &bounds.upper)
+    !bounds.semi
+        && apart(&bounds.lower, &bounds.upper)
         && place(&bounds.lower, bounds.whole)
         && cost.le(&problem.cost(column))
         && (!whole || bounds.whole)
@@ -50,6 +51,7 @@ fn is_better(problem: &Problem, column: u32, other: u32) -> bool
 {
     let bounds = problem.bounds(column);
     column != other
+        && !bounds.semi
         && bounds.upper.is_none()
         && may_stay(problem, &problem.cost(column), bounds.whole, other)
 }
@@ -159,9 +161,9 @@ struct Standing {
     entry: Term,
     cost: Frac,
     whole: bool,
-    /// Whether it has no upper bound, so that it may stand in for others.
+    /// Whether it has no upper bound and isn't semi-continuous, so that it may stand in for others.
     endless: bool,
-    /// Whether it may stay at its lower bound: that is below the upper one, and whole if the column is.
+    /// Whether it may stay at its lower bound: that is below the upper one, and whole if the column is; and it isn't semi-continuous.
     placed: bool,
     /// What it asks and offers in all its rows, unless these are many.
     footprint: Option<Footprint>,
@@ -178,8 +180,10 @@ fn standing_of(problem: &Problem, entry: &Term) -> Standing
         entry: *entry,
         cost: problem.cost(entry.id),
         whole: bounds.whole,
-        endless: bounds.upper.is_none(),
-        placed: apart(&bounds.lower, &bounds.upper) && place(&bounds.lower, bounds.whole),
+        endless: !bounds.semi && bounds.upper.is_none(),
+        placed: !bounds.semi
+            && apart(&bounds.lower, &bounds.upper)
+            && place(&bounds.lower, bounds.whole),
         footprint: footprint_of(problem, entry.id),
     }
 }

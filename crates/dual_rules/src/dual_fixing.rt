@@ -46,7 +46,8 @@ pub fn is_enabled(problem: &Problem, column: u32) -> bool
         return false;
     }
     let bounds = problem.bounds(column);
-    apart(&bounds.lower, &bounds.upper)
+    !bounds.semi
+        && apart(&bounds.lower, &bounds.upper)
         && (goes_down(problem, column) || goes_up(problem, column))
         && rows_uncrossed(problem, entries(problem, column))
 }

@@ -33,6 +33,9 @@ fn form_of_bounds(problem: &Problem, column: u32) -> Form
         return Form::NoEnds;
     }
     let bounds = problem.bounds(column);
+    if bounds.semi {
+        return Form::NoEnds;
+    }
     Form::Bounds {
         no_lower: bounds.lower.is_none(),
         no_upper: bounds.upper.is_none(),

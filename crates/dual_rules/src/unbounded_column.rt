@@ -38,7 +38,8 @@ pub fn is_enabled(problem: &Problem, column: u32) -> bool
         return false;
     }
     let bounds = problem.bounds(column);
-    in_order(&bounds.lower, &bounds.upper)
+    !bounds.semi
+        && in_order(&bounds.lower, &bounds.upper)
         && (rises(problem, column) || falls(problem, column))
         && rows_uncrossed(problem, entries(problem, column))
 }

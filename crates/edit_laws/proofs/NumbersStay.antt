@@ -51,7 +51,7 @@ pub changes_edited : (p : Sparse) (e : Edit) → IsSparse p → IsAllowed p e �
 changes_edited p (DeleteRow i) s h = by_part p (edited p (DeleteRow i)) (without_count p.matrix.rows i (row_inside p i h)) (λ k. refl) (losing_count (row_deleted p i).matrix.rows p.matrix.columns i) (λ k. refl)
 changes_edited p (DeleteColumn j) s h = by_part p (edited p (DeleteColumn j)) (losing_count (column_deleted p j).matrix.columns p.matrix.rows j) (λ k. refl) (without_count p.matrix.columns j (column_inside p j h)) (λ k. refl)
 changes_edited p (SetSides i l u) s h = by_part p (edited p (SetSides i l u)) (λ k. refl) (sides_count p i l u (sides_inside p i s h)) (λ k. refl) (λ k. refl)
-changes_edited p (SetBounds j l u) s h = by_part p (edited p (SetBounds j l u)) (λ k. refl) (λ k. refl) (λ k. refl) (bounds_count p j l u (bounds_inside p j s h))
+changes_edited p (SetBounds j l u) s h = by_part p (edited p (SetBounds j l u)) (λ k. refl) (λ k. refl) (λ k. refl) (bounds_count p j l u (bounds_inside p j s h.0))
 changes_edited p (AddOffset o) s h = by_part p (edited p (AddOffset o)) (λ k. refl) (λ k. refl) (λ k. refl) (λ k. refl)
 changes_edited p (SetCost j c) s h = by_part p (edited p (SetCost j c)) (λ k. refl) (λ k. refl) (λ k. refl) (λ k. refl)
 changes_edited p (SetEntry i j a) s h = by_part p (edited p (SetEntry i j a)) (put_count p.matrix.rows i j a (row_inside p i h.0)) (λ k. refl) (put_count p.matrix.columns j i a (column_inside p j h.1)) (λ k. refl)

@@ -13,7 +13,7 @@ use Rattle.problem_model.specs.declared.part.Contents.TheVariants as holds
 use Rattle.problem_model.specs.Allowed.{AreAllowed}
 use Rattle.problem_model.specs.Applied.{applied}
 use Rattle.problem_model.specs.Matrices.{no_line}
-use Rattle.problem_model.specs.Parts.{contents_of, changes_of}
+use Rattle.problem_model.specs.Parts.{contents_of, changes_of, bounds_held}
 use Rattle.problem_model.specs.Problems.{no_sides, no_bounds, row_at, column_at, sides_at, bounds_at, cost_at, row_entries, column_entries, IsSparse}
 use Rattle.problem_model.specs.Raised.{risen, numbered_line, numbered_sides, numbered_bounds, same_contents, changes_after, raised, committed}
 use Rattle.problem_model.specs.Reading.{read_of}
@@ -78,7 +78,7 @@ module _ (p q : Sparse) (s : IsSparse p) (t : IsSparse q) (z : SameSize p q) whe
       by (inr g) =
           let f : length p.bounds ≤ j = omega (arith, g, z.columns, s.bounds, t.bounds) in
           let h : length (raised p q).bounds ≤ j = omega (arith, g, length-each_at (numbered_bounds (λ j. changes_after p q (part.Bounds j))) 0 q.bounds) in
-          nothing (part.Bounds j) (ap (λ (b : Bool). if b then holds.Bounds (bounds_at p j).lower (bounds_at p j).upper (bounds_at p j).whole else holds.Gone) (gone_column p j (omega (arith, f, s.bounds)))) (ap (λ (b : Bool). if b then holds.Bounds (bounds_at q j).lower (bounds_at q j).upper (bounds_at q j).whole else holds.Gone) (gone_column q j (omega (arith, g, t.bounds))))
+          nothing (part.Bounds j) (ap (λ (b : Bool). if b then bounds_held (bounds_at p j).semi (bounds_at p j).lower (bounds_at p j).upper (bounds_at p j).whole else holds.Gone) (gone_column p j (omega (arith, f, s.bounds)))) (ap (λ (b : Bool). if b then bounds_held (bounds_at q j).semi (bounds_at q j).lower (bounds_at q j).upper (bounds_at q j).whole else holds.Gone) (gone_column q j (omega (arith, g, t.bounds))))
           (ap (λ (x : Bounds). x.changes) (get_or_past p.bounds j no_bounds f)) (ap (λ (x : Bounds). x.changes) (get_or_past (raised p q).bounds j no_bounds h))
 
   pub changes-raised : (a : Part) → changes_of (raised p q) a ≡ changes_after p q a

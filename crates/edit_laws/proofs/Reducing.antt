@@ -1,5 +1,5 @@
 -- What edits make of the linear program that is shown, where that is known.
-use Rattle.std.proofs.Common.{◌≡◌, ℕ, ◌<◌, Bool, true, false, List, [], ◌∷◌, refl, sym, ◌∙◌, subst, nat_eq, if◌then◌else◌}
+use Rattle.std.proofs.Common.{◌≡◌, ℕ, ◌<◌, Bool, true, false, List, [], ◌∷◌, refl, sym, ◌∙◌, subst, nat_eq, if◌then◌else◌, Option, None}
 use Rattle.rational.specs.Number.{Number}
 use Rattle.rational.specs.Total.{put}
 use Rattle.lp_model.specs.declared.program.Sense.TheVariants.{Min}
@@ -17,6 +17,7 @@ use Rattle.problem_model.specs.Problems.{IsSparse}
 use Rattle.problem_model.specs.Showing.{shown}
 use Rattle.problem_model.specs.Sparse.{Sparse}
 use Rattle.edit_laws.proofs.Committed.{shown_committed}
+use Rattle.lp_model.specs.Gaps.{Gap}
 
 pub by_edits : (p : Sparse) (es : List Edit) (R : LinearProgram) (f : Vector → Vector) (k : Number) → IsSparse p → AreAllowed p es → programs_edited (shown p) es ≡ R → k ≡ added_by es → Reduces Min (shown p) R f k
     → Reduces Min (shown p) (shown (committed p es)) f (added_by es)
@@ -36,9 +37,17 @@ put_false f j k e = by (nat_eq k j)
     by true = refl
     by false = e
 
+put_none : (f : ℕ → Option Gap) (j k : ℕ) → f k ≡ None → put f j None k ≡ None
+unfolding put
+put_none f j k e = by (nat_eq k j)
+  where
+    by : (b : Bool) → (if b then None else f k) ≡ None
+    by true = refl
+    by false = e
+
 continuous_edited : (M : LinearProgram) (e : Edit) → Continuous M → Continuous (edited_program M e)
 continuous_edited M (DeleteRow i) h = h
-continuous_edited M (DeleteColumn j) h = λ k l. put_false M.whole j k (h k l)
+continuous_edited M (DeleteColumn j) h = λ k l. (put_false M.whole j k (h k l).0, put_none M.gap j k (h k l).1)
 continuous_edited M (SetSides i l u) h = h
 continuous_edited M (SetBounds j l u) h = h
 continuous_edited M (AddOffset k) h = h

@@ -47,23 +47,27 @@ same_contents-is holds.Gone (holds.Entries us) h = absurd (not_both h refl)
 same_contents-is holds.Gone (holds.Sides m v) h = absurd (not_both h refl)
 same_contents-is holds.Gone (holds.Column us d) h = absurd (not_both h refl)
 same_contents-is holds.Gone (holds.Bounds m v x) h = absurd (not_both h refl)
+same_contents-is holds.Gone (holds.Semi m v x) h = absurd (not_both h refl)
 same_contents-is (holds.Entries ts) (holds.Entries us) h = ap holds.Entries (same_terms-is ts us h)
 same_contents-is (holds.Entries ts) holds.Gone h = absurd (not_both h refl)
 same_contents-is (holds.Entries ts) (holds.Sides m v) h = absurd (not_both h refl)
 same_contents-is (holds.Entries ts) (holds.Column us d) h = absurd (not_both h refl)
 same_contents-is (holds.Entries ts) (holds.Bounds m v x) h = absurd (not_both h refl)
+same_contents-is (holds.Entries ts) (holds.Semi m v x) h = absurd (not_both h refl)
 same_contents-is (holds.Sides l u) (holds.Sides m v) h =
     let f = both (same_end l m) (same_end u v) h in ap₂ holds.Sides ((same_end-is l m).0 f.0) ((same_end-is u v).0 f.1)
 same_contents-is (holds.Sides l u) holds.Gone h = absurd (not_both h refl)
 same_contents-is (holds.Sides l u) (holds.Entries us) h = absurd (not_both h refl)
 same_contents-is (holds.Sides l u) (holds.Column us d) h = absurd (not_both h refl)
 same_contents-is (holds.Sides l u) (holds.Bounds m v x) h = absurd (not_both h refl)
+same_contents-is (holds.Sides l u) (holds.Semi m v x) h = absurd (not_both h refl)
 same_contents-is (holds.Column ts c) (holds.Column us d) h =
     let f = both (same_terms ts us) (eq_ℚ c d) h in ap₂ holds.Column (same_terms-is ts us f.0) ((eq_ℚ-is c d).0 f.1)
 same_contents-is (holds.Column ts c) holds.Gone h = absurd (not_both h refl)
 same_contents-is (holds.Column ts c) (holds.Entries us) h = absurd (not_both h refl)
 same_contents-is (holds.Column ts c) (holds.Sides m v) h = absurd (not_both h refl)
 same_contents-is (holds.Column ts c) (holds.Bounds m v x) h = absurd (not_both h refl)
+same_contents-is (holds.Column ts c) (holds.Semi m v x) h = absurd (not_both h refl)
 same_contents-is (holds.Bounds l u w) (holds.Bounds m v x) h =
     let f = both (same_end l m) (same_end u v && same_bit w x) h in
     let g = both (same_end u v) (same_bit w x) f.1 in
@@ -72,6 +76,16 @@ same_contents-is (holds.Bounds l u w) holds.Gone h = absurd (not_both h refl)
 same_contents-is (holds.Bounds l u w) (holds.Entries us) h = absurd (not_both h refl)
 same_contents-is (holds.Bounds l u w) (holds.Sides m v) h = absurd (not_both h refl)
 same_contents-is (holds.Bounds l u w) (holds.Column us d) h = absurd (not_both h refl)
+same_contents-is (holds.Bounds l u w) (holds.Semi m v x) h = absurd (not_both h refl)
+same_contents-is (holds.Semi l u w) (holds.Semi m v x) h =
+    let f = both (same_end l m) (same_end u v && same_bit w x) h in
+    let g = both (same_end u v) (same_bit w x) f.1 in
+    λ i. holds.Semi ((same_end-is l m).0 f.0 i) ((same_end-is u v).0 g.0 i) (same_bit-is w x g.1 i)
+same_contents-is (holds.Semi l u w) holds.Gone h = absurd (not_both h refl)
+same_contents-is (holds.Semi l u w) (holds.Entries us) h = absurd (not_both h refl)
+same_contents-is (holds.Semi l u w) (holds.Sides m v) h = absurd (not_both h refl)
+same_contents-is (holds.Semi l u w) (holds.Column us d) h = absurd (not_both h refl)
+same_contents-is (holds.Semi l u w) (holds.Bounds m v x) h = absurd (not_both h refl)
 
 -- ---- and what is the same is found so
 terms_self : (ts : List Term) → same_terms ts ts ≡ true
@@ -91,6 +105,7 @@ contents_self (holds.Entries ts) = terms_self ts
 contents_self (holds.Sides l u) = join (end_self l) (end_self u)
 contents_self (holds.Column ts c) = join (terms_self ts) ((eq_ℚ-is c c).1 refl)
 contents_self (holds.Bounds l u w) = join (end_self l) (join (end_self u) (bit_self w))
+contents_self (holds.Semi l u w) = join (end_self l) (join (end_self u) (bit_self w))
 
 pub is-same_contents : (c d : Contents) → c ≡ d → same_contents c d ≡ true
 is-same_contents c d e = ap (λ (x : Contents). same_contents c x) (sym e) ∙ contents_self c

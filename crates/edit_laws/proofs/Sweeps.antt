@@ -43,6 +43,10 @@ module _ (low high : Term → Option Number) where
   sweep_matrix [] p = refl
   sweep_matrix (t ∷ ts) p = sweep_matrix ts (sides_set p t.id (low t) (high t))
 
+  pub sweep_bounds : (ts : List Term) (p : Sparse) → (applied p (sweep ts)).bounds ≡ p.bounds
+  sweep_bounds [] p = refl
+  sweep_bounds (t ∷ ts) p = sweep_bounds ts (sides_set p t.id (low t) (high t))
+
   pub sweep_allowed : (ts : List Term) (p : Sparse) → All (λ t. (row_at p t.id).live ≡ true) ts → AreAllowed p (sweep ts)
   sweep_allowed [] p h = tt
   sweep_allowed (t ∷ ts) p h = (All-head (λ t. (row_at p t.id).live ≡ true) t ts h, sweep_allowed ts (sides_set p t.id (low t) (high t)) (All-tail (λ t. (row_at p t.id).live ≡ true) t ts h))

@@ -11,7 +11,7 @@ use Rattle.problem_model.specs.declared.part.Part.TheVariants as part
 use Rattle.problem_model.specs.declared.part.Contents.TheVariants as holds
 use Rattle.problem_model.specs.Edits.{thinned, losing, row_deleted, column_deleted, sides_set, bounds_set, offset_set, cost_set, entry_set}
 use Rattle.problem_model.specs.Matrices.{live_only}
-use Rattle.problem_model.specs.Parts.{contents_of}
+use Rattle.problem_model.specs.Parts.{contents_of, bounds_held}
 use Rattle.problem_model.specs.Problems.{row_at, column_at, sides_at, bounds_at, cost_at, row_entries, column_entries, IsSparse}
 use Rattle.problem_model.specs.Sparse.{Sparse}
 use Rattle.problem_laws.proofs.AtIds.{row_inside, column_inside, row_deleted-other, row_deleted-column, column_deleted-other, column_deleted-row, losing_live, sides_set-other, bounds_set-other}
@@ -42,7 +42,7 @@ module _ (p q : Sparse) where
   columns_hold j e f g t = if e t then holds.Column (f t) (g t) else holds.Gone
 
   pub bounds_hold : (j : ℕ) → (column_at q j).live ≡ (column_at p j).live → bounds_at q j ≡ bounds_at p j → contents_of q (part.Bounds j) ≡ contents_of p (part.Bounds j)
-  bounds_hold j e f t = if e t then holds.Bounds (f t).lower (f t).upper (f t).whole else holds.Gone
+  bounds_hold j e f t = if e t then bounds_held (f t).semi (f t).lower (f t).upper (f t).whole else holds.Gone
 
 live_of : {k l : Line} → k ≡ l → k.live ≡ l.live
 live_of e = ap (λ (y : Line). y.live) e

@@ -146,7 +146,7 @@ module _ (numbers : Numbers) where
   writable_edited p (DeleteRow i) s w live f d h = writable-row_deleted p i live w
   writable_edited p (DeleteColumn j) s w live f d h = writable-column_deleted p j live w
   writable_edited p (SetSides i l u) s w live f d h = writable-sides_set p i l u s live h d.0 d.1 f w
-  writable_edited p (SetBounds j l u) s w live f d h = writable-bounds_set p j l u s live d f w
+  writable_edited p (SetBounds j l u) s w live f d h = writable-bounds_set p j l u s live.0 d f w
   writable_edited p (AddOffset k) s w live f d h = record { rows = w.rows; columns = λ j on. column_kept p (offset_set p (edited p (AddOffset k)).offset) j refl refl refl (w.columns j on) }
   writable_edited p (SetCost j c) s w live f d h = writable-cost_set p j c s live d w
   writable_edited p (SetEntry i j a) s w live f d h = writable-entry_set p i j a live.0 live.1 d w

@@ -1,4 +1,4 @@
-//! The line that names a column that has to be whole.
+//! The line that names a column that has to be whole or is semi-continuous.
 
 ghost use Rattle.std.specs.Prelude.{◌≡◌, ◌++◌, IfOk, OnOk};
 ghost use Rattle.endings.specs.Continuity.{not_continuous_text};
@@ -17,7 +17,7 @@ pub fn push_column(out: &mut Vec<u8>, program: &Program, id: u32) -> Result<(), 
     Ok(())
 }
 
-/// The line that names a column that has to be whole, where none may.
+/// The line that names a column that has to be whole or is semi-continuous, where none may be.
 pub fn not_continuous_text(
     alloc: Global,
     program: &Program,

@@ -61,8 +61,8 @@ pub fn books_stand()
     ensures commits { (b : Ledger) (w : ℕ) (p : Proposed) (o : Outcome) → Stands b → Enabled p.instance p.reading → Allows b p o → Stands (left_by b w p o) }
 {}
 
-/// What was walked reduces the program as the records and the offset say, with duals too where no column has to be whole, and the records are
-/// sound.
+/// What was walked reduces the program as the records and the offset say, with duals too where no column has to be whole or is
+/// semi-continuous, and the records are sound.
 pub fn walks_reduce()
     ensures reduces { (numbers : Numbers) (program reduced : ProgramData) (told : Postsolve) → EntriesAscend program → Walked numbers program reduced told → ReducesTo program reduced told }
     ensures pairs { (numbers : Numbers) (program reduced : ProgramData) (told : Postsolve) → Walked numbers program reduced told → told.sense ≡ program.sense → Continuous (meaning program) → ReducesPairsTo program reduced told }

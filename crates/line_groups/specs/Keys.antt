@@ -5,7 +5,7 @@ use Rattle.rational.specs.Division.{◌/ℚ◌}
 use Rattle.rational.specs.Lowest.{over_of, under_of}
 use Rattle.lp_model.specs.declared.terms.Term.{Term}
 use Rattle.problem_model.specs.declared.part.Contents.{Contents}
-use Rattle.problem_model.specs.declared.part.Contents.TheVariants.{Gone, Entries, Sides, Column, Bounds}
+use Rattle.problem_model.specs.declared.part.Contents.TheVariants.{Gone, Entries, Sides, Column, Bounds, Semi}
 use Rattle.problem_model.specs.declared.part.Part.{Part}
 use Rattle.problem_model.specs.Parts.{contents_of}
 use Rattle.problem_model.specs.Sparse.{Sparse}
@@ -50,6 +50,7 @@ key_in (Entries ts) = key_of zero_ℚ ts
 key_in (Sides l u) = None
 key_in (Column ts c) = key_of c ts
 key_in (Bounds l u w) = None
+key_in (Semi l u w) = None
 
 abbrev pub key_at : Sparse → Part → Option ℕ
 key_at p a = key_in (contents_of p a)

@@ -4,3 +4,6 @@ pub mod RowReads
 pub mod DualReads
 pub mod Pairs
 pub mod OnePairVerdict
+pub mod Breaking
+pub mod ColumnReads
+pub mod OneVerdict

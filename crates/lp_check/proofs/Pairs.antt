@@ -15,8 +15,9 @@ meets_of s M x y c continuous decides =
       continuous = continuous;
       feasible = record {
         rows = λ i l. (decides.0.0.1 i l).1.0;
-        columns = λ j l. (decides.0.0.0 j l).0;
-        whole = λ j l. (decides.0.0.0 j l).1;
+        columns = λ j l. (decides.0.0.0 j l).0.0;
+        whole = λ j l. (decides.0.0.0 j l).0.1;
+        gaps = λ j l. (decides.0.0.0 j l).1;
       };
       rows = passed.0;
       columns = λ j l. (passed.1 j l).1;

@@ -9,17 +9,18 @@ use Rattle.lp_check.specs.declared.verdicts.Item.TheVariants.{Column, Row, Cost}
 use Rattle.lp_check.specs.declared.verdicts.Limit.{Limit}
 use Rattle.lp_check.specs.declared.verdicts.Verdict.{Verdict}
 use Rattle.lp_check.specs.declared.verdicts.Verdict.TheVariants.{Yes, No, Past}
-use Rattle.lp_check.specs.Limits.{Keeps, Breaks}
+use Rattle.lp_check.specs.Limits.{Keeps, Breaks, BreaksColumn}
+use Rattle.lp_model.specs.Gaps.{Clears}
 
 -- the item keeps its limits, and its sum, if it is one, has room
 abbrev pub Passes : LinearProgram → Vector → Item → Type 0
-Passes M x (Column j) = Keeps (M.lower_bound j) (M.upper_bound j) (M.whole j) (x j)
+Passes M x (Column j) = Keeps (M.lower_bound j) (M.upper_bound j) (M.whole j) (x j) × Clears (M.gap j) (x j)
 Passes M x (Row i) = ValueFits M i x × Keeps (M.lower_side i) (M.upper_side i) false (value_at M i x)
 Passes M x Cost = CostFits M x
 
 -- v is the item's value, and this is the limit that it breaks
 abbrev pub Fails : LinearProgram → Vector → Item → Number → Limit → Type 0
-Fails M x (Column j) v limit = (j < M.columns) × (v ≡ x j) × Breaks (M.lower_bound j) (M.upper_bound j) (M.whole j) v limit
+Fails M x (Column j) v limit = (j < M.columns) × (v ≡ x j) × BreaksColumn (M.gap j) (M.lower_bound j) (M.upper_bound j) (M.whole j) v limit
 Fails M x (Row i) v limit = (i < M.rows) × ValueFits M i x × (v ≡ value_at M i x) × Breaks (M.lower_side i) (M.upper_side i) false v limit
 Fails M x Cost v limit = ⊥
 

@@ -3,4 +3,4 @@ pub mod Deciding
 pub mod Summing
 pub mod Placing
 pub mod DecidingPairs
-pub mod FirstWhole
+pub mod FirstNotContinuous

@@ -6,11 +6,23 @@ ghost use Rattle.lp_model.specs.Meaning.{meaning};
 ghost use Rattle.lp_model.specs.Optimality.{Continuous};
 ghost use Rattle.lp_check.specs.Deciding.{ColumnsPass, Decides};
 ghost use Rattle.lp_check.specs.DecidingPairs.{IsOnCost};
-ghost use Rattle.lp_check.specs.FirstWhole.{IsFirstWhole};
+ghost use Rattle.lp_check.specs.FirstNotContinuous.{IsFirstNotContinuous};
+ghost use Rattle.lp_check.specs.Limits.{KeepsData, BreaksData};
 
 use crate::limits::broken_limit;
-use crate::verdicts::{Item, Verdict};
-use lp_model::{Point, Program};
+use crate::verdicts::{Item, Limit, Verdict};
+use fractions::frac::Frac;
+use lp_model::{ColumnDef, Point, Program};
+
+/// The first limit of a column that a value breaks. A semi-continuous column may be 0.
+fn limit_broken_by(column: &ColumnDef, value: &Frac) -> Option<Limit>
+    ensures { MatchOption result (KeepsData column.now value.now) (λ limit. BreaksData column.now value.now limit) }
+{
+    if column.semi && value.is_zero() {
+        return None;
+    }
+    broken_limit(&column.lower, &column.upper, column.whole, value)
+}
 
 /// No, by the first column whose value breaks a limit.
 pub fn failing_column(program: &Program, point: &Point) -> Option<Verdict>
@@ -23,7 +35,7 @@ pub fn failing_column(program: &Program, point: &Point) -> Option<Verdict>
     let numbers = point.as_slice();
     for j in 0..columns.len() {
         let column = &columns[j];
-        if let Some(limit) = broken_limit(&column.lower, &column.upper, column.whole, &numbers[j]) {
+        if let Some(limit) = limit_broken_by(column, &numbers[j]) {
             return Some(Verdict::No {
                 item: Item::Column(j as u32),
                 value: numbers[j],
@@ -34,14 +46,14 @@ pub fn failing_column(program: &Program, point: &Point) -> Option<Verdict>
     None
 }
 
-/// The first column, by id, that has to be whole.
-pub fn first_whole_column(program: &Program) -> Option<u32>
+/// The first column, by id, that has to be whole or is semi-continuous.
+pub fn first_not_continuous(program: &Program) -> Option<u32>
     requires { length program.now.columns < 2 ^ 32 }
-    ensures { MatchOption result (Continuous (meaning program.now)) (λ j. IsFirstWhole (meaning program.now) j) }
+    ensures { MatchOption result (Continuous (meaning program.now)) (λ j. IsFirstNotContinuous (meaning program.now) j) }
 {
     let columns = program.columns();
     for j in 0..columns.len() {
-        if columns[j].whole {
+        if columns[j].whole || columns[j].semi {
             return Some(j as u32);
         }
     }

@@ -4,6 +4,7 @@ ghost use Rattle.std.specs.Prelude.{◌≡◌, ◌<◌, ◌^◌, length, IfOk};
 ghost use Rattle.lp_model.specs.Vectors.{vector_of};
 ghost use Rattle.lp_model.specs.Meaning.{meaning};
 ghost use Rattle.lp_model.specs.Writable.{EntriesAscend};
+ghost use Rattle.lp_model.specs.Optimality.{Continuous};
 ghost use Rattle.lp_check.specs.Summing.{AreRowSums};
 ghost use Rattle.lp_check.specs.Deciding.{ColumnsPass, RowsPass, Decides};
 ghost use Rattle.lp_check.specs.DecidingPairs.{DecidesPair};
@@ -67,6 +68,7 @@ fn multipliers_verdict(
     requires few_rows { length program.now.rows < 2 ^ 32 }
     requires few_columns { length program.now.columns < 2 ^ 32 }
     requires ascends { EntriesAscend program.now }
+    requires continuous { Continuous (meaning program.now) }
     requires sums { AreRowSums (meaning program.now) (vector_of point.now) (length program.now.columns) sums.now }
     requires columns { ColumnsPass (meaning program.now) (vector_of point.now) (length program.now.columns) }
     requires rows { RowsPass (meaning program.now) (vector_of point.now) (length program.now.rows) }
@@ -87,7 +89,7 @@ fn multipliers_verdict(
 /// In a minimized program a dual above 0 passes where the row's value is at the lower side, and one below 0 where it is at the
 /// upper side; in a maximized one it is the other way round. So do reduced costs, by the columns' bounds.
 ///
-/// Where no column has to be whole, yes is a proof that no feasible point has a better cost ([`laws`](crate::laws)).
+/// Where no column has to be whole or is semi-continuous, yes is a proof that no feasible point has a better cost ([`laws`](crate::laws)).
 ///
 /// It goes over each entry twice, and holds one sum for each row.
 ///
@@ -104,6 +106,7 @@ pub fn check_pair(
     requires few_rows { length program.now.rows < 2 ^ 32 }
     requires few_columns { length program.now.columns < 2 ^ 32 }
     requires ascends { EntriesAscend program.now }
+    requires continuous { Continuous (meaning program.now) }
     ensures { IfOk result (λ verdict. DecidesPair program.now.sense (meaning program.now) (vector_of point.now) (vector_of duals.now) verdict) }
 {
     if let Some(verdict) = failing_column(program, point) {

@@ -47,8 +47,8 @@ pub fn verdicts_are_one()
     ensures { (M : LinearProgram) (x : Vector) (one other : Verdict) → Decides M x one → Decides M x other → one ≡ other }
 {}
 
-/// A point and duals with the verdict yes, of a program where no column has to be whole, meet the optimality conditions. The verdict
-/// has the point's cost, no feasible point has a better one, and all sums have room.
+/// A point and duals with the verdict yes, of a program where no column has to be whole or is semi-continuous, meet the optimality
+/// conditions. The verdict has the point's cost, no feasible point has a better one, and all sums have room.
 pub fn yes_with_duals_is_best()
     ensures meets { (s : Sense) (M : LinearProgram) (x y : Vector) (c : Number) → Continuous M → DecidesPair s M x y (OnPoint (Yes c)) → Meets s M x y }
     ensures best { (s : Sense) (M : LinearProgram) (x y : Vector) (c : Number) → Continuous M → DecidesPair s M x y (OnPoint (Yes c)) → (w : Vector) → Feasible M w → NoWorse s c (cost_at M w) }

@@ -16,7 +16,7 @@ mod rows;
 mod sums;
 mod verdicts;
 
-pub use columns::first_whole_column;
+pub use columns::first_not_continuous;
 pub use judging::{check_pair, check_point};
 pub use pair_verdicts::{End, Misplaced, PairVerdict};
 pub use verdicts::{Item, Limit, Verdict};

@@ -19,6 +19,7 @@ use Rattle.lp_theory.proofs.Steps.{fewer_points}
 use Rattle.lp_columns.specs.BestPlace.{IsBestAt, column_fixed_at}
 use Rattle.lp_columns.proofs.Held.{held_back, held_pair}
 use Rattle.lp_columns.proofs.Shifts.{less_than, at_least_more, at_most_less, dual_times_move, sum_not_negative}
+use Rattle.lp_theory.proofs.GapSteps.{gaps_moved}
 
 -- ---- a number b between ends, and a price z that no move to b raises, holds b at the end that the sign of z asks for
 -- a price times a move
@@ -59,6 +60,7 @@ module _ (M : LinearProgram) (j : ℕ) (b : Number) (f : IsBestAt M j b) where
     whole = at_or_off (λ k. k < M.columns → IsTrue (M.whole k) → IsWhole (put w j b k)) j
         (λ m e. rw (put-same w) (f.whole e))
         (λ k n m e. rw (put-other w j b k n) (h.whole k m e));
+    gaps = gaps_moved M j w b f.solid h.gaps;
   }
 
   cheaper : (w : Vector) → Feasible M w → cost_at M (put w j b) ≤ℚ cost_at M w

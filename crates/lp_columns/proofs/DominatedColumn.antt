@@ -21,6 +21,7 @@ use Rattle.lp_columns.specs.BestPlace.{column_fixed_at}
 use Rattle.lp_columns.specs.DominatedColumn.{IsDominatedColumn, dominated_column_fixed}
 use Rattle.lp_columns.proofs.Held.{apart_low, held_back, held_pair}
 use Rattle.lp_columns.proofs.Shifts.{not_up, not_down, less_than, more_than, at_least_more, shifted, up_by_down, down_by_down, sum_not_negative}
+use Rattle.lp_theory.proofs.GapSteps.{gaps_moved}
 
 -- an end is none where it can be no number
 none_of : (o : Option Number) → ((e : Number) → o ≡ Some e → ⊥) → o ≡ None
@@ -84,6 +85,7 @@ module _ (M : LinearProgram) (j k : ℕ) (b : Number) (d : IsDominatedColumn M j
         (λ p nk m t. at_or_off (λ p. p ≢ k → p < M.columns → IsTrue (M.whole p) → IsWhole (moved w p)) j
         (λ nk m t. subst IsWhole (sym (at_first w)) (difference_whole (w j) (b -ℚ w k) (h.whole j m t) (difference_whole b (w k) (d.whole (d.both_whole t)) (h.whole k d.second (d.both_whole t)))))
         (λ p nj nk m t. subst IsWhole (sym (at_other w p nj nk)) (h.whole p m t)) p nk m t);
+    gaps = gaps_moved M k (put w j (w j -ℚ (b -ℚ w k))) b d.second_solid (gaps_moved M j w (w j -ℚ (b -ℚ w k)) d.first_solid h.gaps);
   }
 
   cheaper : (w : Vector) → Feasible M w → cost_at M (moved w) ≤ℚ cost_at M w

@@ -61,6 +61,7 @@ best M j b f = record {
   column = f.column;
   within = rests_between (M.costs j) b (M.lower_bound j) (M.upper_bound j) f.apart f.place;
   whole = f.whole;
+  solid = f.solid;
   cheap = λ x h. rests_best (M.costs j) b x (M.lower_bound j) (M.upper_bound j) f.place h;
   rows = λ i l x y h g. subst (Between (M.lower_side i) (M.upper_side i)) (sym (ap (λ a. y +ℚ a *ℚ (b -ℚ x)) (f.empty i l) ∙ ring rational (y ∷ (b -ℚ x) ∷ []) (v 0 :+ num (pos 0) :* v 1) (v 0) refl)) g;
 }

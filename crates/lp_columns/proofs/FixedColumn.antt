@@ -20,6 +20,7 @@ use Rattle.lp_theory.proofs.Pairs.{some_inj}
 use Rattle.lp_theory.proofs.Steps.{no_worse_same}
 use Rattle.lp_columns.proofs.Held.{pinned}
 use Rattle.lp_columns.specs.FixedColumn.{IsFixedColumn, fixed_column_deleted, fixed_column_offset, undo_fixed_column, undo_fixed_column_pair}
+use Rattle.lp_theory.proofs.GapSteps.{gaps_moved, gaps_off, gaps_back}
 
 less_out : (l u : Option Number) (c w : Number) → Between (less l c) (less u c) w → Between l u (w +ℚ c)
 less_out l u c w b = record { low = (less-low l c w).0 b.low; high = (less-high u c w).0 b.high }
@@ -51,6 +52,7 @@ module _ (M : LinearProgram) (j : ℕ) (b : Number) (f : IsFixedColumn M j b) wh
     whole = at_or_off (λ k. k < M.columns → IsTrue (M.whole k) → IsWhole (put x j b k)) j
         (λ c w. rw (put-same x) (f.whole w))
         (λ k n c w. rw (put-other x j b k n) (h.whole k c (put-other M.whole j false k n ∙ w)));
+    gaps = gaps_moved M j x b f.solid (gaps_back M j x f.solid h.gaps);
   }
 
   value_of_j : (w : Vector) → Feasible M w → w j ≡ b
@@ -66,6 +68,7 @@ module _ (M : LinearProgram) (j : ℕ) (b : Number) (f : IsFixedColumn M j b) wh
     whole = at_or_off (λ k. k < M.columns → IsTrue (put M.whole j false k) → IsWhole (w k)) j
         (λ c e. absurd (let g = put-same M.whole j false in cc))
         (λ k n c e. h.whole k c (sym (put-other M.whole j false k n) ∙ e));
+    gaps = gaps_off M j w h.gaps;
   }
 
   pub fixed_column : (d : Sense) → Reduces d M (fixed_column_deleted M j b) (undo_fixed_column j b) (fixed_column_offset M j b)

@@ -36,6 +36,7 @@ module _ (M : LinearProgram) (j : ℕ) (b : Number) (l : j < M.columns) (within 
         (λ m. subst (Between (M.lower_bound j) (M.upper_bound j)) (sym (held_at x h)) within)
         (λ k n m. rw (← put-other M.lower_bound j (Some b) k n, ← put-other M.upper_bound j (Some b) k n) (h.columns k m));
     whole = h.whole;
+    gaps = h.gaps;
   }
 
   -- the same point and duals meet the conditions of the program before, where the column's reduced cost has a sign that its old bounds allow

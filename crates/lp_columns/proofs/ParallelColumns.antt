@@ -23,6 +23,7 @@ use Rattle.lp_theory.proofs.ActivityLaws.{AtLeast-+, AtMost-+, least_term-low, g
 use Rattle.lp_theory.proofs.Nearest.{near-whole, met_low_whole, met_high_whole, near_in_both}
 use Rattle.lp_theory.proofs.Steps.{no_worse_same, plus_zero}
 use Rattle.lp_columns.specs.ParallelColumns.{AreWhole, AreParallelColumns, joined_lower, joined_upper, parallel_columns_joined, part_of, undo_parallel_columns}
+use Rattle.lp_theory.proofs.GapSteps.{gaps_moved, gaps_off, gaps_back}
 
 -- ---- what the bounds of one part leave the other
 left_in_order : (X : Number) (l u : Option Number) → InOrder l u → InOrder (minus_ends (Some X) u) (minus_ends (Some X) l)
@@ -177,6 +178,7 @@ module _ (M : LinearProgram) (j k : ℕ) (s : Number) (d : AreParallelColumns M 
         (λ l t. subst IsWhole (sym (split_first x)) (whole_first x h t))
         (λ l t. subst IsWhole (sym (split_second x)) (whole_second x h t))
         (λ p nj nk l t. subst IsWhole (sym (split_other x p nj nk)) (h.whole p l (put-other M.whole j false p nj ∙ t)));
+    gaps = gaps_moved M k (put x j (b x)) (x k -ℚ s *ℚ b x) d.second_solid (gaps_moved M j x (b x) d.first_solid (gaps_back M j x d.first_solid h.gaps));
   }
 
   joined_whole : (w : Vector) → Feasible M w → IsTrue (M.whole k) → IsWhole (w k +ℚ s *ℚ w j)
@@ -199,6 +201,7 @@ module _ (M : LinearProgram) (j k : ℕ) (s : Number) (d : AreParallelColumns M 
         (λ l e. absurd (let f = put-same M.whole j false in cc))
         (λ l e. subst IsWhole (sym (put-same w k (w k +ℚ s *ℚ w j))) (joined_whole w h (sym (put-other M.whole j false k kj) ∙ e)))
         (λ p nj nk l e. subst IsWhole (sym (put-other w k (w k +ℚ s *ℚ w j) p nk)) (h.whole p l (sym (put-other M.whole j false p nj) ∙ e)));
+    gaps = gaps_off M j (joined w) (gaps_moved M k w (w k +ℚ s *ℚ w j) d.second_solid h.gaps);
   }
 
   pub parallel_columns : (z : Sense) → Reduces z M R split zero_ℚ

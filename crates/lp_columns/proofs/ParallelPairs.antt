@@ -1,5 +1,5 @@
 -- Parallel columns: pairs.
-use Rattle.std.proofs.Common.{◌≡◌, ◌≢◌, ℕ, ◌<◌, sym, refl, ap, ap₂, ◌∙◌, [], ◌∷◌, inl, inr, subst, Option, Some, false}
+use Rattle.std.proofs.Common.{◌≡◌, ◌≢◌, ℕ, ◌<◌, sym, refl, ap, ap₂, ◌∙◌, [], ◌∷◌, inl, inr, subst, Option, Some, None, false}
 use Rattle.rational.specs.Ring.{ring, v, ◌:+◌, ◌:-◌, ◌:*◌}
 use Rattle.rational.specs.Number.{Number, rational, zero_ℚ, ◌+ℚ◌, ◌-ℚ◌, ◌*ℚ◌}
 use Rattle.rational.specs.Order.{◌≤ℚ◌, ◌<ℚ◌, ≤ℚ_antisym, ≤ℚ_cases, <ℚ-≤ℚ, <ℚ-not}
@@ -77,9 +77,9 @@ module _ (M : LinearProgram) (j k : ℕ) (s : Number) (d : AreParallelColumns M 
 
   -- no whole column is left, so neither was the deleted one whole
   no_whole : Continuous R → Continuous M
-  no_whole c = at_or_off (λ p. p < M.columns → M.whole p ≡ false) j
-      (λ l. elim d.kinds [ inl a ↦ a.first | inr a ↦ absurd (let e = sym (put-other M.whole j false k (kj M j k s d)) ∙ c k d.second in let f = a.second in cc) ])
-      (λ p n l. sym (put-other M.whole j false p n) ∙ c p l)
+  no_whole c = at_or_off (λ p. p < M.columns → (M.whole p ≡ false) × (M.gap p ≡ None)) j
+      (λ l. (elim d.kinds [ inl a ↦ a.first | inr a ↦ absurd (let e = sym (put-other M.whole j false k (kj M j k s d)) ∙ (c k d.second).0 in let f = a.second in cc) ], d.first_solid))
+      (λ p n l. (sym (put-other M.whole j false p n) ∙ (c p l).0, sym (put-other M.gap j None p n) ∙ (c p l).1))
 
   -- what each reduced cost asks of a bound of the program before
   sits : (r : Priced) → Carries R r → (q : ℕ) → q < M.columns → Sits Min (M.lower_bound q) (M.upper_bound q) (split r.x q) (put r.z j (s *ℚ r.z k) q)

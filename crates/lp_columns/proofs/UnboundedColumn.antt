@@ -1,5 +1,5 @@
 -- A column that can go on for ever.
-use Rattle.std.proofs.Common.{◌≡◌, ℕ, ◌<◌, pos, sym, refl, ◌∙◌, [], ◌∷◌, inl, inr, subst, IsTrue}
+use Rattle.std.proofs.Common.{◌≡◌, ℕ, ◌<◌, pos, sym, refl, ◌∙◌, [], ◌∷◌, inl, inr, subst, None, IsTrue}
 use Rattle.rational.specs.Ring.{ring, v, num, ◌:+◌, ◌:-◌, ◌:*◌, inv}
 use Rattle.rational.specs.Number.{Number, rational, zero_ℚ, one_ℚ, ◌+ℚ◌, ◌-ℚ◌, ◌*ℚ◌, neg_ℚ, of_ℤ}
 use Rattle.rational.specs.Order.{◌≤ℚ◌, ◌<ℚ◌, ≤ℚ_trans, <ℚ-≤ℚ, <ℚ-not}
@@ -21,6 +21,7 @@ use Rattle.lp_theory.proofs.Moves.{value_moves, cost_moves}
 use Rattle.lp_theory.proofs.Pairs.{below_if_not}
 use Rattle.lp_columns.specs.UnboundedColumn.{RisesForEver, FallsForEver, IsUnboundedColumn}
 use Rattle.lp_columns.proofs.Shifts.{shifted, up_by_up, down_by_up, up_by_down, down_by_down}
+use Rattle.lp_theory.proofs.GapSteps.{gaps_moved}
 
 -- column j can go e further, any whole number of times, and costs less each time
 record Direction (M : LinearProgram) (j : ℕ) (e : Number) : Type 0 where
@@ -45,7 +46,7 @@ steps-whole : (c d : Number) → IsWhole (steps c d)
 unfolding steps
 steps-whole c d = record { whole = ceil_of (max_ℚ zero_ℚ (d /ℚ c)); same = refl }
 
-module _ (M : LinearProgram) (j : ℕ) (e : Number) (l : j < M.columns) (d : Direction M j e) where
+module _ (M : LinearProgram) (j : ℕ) (e : Number) (l : j < M.columns) (free : M.gap j ≡ None) (d : Direction M j e) where
   -- the point with column j t steps further
   abbrev further : Vector → Number → Vector
   further x t = put x j (x j +ℚ e *ℚ t)
@@ -65,6 +66,7 @@ module _ (M : LinearProgram) (j : ℕ) (e : Number) (l : j < M.columns) (d : Dir
     whole = at_or_off (λ k. k < M.columns → IsTrue (M.whole k) → IsWhole (further x t k)) j
         (λ m q. subst IsWhole (sym (put-same x j (x j +ℚ e *ℚ t))) (IsWhole-+ℚ (h.whole j m q) (IsWhole-*ℚ d.step w)))
         (λ k n m q. subst IsWhole (sym (put-other x j (x j +ℚ e *ℚ t) k n)) (h.whole k m q));
+    gaps = gaps_moved M j x (x j +ℚ e *ℚ t) free h.gaps;
   }
 
   endless : NoPointOrEndless Min M
@@ -108,4 +110,4 @@ downwards M j r = record {
 }
 
 pub unbounded_column : (M : LinearProgram) (j : ℕ) → IsUnboundedColumn M j → NoPointOrEndless Min M
-unbounded_column M j r = elim r.goes [ inl u ↦ endless M j one_ℚ r.column (upwards M j u) | inr f ↦ endless M j (neg_ℚ one_ℚ) r.column (downwards M j f) ]
+unbounded_column M j r = elim r.goes [ inl u ↦ endless M j one_ℚ r.column r.solid (upwards M j u) | inr f ↦ endless M j (neg_ℚ one_ℚ) r.column r.solid (downwards M j f) ]

@@ -1,5 +1,5 @@
 -- A column fixed at its best place: no other number between its bounds costs less or helps a row.
-use Rattle.std.specs.Prelude.{ℕ, ◌<◌, IsTrue, Some}
+use Rattle.std.specs.Prelude.{◌≡◌, ℕ, ◌<◌, IsTrue, Some, None}
 use Rattle.rational.specs.Number.{Number, zero_ℚ, ◌+ℚ◌, ◌-ℚ◌, ◌*ℚ◌}
 use Rattle.rational.specs.Order.{◌≤ℚ◌}
 use Rattle.rational.specs.Ends.{Between}
@@ -13,6 +13,7 @@ pub record IsBestAt (M : LinearProgram) (j : ℕ) (v : Number) : Type 0 where
   pub column : j < M.columns
   pub within : Between (M.lower_bound j) (M.upper_bound j) v
   pub whole : IsTrue (M.whole j) → IsWhole v
+  pub solid : M.gap j ≡ None
   pub cheap : (x : Number) → Between (M.lower_bound j) (M.upper_bound j) x → (M.costs j *ℚ (v -ℚ x)) ≤ℚ zero_ℚ
   pub rows : (i : ℕ) → i < M.rows → (x y : Number) → Between (M.lower_bound j) (M.upper_bound j) x → Between (M.lower_side i) (M.upper_side i) y
       → Between (M.lower_side i) (M.upper_side i) (y +ℚ M.coefficient i j *ℚ (v -ℚ x))

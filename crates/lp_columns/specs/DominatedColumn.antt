@@ -22,6 +22,8 @@ pub record IsDominatedColumn (M : LinearProgram) (j k : ℕ) (v : Number) : Type
   pub above : (i : ℕ) → i < M.rows → (L : Number) → M.lower_side i ≡ Some L → M.coefficient i k ≤ℚ M.coefficient i j
   pub both_whole : IsTrue (M.whole j) → IsTrue (M.whole k)
   pub whole : IsTrue (M.whole k) → IsWhole v
+  pub first_solid : M.gap j ≡ None
+  pub second_solid : M.gap k ≡ None
 
 -- u_k becomes l_k; nothing is to be undone
 abbrev pub dominated_column_fixed : LinearProgram → ℕ → Number → LinearProgram

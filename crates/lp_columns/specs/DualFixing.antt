@@ -1,5 +1,5 @@
 -- K10 (dual fixing): a column that no row locks in the direction in which it doesn't cost more is fixed at its bound there.
-use Rattle.std.specs.Prelude.{◌≡◌, ◌⊎◌, ℕ, ◌<◌, IsTrue, Some}
+use Rattle.std.specs.Prelude.{◌≡◌, ◌⊎◌, ℕ, ◌<◌, IsTrue, Some, None}
 use Rattle.rational.specs.Number.{Number, zero_ℚ}
 use Rattle.rational.specs.Order.{◌≤ℚ◌, ◌<ℚ◌}
 use Rattle.rational.specs.Floor.{IsWhole}
@@ -25,6 +25,7 @@ pub record GoesUp (M : LinearProgram) (j : ℕ) (v : Number) : Type 0 where
 -- (that down is taken where it can do both, and that no sides of its rows are crossed, is a matter of the scan alone)
 pub record IsDualFixing (M : LinearProgram) (j : ℕ) (v : Number) : Type 0 where
   pub column : j < M.columns
+  pub solid : M.gap j ≡ None
   pub apart : (l u : Number) → M.lower_bound j ≡ Some l → M.upper_bound j ≡ Some u → l <ℚ u
   pub goes : GoesDown M j v ⊎ GoesUp M j v
 

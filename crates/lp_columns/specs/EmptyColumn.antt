@@ -24,6 +24,7 @@ pub record IsEmptyColumn (M : LinearProgram) (j : ℕ) (v : Number) : Type 0 whe
   pub apart : (l u : Number) → M.lower_bound j ≡ Some l → M.upper_bound j ≡ Some u → l <ℚ u
   pub place : resting_place (M.costs j) (M.lower_bound j) (M.upper_bound j) ≡ Some v
   pub whole : IsTrue (M.whole j) → IsWhole v
+  pub solid : M.gap j ≡ None
 
 -- both bounds become v; nothing is to be undone
 abbrev pub empty_column_fixed : LinearProgram → ℕ → Number → LinearProgram

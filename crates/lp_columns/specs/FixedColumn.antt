@@ -1,5 +1,5 @@
 -- K3: a column whose bounds are one number v is deleted, with x_j = v.
-use Rattle.std.specs.Prelude.{◌≡◌, ℕ, ◌<◌, IsTrue, Some}
+use Rattle.std.specs.Prelude.{◌≡◌, ℕ, ◌<◌, IsTrue, Some, None}
 use Rattle.rational.specs.Number.{Number, ◌*ℚ◌}
 use Rattle.rational.specs.Floor.{IsWhole}
 use Rattle.rational.specs.Total.{put}
@@ -15,6 +15,7 @@ pub record IsFixedColumn (M : LinearProgram) (j : ℕ) (v : Number) : Type 0 whe
   pub lower : M.lower_bound j ≡ Some v
   pub upper : M.upper_bound j ≡ Some v
   pub whole : IsTrue (M.whole j) → IsWhole v
+  pub solid : M.gap j ≡ None
 
 -- the column is deleted, and a v leaves the sides of its rows
 abbrev pub fixed_column_deleted : LinearProgram → ℕ → Number → LinearProgram

@@ -1,5 +1,5 @@
 -- K16: a column j that is s times another column k, in its entries and in its cost, joins it.
-use Rattle.std.specs.Prelude.{◌≡◌, ◌≢◌, ◌⊎◌, ℕ, ◌<◌, false, IsTrue, Option, Some, IfSome}
+use Rattle.std.specs.Prelude.{◌≡◌, ◌≢◌, ◌⊎◌, ℕ, ◌<◌, false, IsTrue, Option, Some, None, IfSome}
 use Rattle.rational.specs.Number.{Number, zero_ℚ, one_ℚ, ◌-ℚ◌, ◌*ℚ◌, neg_ℚ}
 use Rattle.rational.specs.Floor.{IsWhole}
 use Rattle.rational.specs.Total.{put}
@@ -42,6 +42,8 @@ pub record AreParallelColumns (M : LinearProgram) (j k : ℕ) (s : Number) : Typ
   pub first_bounds : InOrder (M.lower_bound j) (M.upper_bound j)
   pub second_bounds : InOrder (M.lower_bound k) (M.upper_bound k)
   pub kinds : AreContinuous M j k ⊎ AreWhole M j k s
+  pub first_solid : M.gap j ≡ None
+  pub second_solid : M.gap k ≡ None
 
 -- the bounds of x_k + s x_j: l_k + s l_j and u_k + s u_j, for s below 0 l_k + s u_j and u_k + s l_j
 abbrev pub joined_lower : LinearProgram → ℕ → ℕ → Number → Option Number

@@ -20,4 +20,5 @@ pub record FallsForEver (M : LinearProgram) (j : ℕ) : Type 0 where
 -- enabled at column j, in the minimizing sense (that neither its bounds nor the sides of its rows are crossed is a matter of the scan alone)
 pub record IsUnboundedColumn (M : LinearProgram) (j : ℕ) : Type 0 where
   pub column : j < M.columns
+  pub solid : M.gap j ≡ None
   pub goes : RisesForEver M j ⊎ FallsForEver M j

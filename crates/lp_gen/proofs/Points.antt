@@ -17,6 +17,7 @@ use Rattle.lp_model.specs.declared.program.RowDef.{RowDef}
 use Rattle.lp_model.specs.declared.program.ColumnDef.{ColumnDef}
 use Rattle.lp_model.specs.LinearProgram.{LinearProgram, Feasible, value_at, cost_at}
 use Rattle.lp_model.specs.Meaning.{meaning, no_row, no_column, row_at, column_at}
+use Rattle.lp_model.specs.Gaps.{Clears, gap_of, reach_lower, reach_upper}
 use Rattle.lp_model.specs.Sparse.{dense}
 use Rattle.lp_model.specs.Vectors.{Vector}
 use Rattle.lp_model.specs.Verdicts.{NoPoint, NoPointOrEndless}
@@ -94,8 +95,9 @@ module _ (seed rows columns : ℕ) where
   pub ones_feasible : Feasible program ones
   ones_feasible = record {
     rows = λ i l. row_holds i (in_rows i l);
-    columns = λ j l. subst (λ (column : ColumnDef). Between column.lower column.upper one_ℚ) (sym (column_is j (in_columns j l))) within;
+    columns = λ j l. subst (λ (column : ColumnDef). Between (reach_lower column.semi column.lower column.upper) (reach_upper column.semi column.lower column.upper) one_ℚ) (sym (column_is j (in_columns j l))) within;
     whole = λ j l t. record { whole = pos 1; same = refl };
+    gaps = λ j l. subst (λ (column : ColumnDef). Clears (gap_of column.semi column.lower column.upper) one_ℚ) (sym (column_is j (in_columns j l))) tt;
   }
     where
       row_holds : (i : ℕ) → i < rows → Between (program.lower_side i) (program.upper_side i) (value_at program i ones)
@@ -119,7 +121,7 @@ module _ (seed rows columns : ℕ) where
           subst (λ (column : ColumnDef). zero_ℚ ≤ℚ column.cost) (sym (column_is j l)) (not_negative (drawn (column_seed (columns_seed seed rows) j) 0 11))
 
       coordinate : (j : ℕ) → j < program.columns → zero_ℚ ≤ℚ x j
-      coordinate j l = subst (λ (column : ColumnDef). ends.AtLeast column.lower (x j)) (column_is j (in_columns j l)) (holds.columns j l).low
+      coordinate j l = subst (λ (column : ColumnDef). ends.AtLeast (reach_lower column.semi column.lower column.upper) (x j)) (column_is j (in_columns j l)) (holds.columns j l).low
 
   -- ---- no verdict is true
   -- the point of all ones would give one that costs less than 0

@@ -47,6 +47,7 @@ column_from seed rows j = record {
   lower = Some zero_ℚ;
   upper = Some (whole 10);
   whole = false;
+  semi = false;
   entries = terms_of (entries_seed seed) rows 3;
 }
 

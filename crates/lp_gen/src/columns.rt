@@ -95,6 +95,7 @@ fn draw_column(
         lower: Ext::at(Frac::zero()),
         upper: Ext::at(whole(10)),
         whole: false,
+        semi: false,
         entries: Terms::new(terms),
     })
 }

@@ -22,6 +22,7 @@ without_column M j v = record M {
   lower_bound = put M.lower_bound j None;
   upper_bound = put M.upper_bound j None;
   whole = put M.whole j false;
+  gap = put M.gap j None;
   costs = put M.costs j zero_ℚ;
 }
 

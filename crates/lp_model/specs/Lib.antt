@@ -10,6 +10,7 @@ pub mod Name
 pub mod Names
 pub mod Meaning
 pub mod Violations
+pub mod GivenPoints
 pub mod Room
 pub mod Writable
 pub mod Turning
@@ -17,5 +18,6 @@ pub mod Edits
 pub mod Flags
 pub mod EndTests
 pub mod Ends
+pub mod Gaps
 pub use Rattle.fractions.specs.FracWords
 pub use Rattle.fractions.specs.declared.Numbers

@@ -1,5 +1,5 @@
 -- The optimality conditions of linear programming duality.
-use Rattle.std.specs.Prelude.{◌≡◌, ℕ, ◌<◌, false}
+use Rattle.std.specs.Prelude.{◌≡◌, ℕ, ◌<◌, false, None}
 use Rattle.rational.specs.Number.{Number, ◌-ℚ◌, ◌*ℚ◌}
 use Rattle.lp_model.specs.declared.program.Sense.{Sense}
 use Rattle.rational.specs.Total.{total}
@@ -7,9 +7,9 @@ use Rattle.lp_model.specs.Vectors.{Vector}
 use Rattle.lp_model.specs.LinearProgram.{LinearProgram, value_at, Feasible}
 use Rattle.lp_model.specs.Senses.{Sits}
 
--- no column has to be whole
+-- no column is whole or semi-continuous
 abbrev pub Continuous : LinearProgram → Type 0
-Continuous M = (j : ℕ) → j < M.columns → M.whole j ≡ false
+Continuous M = (j : ℕ) → j < M.columns → (M.whole j ≡ false) × (M.gap j ≡ None)
 
 -- c_j - sum of y_i a_ij: what the rows' multipliers leave of the cost of column j
 abbrev pub reduced_cost : LinearProgram → Vector → ℕ → Number

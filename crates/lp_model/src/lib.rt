@@ -5,6 +5,7 @@
 
 pub mod ends;
 mod labels;
+pub mod laws;
 mod name;
 mod plain;
 mod point;

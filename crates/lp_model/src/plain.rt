@@ -168,6 +168,9 @@ fn is_whole(value: &Frac) -> bool
 fn column_violation(column: &ColumnDef, id: usize, value: Frac) -> Option<Violation>
     ensures { MatchOption result (FitsColumn column.now value) (λ found. BreaksColumn column.now id value found) }
 {
+    if column.semi && value.is_zero() {
+        return None;
+    }
     match passed_end(&column.lower, &column.upper, &value) {
         Some(limit) => Some(Violation::Bound {
             column: id,

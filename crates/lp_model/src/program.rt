@@ -33,6 +33,7 @@ pub struct ColumnDef {
     pub lower: Ext,
     pub upper: Ext,
     pub whole: bool,
+    pub semi: bool,
     pub entries: Terms,
 }
 

@@ -17,6 +17,8 @@ use Rattle.lp_passages.specs.Renumbering.{IsLeftOut, written, IsRest, gathered, 
 use Rattle.lp_passages.proofs.Ids.{ids-at, each_id, spread-at, spread-off, total-ids}
 use Rattle.lp_theory.proofs.Pairs.{not_below}
 use Rattle.lp_theory.proofs.Steps.{no_worse_same, plus_zero}
+use Rattle.lp_model.specs.Gaps.{Clears}
+use Rattle.lp_theory.proofs.GapSteps.{solid}
 
 zero_times : (a b : Number) → a ≡ zero_ℚ → a *ℚ b ≡ zero_ℚ
 zero_times a b e = ap (λ c. c *ℚ b) e ∙ ring rational (b ∷ []) (num (pos 0) :* v 0) (num (pos 0)) refl
@@ -65,6 +67,9 @@ module _ (M : LinearProgram) (rows columns : List ℕ) (r : IsRest M rows column
     whole = each_id (λ j. IsTrue (M.whole j) → IsWhole (spread columns x j)) columns M.columns
         (λ b l t. subst IsWhole (sym (spread-at columns zero M.columns b x r.columns_ascend l)) (h.whole b l t))
         (λ j l o t. absurd (let f = r.not_whole j l o in cc));
+    gaps = each_id (λ j. Clears (M.gap j) (spread columns x j)) columns M.columns
+        (λ b l. subst (Clears (M.gap (slice_index columns b))) (sym (spread-at columns zero M.columns b x r.columns_ascend l)) (h.gaps b l))
+        (λ j l o. solid (M.gap j) (spread columns x j) (r.no_gap j l o));
   }
 
   pub feasible_gathered : (x : Vector) → Feasible M x → Feasible (written M rows columns) (gathered columns x)
@@ -72,6 +77,7 @@ module _ (M : LinearProgram) (rows columns : List ℕ) (r : IsRest M rows column
     rows = λ a l. subst (Between (M.lower_side (slice_index rows a)) (M.upper_side (slice_index rows a))) (value-gathered a x) (h.rows (slice_index rows a) (ids-at rows zero M.rows a r.rows_ascend l).1);
     columns = λ b l. h.columns (slice_index columns b) (ids-at columns zero M.columns b r.columns_ascend l).1;
     whole = λ b l. h.whole (slice_index columns b) (ids-at columns zero M.columns b r.columns_ascend l).1;
+    gaps = λ b l. h.gaps (slice_index columns b) (ids-at columns zero M.columns b r.columns_ascend l).1;
   }
 
   pub reduces_to_written : (s : Sense) → Reduces s M (written M rows columns) (spread columns) zero_ℚ
@@ -105,7 +111,7 @@ module _ (M : LinearProgram) (rows columns : List ℕ) (r : IsRest M rows column
         (λ b l. spread-at columns zero M.columns b p.z r.columns_ascend l ∙ i b l ∙ sym (reduced-spread p.y b))
         (λ j l o. spread-off columns j p.z o ∙ sym (reduced-off (spread rows p.y) j l o));
     meets = λ p i m. record {
-      continuous = each_id (λ j. M.whole j ≡ false) columns M.columns (λ b l. m.continuous b l) r.not_whole;
+      continuous = each_id (λ j. (M.whole j ≡ false) × (M.gap j ≡ None)) columns M.columns (λ b l. m.continuous b l) (λ j l o. (r.not_whole j l o, r.no_gap j l o));
       feasible = feasible_spread p.x m.feasible;
       rows = each_id (λ i. Sits s (M.lower_side i) (M.upper_side i) (value_at M i (spread columns p.x)) (spread rows p.y i)) rows M.rows
           (λ a l. rw (value-spread a p.x, spread-at rows zero M.rows a p.y r.rows_ascend l) (m.rows a l))

@@ -51,10 +51,10 @@ cost-negated M x = ap (λ t. t +ℚ neg_ℚ M.constant) (total-neg M.columns M.c
 
 -- ---- points
 pub feasible_turned : (M : LinearProgram) (x : Vector) → Feasible M x → Feasible (negated M) x
-feasible_turned M x h = record { rows = h.rows; columns = h.columns; whole = h.whole }
+feasible_turned M x h = record { rows = h.rows; columns = h.columns; whole = h.whole; gaps = h.gaps }
 
 pub feasible_back : (M : LinearProgram) (x : Vector) → Feasible (negated M) x → Feasible M x
-feasible_back M x h = record { rows = h.rows; columns = h.columns; whole = h.whole }
+feasible_back M x h = record { rows = h.rows; columns = h.columns; whole = h.whole; gaps = h.gaps }
 
 pub reduces_max : (M R : LinearProgram) (f : Vector → Vector) (k : Number) → Reduces Min (negated M) (negated R) f (neg_ℚ k) → Reduces Max M R f k
 reduces_max M R f k r = record {

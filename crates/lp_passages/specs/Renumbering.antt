@@ -32,6 +32,7 @@ with_columns_at columns M = record M {
   lower_bound = λ b. M.lower_bound (slice_index columns b);
   upper_bound = λ b. M.upper_bound (slice_index columns b);
   whole = λ b. M.whole (slice_index columns b);
+  gap = λ b. M.gap (slice_index columns b);
   costs = λ b. M.costs (slice_index columns b);
 }
 
@@ -49,6 +50,7 @@ pub record IsRest (M : LinearProgram) (rows columns : List ℕ) : Type 0 where
   pub no_lower_bound : (j : ℕ) → j < M.columns → IsLeftOut j columns → M.lower_bound j ≡ None
   pub no_upper_bound : (j : ℕ) → j < M.columns → IsLeftOut j columns → M.upper_bound j ≡ None
   pub not_whole : (j : ℕ) → j < M.columns → IsLeftOut j columns → M.whole j ≡ false
+  pub no_gap : (j : ℕ) → j < M.columns → IsLeftOut j columns → M.gap j ≡ None
   pub no_cost : (j : ℕ) → j < M.columns → IsLeftOut j columns → M.costs j ≡ zero_ℚ
 
 -- numbers by new id, from those by original id

@@ -170,6 +170,7 @@ module _ (M : LinearProgram) (i j : ℕ) (f : OneSide) (t : Tightening) (d : IsC
             (λ p n l. rw (← put-other M.lower_side i (lower_alone f (new_side M i j f t)) p n, ← put-other M.upper_side i (upper_alone f (new_side M i j f t)) p n, ← same_off_i x p n) (h.rows p l));
         columns = h.columns;
         whole = h.whole;
+        gaps = h.gaps;
       })
       (λ x h. record {
         rows = at_or_off (λ p. p < M.rows → Between (put M.lower_side i (lower_alone f (new_side M i j f t)) p) (put M.upper_side i (upper_alone f (new_side M i j f t)) p) (value_at R p x)) i
@@ -177,4 +178,5 @@ module _ (M : LinearProgram) (i j : ℕ) (f : OneSide) (t : Tightening) (d : IsC
             (λ p n l. rw (put-other M.lower_side i (lower_alone f (new_side M i j f t)) p n, put-other M.upper_side i (upper_alone f (new_side M i j f t)) p n, same_off_i x p n) (h.rows p l));
         columns = h.columns;
         whole = h.whole;
+        gaps = h.gaps;
       })

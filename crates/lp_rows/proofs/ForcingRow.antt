@@ -211,8 +211,8 @@ module _ (M : LinearProgram) (i : ℕ) (d : IsForcedAtLowerSide M i) where
 
   held_first_low : (s : Sense) → Reduces s M held_low (λ x. x) zero_ℚ
   held_first_low s = same_points s M held_low (λ x. refl)
-      (λ x h. record { rows = h.rows; columns = held_within_low x h.columns; whole = h.whole })
-      (λ x h. record { rows = h.rows; columns = held_in_low x h; whole = h.whole })
+      (λ x h. record { rows = h.rows; columns = held_within_low x h.columns; whole = h.whole; gaps = h.gaps })
+      (λ x h. record { rows = h.rows; columns = held_in_low x h; whole = h.whole; gaps = h.gaps })
 
   side_kept_low : (x : Vector) → value_at M i x ≡ d.number → Between (M.lower_side i) (M.upper_side i) (value_at M i x)
   side_kept_low x e = record { low = subst (λ o. AtLeast o (value_at M i x)) (sym d.side) (≤ℚ-same (sym e)); high = subst (AtMost (M.upper_side i)) (sym e) (at_lower_end (M.upper_side i) d.number (subst (λ o. AreCrossed o (M.upper_side i) → ⊥) d.side d.uncrossed.sides)) }
@@ -285,8 +285,8 @@ module _ (M : LinearProgram) (i : ℕ) (d : IsForcedAtUpperSide M i) where
 
   held_first_high : (s : Sense) → Reduces s M held_high (λ x. x) zero_ℚ
   held_first_high s = same_points s M held_high (λ x. refl)
-      (λ x h. record { rows = h.rows; columns = held_within_high x h.columns; whole = h.whole })
-      (λ x h. record { rows = h.rows; columns = held_in_high x h; whole = h.whole })
+      (λ x h. record { rows = h.rows; columns = held_within_high x h.columns; whole = h.whole; gaps = h.gaps })
+      (λ x h. record { rows = h.rows; columns = held_in_high x h; whole = h.whole; gaps = h.gaps })
 
   side_kept_high : (x : Vector) → value_at M i x ≡ d.number → Between (M.lower_side i) (M.upper_side i) (value_at M i x)
   side_kept_high x e = record { low = subst (AtLeast (M.lower_side i)) (sym e) (at_upper_end (M.lower_side i) d.number (subst (λ o. AreCrossed (M.lower_side i) o → ⊥) d.side d.uncrossed.sides)); high = subst (λ o. AtMost o (value_at M i x)) (sym d.side) (≤ℚ-same e) }

@@ -23,6 +23,7 @@ use Rattle.lp_substitutions.specs.DoubletonEquation.{IsDoubletonEquation, image,
 use Rattle.lp_theory.specs.Elsewhere.{substituted}
 use Rattle.lp_theory.proofs.Elsewhere.{put_back, less_out, less_in, two_terms, total-substituted}
 use Rattle.lp_theory.proofs.MetEndLaws.{below_zero}
+use Rattle.lp_theory.proofs.GapSteps.{gaps_moved, gaps_off, gaps_back}
 
 IsWhole-- : {p q : Number} → IsWhole p → IsWhole q → IsWhole (p -ℚ q)
 IsWhole-- m n = IsWhole-+ℚ m (IsWhole-neg_ℚ n)
@@ -139,6 +140,7 @@ module _ (M : LinearProgram) (i j k : ℕ) (r : Number) (d : IsDoubletonEquation
         whole = at_or_off (λ p. p < M.columns → IsTrue (M.whole p) → IsWhole (w p)) j
             (λ l t. let g = d.whole t in subst IsWhole (sym (put-same x j (e -ℚ q *ℚ x k))) (IsWhole-- g.2 (IsWhole-*ℚ g.1 (h.whole k d.second (put-other M.whole j false k kj ∙ g.0)))))
             (λ p n l t. subst IsWhole (sym (put-other x j (e -ℚ q *ℚ x k) p n)) (h.whole p l (put-other M.whole j false p n ∙ t)));
+        gaps = gaps_moved M j x (e -ℚ q *ℚ x k) d.solid (gaps_back M j x d.solid h.gaps);
       }
 
   kept : (w : Vector) → Feasible M w → Feasible R w × (put w j (e -ℚ q *ℚ w k) ≡ w)
@@ -162,6 +164,7 @@ module _ (M : LinearProgram) (i j k : ℕ) (r : Number) (d : IsDoubletonEquation
           whole = at_or_off (λ p. p < M.columns → put M.whole j false p ≡ true → IsWhole (w p)) j
               (λ l t. absurd (let f = put-same M.whole j false in cc))
               (λ p n l t. h.whole p l (sym (put-other M.whole j false p n) ∙ t));
+          gaps = gaps_off M j w h.gaps;
         },
         back,
       )

@@ -93,11 +93,12 @@ module _ (M : LinearProgram) (i j k : ℕ) (r : Number) (d : IsDoubletonEquation
 
   -- column j is continuous where the others are: a whole one asks that k is whole too
   continuous_too : Continuous R → Continuous M
-  continuous_too c p l = at_or_off (λ p. p < M.columns → M.whole p ≡ false) j (λ m. first (M.whole j) refl) (λ p n m. sym (put-other M.whole j false p n) ∙ c p m) p l
+  continuous_too c p l = at_or_off (λ p. p < M.columns → (M.whole p ≡ false) × (M.gap p ≡ None)) j (λ m. (first (M.whole j) refl, d.solid))
+      (λ p n m. (sym (put-other M.whole j false p n) ∙ (c p m).0, sym (put-other M.gap j None p n) ∙ (c p m).1)) p l
     where
       first : (t : Bool) → M.whole j ≡ t → M.whole j ≡ false
       first false e = e
-      first true e = absurd (let f = sym (put-other M.whole j false k kj) ∙ c k d.second in let g : M.whole k ≡ true = (d.whole e).0 in cc)
+      first true e = absurd (let f = sym (put-other M.whole j false k kj) ∙ (c k d.second).0 in let g : M.whole k ≡ true = (d.whole e).0 in cc)
 
   module _ (p : Priced) (h : Carries R p) where
     abbrev dj : Number

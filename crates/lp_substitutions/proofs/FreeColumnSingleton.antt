@@ -22,7 +22,7 @@ use Rattle.lp_theory.specs.Elsewhere.{column_put_into_row}
 use Rattle.lp_theory.specs.Nearest.{InOrder}
 use Rattle.lp_theory.proofs.ActivityLaws.{lt_true, rest, least_rest-off, greatest_rest-off}
 use Rattle.lp_theory.proofs.Carrying.{Carries, pairs_of}
-use Rattle.lp_theory.proofs.Elsewhere.{left_out, minus_low, minus_high, value_here, cost_by_row, cost_of_others, point_back, rows_of_others, bounds_of_others, whole_others, reduced_here, reduced_there, pair_back}
+use Rattle.lp_theory.proofs.Elsewhere.{left_out, minus_low, minus_high, value_here, cost_by_row, cost_of_others, point_back, rows_of_others, bounds_of_others, whole_others, gaps_of_others, reduced_here, reduced_there, pair_back}
 use Rattle.lp_theory.proofs.MetEndLaws.{sides_in}
 use Rattle.lp_theory.proofs.Sitting.{zero_sits, pinned_sits, sits_least, row_sits, column_sits}
 use Rattle.lp_theory.proofs.Steps.{value-without_row}
@@ -99,7 +99,7 @@ module _ (M : LinearProgram) (j i : ℕ) (s : Number) (d : IsFreeColumnSingleton
   lifted : (x : Vector) → Feasible R x → Feasible M (put x j (b x))
   lifted x h = point_back M j i d.singleton x (b x)
       (λ m n l. rw (← put-other M.lower_side i None m n, ← put-other M.upper_side i None m n, ← value-without_row P i m x n) (h.rows m l))
-      h.columns h.whole (column_bounded x h.columns) (subst (Between (M.lower_side i) (M.upper_side i)) (sym (row_value x)) side.0)
+      h.columns h.whole h.gaps (column_bounded x h.columns) (subst (Between (M.lower_side i) (M.upper_side i)) (sym (row_value x)) side.0)
 
   kept : (w : Vector) → Feasible M w → Feasible R w
   kept w h = record {
@@ -108,6 +108,7 @@ module _ (M : LinearProgram) (j i : ℕ) (s : Number) (d : IsFreeColumnSingleton
         (λ m n l. rw (put-other M.lower_side i None m n, put-other M.upper_side i None m n, value-without_row P i m w n) (rows_of_others M j i d.singleton w h m n l));
     columns = bounds_of_others M j i d.singleton w h;
     whole = whole_others M j i d.singleton w h;
+    gaps = gaps_of_others M j i d.singleton w h;
   }
 
   cost_lifted : (x : Vector) → cost_at M (put x j (b x)) ≡ cost_at R x +ℚ t *ℚ s

@@ -24,7 +24,7 @@ use Rattle.lp_theory.specs.Elsewhere.{column_put_into_row}
 use Rattle.lp_theory.specs.Nearest.{InOrder}
 use Rattle.lp_theory.proofs.ActivityLaws.{lt_true, least_term-low, greatest_term-high}
 use Rattle.lp_theory.proofs.Carrying.{Carries, pairs_of}
-use Rattle.lp_theory.proofs.Elsewhere.{put_back, less_out, minus_low, minus_high, value_here, cost_by_row, cost_of_others, point_back, rows_of_others, bounds_of_others, whole_others, reduced_here, reduced_there, pair_back}
+use Rattle.lp_theory.proofs.Elsewhere.{put_back, less_out, minus_low, minus_high, value_here, cost_by_row, cost_of_others, point_back, rows_of_others, bounds_of_others, whole_others, gaps_of_others, reduced_here, reduced_there, pair_back}
 use Rattle.lp_theory.proofs.MetEndLaws.{below_zero}
 use Rattle.lp_theory.proofs.Nearest.{near_in_both}
 use Rattle.lp_theory.proofs.Pairs.{some_inj, term_tight, undo_row, row_pairs}
@@ -127,7 +127,7 @@ module _ (M : LinearProgram) (j i : ℕ) (d : IsSlackColumnSingleton M j i) wher
   rows_there x h m n l = rw (← put-other M.lower_side i (moved_lower M j i) m n, ← put-other M.upper_side i (moved_upper M j i) m n) (h.rows m l)
 
   pub lifted : (x : Vector) → Feasible R x → Feasible M (put x j (b x))
-  lifted x h = point_back M j i d.singleton x (b x) (rows_there x h) h.columns h.whole (slack_between x h).0 (slack_between x h).1
+  lifted x h = point_back M j i d.singleton x (b x) (rows_there x h) h.columns h.whole h.gaps (slack_between x h).0 (slack_between x h).1
 
   kept : (w : Vector) → Feasible M w → Feasible R w
   kept w h =
@@ -143,6 +143,7 @@ module _ (M : LinearProgram) (j i : ℕ) (d : IsSlackColumnSingleton M j i) wher
             (λ m n l. rw (put-other M.lower_side i (moved_lower M j i) m n, put-other M.upper_side i (moved_upper M j i) m n) (rows_of_others M j i d.singleton w h m n l));
         columns = bounds_of_others M j i d.singleton w h;
         whole = whole_others M j i d.singleton w h;
+        gaps = gaps_of_others M j i d.singleton w h;
       }
 
   no_cost : M.costs j ≡ zero_ℚ → t ≡ zero_ℚ

@@ -25,6 +25,7 @@ pub record IsDoubletonEquation (M : LinearProgram) (i j k : ℕ) (r : Number) : 
   pub lower : M.lower_side i ≡ Some r
   pub upper : M.upper_side i ≡ Some r
   pub whole : IsTrue (M.whole j) → IsTrue (M.whole k) × IsWhole (M.coefficient i k /ℚ M.coefficient i j) × IsWhole (r /ℚ M.coefficient i j)
+  pub solid : M.gap j ≡ None
 
 -- the end of x_k where x_j is at an end v: (r - a v) / b, none where there is none
 abbrev pub image : Number → Number → Number → Option Number → Option Number
@@ -48,6 +49,7 @@ substituted_by M i j k a b r = record M {
   lower_bound = put (put M.lower_bound j None) k (meet_low (M.lower_bound k) (image_lower a b r (M.lower_bound j) (M.upper_bound j)));
   upper_bound = put (put M.upper_bound j None) k (meet_high (M.upper_bound k) (image_upper a b r (M.lower_bound j) (M.upper_bound j)));
   whole = put M.whole j false;
+  gap = put M.gap j None;
   costs = substituted M.costs j k (b /ℚ a);
 }
 

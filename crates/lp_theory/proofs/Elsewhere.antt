@@ -20,6 +20,7 @@ use Rattle.lp_theory.specs.Activities.{InBounds}
 use Rattle.lp_theory.specs.Elsewhere.{products, substituted, IsColumnSingleton, column_put_into_row}
 use Rattle.lp_theory.proofs.Carrying.{Carries}
 use Rattle.lp_theory.proofs.Sitting.{carried}
+use Rattle.lp_theory.proofs.GapSteps.{AllClear, gaps_moved, gaps_off, gaps_back}
 
 -- ---- functions and ranges
 pub put_back : (x : Vector) (j : ℕ) (b : Number) → x j ≡ b → put x j b ≡ x
@@ -119,8 +120,8 @@ module _ (M : LinearProgram) (j i : ℕ) (s : IsColumnSingleton M j i) where
 
   -- ---- points
   pub point_back : (x : Vector) (b : Number) → ((m : ℕ) → m ≢ i → m < M.rows → Between (M.lower_side m) (M.upper_side m) (value_at P m x)) → InBounds P x
-      → ((k : ℕ) → k < M.columns → IsTrue (P.whole k) → IsWhole (x k)) → Between (M.lower_bound j) (M.upper_bound j) b → Between (M.lower_side i) (M.upper_side i) (a *ℚ b +ℚ value_at P i x) → Feasible M (put x j b)
-  point_back x b rows columns whole here row = record {
+      → ((k : ℕ) → k < M.columns → IsTrue (P.whole k) → IsWhole (x k)) → AllClear P x → Between (M.lower_bound j) (M.upper_bound j) b → Between (M.lower_side i) (M.upper_side i) (a *ℚ b +ℚ value_at P i x) → Feasible M (put x j b)
+  point_back x b rows columns whole gaps here row = record {
     rows = at_or_off (λ m. m < M.rows → Between (M.lower_side m) (M.upper_side m) (value_at M m (put x j b))) i
         (λ l. subst (Between (M.lower_side i) (M.upper_side i)) (sym (value_here x b)) row)
         (λ m n l. subst (Between (M.lower_side m) (M.upper_side m)) (sym (value_there m x b l n)) (rows m n l));
@@ -130,6 +131,7 @@ module _ (M : LinearProgram) (j i : ℕ) (s : IsColumnSingleton M j i) where
     whole = at_or_off (λ k. k < M.columns → IsTrue (M.whole k) → IsWhole (put x j b k)) j
         (λ l w. absurd (let e = s.continuous in cc))
         (λ k n l w. subst IsWhole (sym (put-other x j b k n)) (whole k l (put-other M.whole j false k n ∙ w)));
+    gaps = gaps_moved M j x b s.solid (gaps_back M j x s.solid gaps);
   }
 
   pub rows_of_others : (w : Vector) → Feasible M w → (m : ℕ) → m ≢ i → m < M.rows → Between (M.lower_side m) (M.upper_side m) (value_at P m w)
@@ -145,6 +147,9 @@ module _ (M : LinearProgram) (j i : ℕ) (s : IsColumnSingleton M j i) where
       (λ l e. absurd (let f = put-same M.whole j false in cc))
       (λ k n l e. h.whole k l (sym (put-other M.whole j false k n) ∙ e))
 
+  pub gaps_of_others : (w : Vector) → Feasible M w → AllClear P w
+  gaps_of_others w h = gaps_off M j w h.gaps
+
   -- ---- pairs
   pub reduced_here : (y : Vector) → reduced_cost M y j ≡ M.costs j -ℚ y i *ℚ a
   reduced_here y = ap (λ q. M.costs j -ℚ q) (one_term M.rows (λ m. y m *ℚ M.coefficient m j) i s.row (λ m l n. ap (λ c. y m *ℚ c) (s.only m l n) ∙ ring rational (y m ∷ []) (v 0 :* num (pos 0)) (num (pos 0)) refl))
@@ -159,7 +164,8 @@ module _ (M : LinearProgram) (j i : ℕ) (s : IsColumnSingleton M j i) where
       ∙ sym (reduced-put M i y (e +ℚ t) k s.row)
 
   pub continuous_back : Continuous P → Continuous M
-  continuous_back c = at_or_off (λ k. k < M.columns → M.whole k ≡ false) j (λ l. s.continuous) (λ k n l. sym (put-other M.whole j false k n) ∙ c k l)
+  continuous_back c = at_or_off (λ k. k < M.columns → (M.whole k ≡ false) × (M.gap k ≡ None)) j (λ l. (s.continuous, s.solid))
+      (λ k n l. (sym (put-other M.whole j false k n) ∙ (c k l).0, sym (put-other M.gap j None k n) ∙ (c k l).1))
 
   pub pair_back : (p : Priced) (b e z : Number) → Continuous P → Feasible M (put p.x j b)
       → ((k : ℕ) → k ≢ j → k < M.columns → p.z k ≡ reduced_cost M (put p.y i e) k) → z ≡ reduced_cost M (put p.y i e) j

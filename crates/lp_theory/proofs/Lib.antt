@@ -1,3 +1,4 @@
+pub mod GapSteps
 pub mod Steps
 pub mod Joins
 pub mod ActivityLaws

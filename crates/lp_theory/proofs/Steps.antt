@@ -85,6 +85,7 @@ redundant_row s M i kept = same_points s M (without_row M i) (λ x. refl)
           (λ p n r. rw (← put-other M.lower_side i None p n, ← put-other M.upper_side i None p n, ← value-without_row M i p x n) (h.rows p r));
       columns = h.columns;
       whole = h.whole;
+      gaps = h.gaps;
     })
     (λ x h. record {
       rows = at_or_off (λ p. p < M.rows → Between (put M.lower_side i None p) (put M.upper_side i None p) (value_at (without_row M i) p x)) i
@@ -92,6 +93,7 @@ redundant_row s M i kept = same_points s M (without_row M i) (λ x. refl)
           (λ p n r. rw (put-other M.lower_side i None p n, put-other M.upper_side i None p n, value-without_row M i p x n) (h.rows p r));
       columns = h.columns;
       whole = h.whole;
+      gaps = h.gaps;
     })
 
 -- ---- new bounds of a column that say the same within the program
@@ -105,6 +107,7 @@ same_bounds s M j l u back there = same_points s M (with_bounds M j l u) (λ x. 
       columns = at_or_off (λ k. k < M.columns → Between (M.lower_bound k) (M.upper_bound k) (x k)) j (back x h)
           (λ k n c. rw (← put-other M.lower_bound j l k n, ← put-other M.upper_bound j u k n) (h.columns k c));
       whole = h.whole;
+      gaps = h.gaps;
     })
     (λ x h. record {
       rows = h.rows;
@@ -112,6 +115,7 @@ same_bounds s M j l u back there = same_points s M (with_bounds M j l u) (λ x. 
           (λ c. rw (put-same M.lower_bound, put-same M.upper_bound) (there x h c))
           (λ k n c. rw (put-other M.lower_bound j l k n, put-other M.upper_bound j u k n) (h.columns k c));
       whole = h.whole;
+      gaps = h.gaps;
     })
 
 -- ---- new sides of a row that say the same within the program
@@ -125,6 +129,7 @@ same_sides s M i l u back there = same_points s M (with_sides M i l u) (λ x. re
           (λ p n r. rw (← put-other M.lower_side i l p n, ← put-other M.upper_side i u p n) (h.rows p r));
       columns = h.columns;
       whole = h.whole;
+      gaps = h.gaps;
     })
     (λ x h. record {
       rows = at_or_off (λ p. p < M.rows → Between (put M.lower_side i l p) (put M.upper_side i u p) (value_at M p x)) i
@@ -132,4 +137,5 @@ same_sides s M i l u back there = same_points s M (with_sides M i l u) (λ x. re
           (λ p n r. rw (put-other M.lower_side i l p n, put-other M.upper_side i u p n) (h.rows p r));
       columns = h.columns;
       whole = h.whole;
+      gaps = h.gaps;
     })

@@ -11,5 +11,6 @@ column_dropped M j = record M {
   lower_bound = put M.lower_bound j None;
   upper_bound = put M.upper_bound j None;
   whole = put M.whole j false;
+  gap = put M.gap j None;
   costs = put M.costs j zero_ℚ;
 }

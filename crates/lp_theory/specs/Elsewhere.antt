@@ -1,5 +1,5 @@
 -- A column that is put elsewhere: into another column, by an equation of the two, or into the one row that holds it.
-use Rattle.std.specs.Prelude.{◌≡◌, ◌≢◌, ℕ, ◌<◌, false}
+use Rattle.std.specs.Prelude.{◌≡◌, ◌≢◌, ℕ, ◌<◌, false, None}
 use Rattle.rational.specs.Number.{Number, zero_ℚ, ◌-ℚ◌, ◌*ℚ◌}
 use Rattle.rational.specs.Division.{◌/ℚ◌}
 use Rattle.rational.specs.Total.{total, put}
@@ -22,6 +22,7 @@ pub record IsColumnSingleton (M : LinearProgram) (j i : ℕ) : Type 0 where
   pub entry : M.coefficient i j ≢ zero_ℚ
   pub only : (m : ℕ) → m < M.rows → m ≢ i → M.coefficient m j ≡ zero_ℚ
   pub continuous : M.whole j ≡ false
+  pub solid : M.gap j ≡ None
 
 -- column j put into row i, the one that holds it: the column is dropped, and its cost over its entry, times the row, leaves the
 -- other costs

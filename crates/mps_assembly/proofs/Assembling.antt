@@ -1,7 +1,7 @@
 -- The parts that cards say give the program that they say.
-use Rattle.std.proofs.Common.{◌≡◌, ◌∙◌, ◌<◌, ℕ, zero, suc, List, [], ◌∷◌, ◌++◌, Bool, length, refl, sym, subst, ap, arith}
+use Rattle.std.proofs.Common.{◌≡◌, ◌∙◌, ◌<◌, ℕ, zero, suc, List, [], ◌∷◌, ◌++◌, Bool, length, refl, sym, subst, ap, ap₂, arith}
 use Rattle.std.proofs.lemmas.List.Elements.{All-head}
-use Rattle.std.specs.Prelude.{position, Option, None, unwrap_or, slice_index_or}
+use Rattle.std.specs.Prelude.{position, false, Option, None, unwrap_or, slice_index_or}
 use Rattle.rational.specs.Number.{Number, zero_ℚ}
 use Rattle.lp_model.specs.ProgramData.{ProgramData}
 use Rattle.lp_model.specs.Name.{IsName}
@@ -12,9 +12,9 @@ use Rattle.lp_model.specs.declared.program.RowDef.{RowDef}
 use Rattle.lp_model.specs.declared.terms.Term.{Term}
 use Rattle.mps_profile.specs.Texts.{Text, field}
 use Rattle.mps_profile.specs.Cards.{Card}
-use Rattle.mps_profile.specs.Sides.{sides_of, default_lower}
+use Rattle.mps_profile.specs.Sides.{sides_of}
 use Rattle.mps_profile.specs.Rows.{row_names, is_free, right_side, range_of}
-use Rattle.mps_profile.specs.Columns.{column_names, coefficient, lower_bound, lower_of, upper_bound}
+use Rattle.mps_profile.specs.Columns.{column_names, coefficient, lower_bound, lower_of, lower_under, semi_upper_of, upper_bound}
 use Rattle.mps_profile.specs.Program.{kind_at, id_of, terms_in, terms_below, terms_of, rows_below, row_defs, row_defs_at, columns_below, column_def, column_defs, objective_place, program_in}
 use Rattle.mps_profile.specs.declared.dialect.Dialect.{Dialect}
 use Rattle.mps_profile.specs.declared.row_kinds.Interval.{Interval}
@@ -93,17 +93,19 @@ pub column_is : (dialect : Dialect) (cards : List Card) (parts : Parts) (j : ℕ
 column_is dialect cards parts j cost terms are priced termed =
     let name : field parts.columns.names.now j ≡ field (column_names cards) j = ap (λ (names : List Text). field names j) are.columns in
     let upper : unwrap_or (slice_index_or parts.columns.uppers.now j None) None ≡ upper_bound dialect cards j = ap (λ (x : Option (Option Number)). unwrap_or x None) (are.uppers j) in
-    let low : unwrap_or (slice_index_or parts.columns.lowers.now j None) (default_lower (unwrap_or (slice_index_or parts.columns.uppers.now j None) None)) ≡ lower_bound dialect cards j =
-    ap (λ (x : Option (Option Number)). unwrap_or x (default_lower (unwrap_or (slice_index_or parts.columns.uppers.now j None) None))) (are.lowers j)
-    ∙ ap (λ (x : Option Number). unwrap_or (lower_of dialect cards j) (default_lower x)) upper in
+    let semi_upper : unwrap_or (slice_index_or parts.columns.semi_uppers.now j None) false ≡ unwrap_or (semi_upper_of dialect cards j) false = ap (λ (x : Option Bool). unwrap_or x false) (are.semi_uppers j) in
+    let low : unwrap_or (slice_index_or parts.columns.lowers.now j None) (lower_under (unwrap_or (slice_index_or parts.columns.semi_uppers.now j None) false) (unwrap_or (slice_index_or parts.columns.uppers.now j None) None)) ≡ lower_bound dialect cards j =
+    ap (λ (x : Option (Option Number)). unwrap_or x (lower_under (unwrap_or (slice_index_or parts.columns.semi_uppers.now j None) false) (unwrap_or (slice_index_or parts.columns.uppers.now j None) None))) (are.lowers j)
+    ∙ ap₂ (λ (b : Bool) (x : Option Number). unwrap_or (lower_of dialect cards j) (lower_under b x)) semi_upper upper in
     let whole = are.wholes j in
-    built name priced low upper whole termed
+    let semi = are.semis j in
+    built name priced low upper whole semi termed
   where
-    column : Text → Number → Option Number → Option Number → Bool → List Term → ColumnDef
-    column name cost lower upper whole entries = record { name = name; cost = cost; lower = lower; upper = upper; whole = whole; entries = entries }
+    column : Text → Number → Option Number → Option Number → Bool → Bool → List Term → ColumnDef
+    column name cost lower upper whole semi entries = record { name = name; cost = cost; lower = lower; upper = upper; whole = whole; semi = semi; entries = entries }
 
-    built : {n m : Text} {c d : Number} {l k u v : Option Number} {w x : Bool} {ts us : List Term} → n ≡ m → c ≡ d → l ≡ k → u ≡ v → w ≡ x → ts ≡ us → column n c l u w ts ≡ column m d k v x us
-    built a b c d e f = cc
+    built : {n m : Text} {c d : Number} {l k u v : Option Number} {w x s t : Bool} {ts us : List Term} → n ≡ m → c ≡ d → l ≡ k → u ≡ v → w ≡ x → s ≡ t → ts ≡ us → column n c l u w s ts ≡ column m d k v x t us
+    built a b c d e f g = cc
 
 pub columns_are : (dialect : Dialect) (cards : List Card) (parts : Parts) (objective : ℕ) (costs : List Number) (terms : List (List Term)) → AreOf dialect cards parts
     → objective ≡ objective_place cards

@@ -4,7 +4,7 @@ use Rattle.rational.specs.Number.{neg_ℚ}
 use Rattle.mps_profile.specs.Texts.{field}
 use Rattle.mps_profile.specs.Cards.{Card}
 use Rattle.mps_profile.specs.Rows.{row_names, row_kinds, side_of, range_of, right_side}
-use Rattle.mps_profile.specs.Columns.{column_names, number_at, is_whole, lower_of, upper_of}
+use Rattle.mps_profile.specs.Columns.{column_names, number_at, is_semi, is_whole, lower_of, semi_upper_of, upper_of}
 use Rattle.mps_profile.specs.Program.{objective_place, row_defs, column_defs}
 use Rattle.mps_profile.specs.declared.dialect.Dialect.{Dialect}
 use Rattle.mps_stores.specs.Stores.{number_in}
@@ -22,6 +22,8 @@ pub record AreOf (dialect : Dialect) (cards : List Card) (parts : Parts) : Type 
   pub lowers : (j : ℕ) → slice_index_or parts.columns.lowers.now j None ≡ lower_of dialect cards j
   pub uppers : (j : ℕ) → slice_index_or parts.columns.uppers.now j None ≡ upper_of dialect cards j
   pub wholes : (j : ℕ) → slice_index_or parts.columns.wholes.now j false ≡ is_whole dialect cards j
+  pub semis : (j : ℕ) → slice_index_or parts.columns.semis.now j false ≡ is_semi dialect cards j
+  pub semi_uppers : (j : ℕ) → slice_index_or parts.columns.semi_uppers.now j None ≡ semi_upper_of dialect cards j
 
 -- the objective, the rows and the columns are those of the cards
 pub record AreDefined (dialect : Dialect) (cards : List Card) (found : Definitions) : Type 0 where

@@ -4,7 +4,7 @@ use Rattle.rational.specs.Number.{Number}
 use Rattle.lp_model.specs.declared.program.ColumnDef.{ColumnDef}
 use Rattle.lp_model.specs.declared.terms.Term.{Term}
 use Rattle.mps_profile.specs.Texts.{field}
-use Rattle.mps_profile.specs.Sides.{default_lower}
+use Rattle.mps_profile.specs.Columns.{lower_under}
 use Rattle.mps_assembly.specs.declared.columns.ColumnTables.{ColumnTables}
 
 -- the column at a place, with a cost and with terms
@@ -12,8 +12,9 @@ abbrev pub definition : ColumnTables → ℕ → Number → List Term → Column
 definition columns j cost entries = record {
   name = field columns.names.now j;
   cost = cost;
-  lower = unwrap_or (slice_index_or columns.lowers.now j None) (default_lower (unwrap_or (slice_index_or columns.uppers.now j None) None));
+  lower = unwrap_or (slice_index_or columns.lowers.now j None) (lower_under (unwrap_or (slice_index_or columns.semi_uppers.now j None) false) (unwrap_or (slice_index_or columns.uppers.now j None) None));
   upper = unwrap_or (slice_index_or columns.uppers.now j None) None;
   whole = slice_index_or columns.wholes.now j false;
+  semi = slice_index_or columns.semis.now j false;
   entries = entries;
 }

@@ -3,6 +3,7 @@
 ghost use Rattle.std.specs.Prelude.{◌≡◌, ◌<◌, ℕ, length, All, None, false, IfOk, unwrap_or, slice_index_or};
 ghost use Rattle.lp_model.specs.Name.{IsName};
 ghost use Rattle.mps_profile.specs.Texts.{field};
+ghost use Rattle.mps_profile.specs.Columns.{lower_under};
 ghost use Rattle.mps_profile.specs.Sides.{default_lower};
 ghost use Rattle.mps_profile.specs.Program.{columns_below};
 ghost use Rattle.mps_assembly.specs.Columnwise.{terms_at, cost_at};
@@ -27,6 +28,10 @@ pub struct ColumnTables<'a> {
     pub uppers: &'a [Option<Ext>],
     /// Whether they are whole.
     pub wholes: &'a [bool],
+    /// Whether they are semi-continuous.
+    pub semis: &'a [bool],
+    /// Whether a card of type SC gives them their upper bounds.
+    pub semi_uppers: &'a [Option<bool>],
 }
 
 /// The upper bound: infinite, where none is told.
@@ -49,13 +54,34 @@ fn default_lower(upper: Ext) -> Ext
     }
 }
 
+/// Whether a card of type SC gives a column its upper bound.
+fn is_semi_upper(kinds: &[Option<bool>], place: usize) -> bool
+    ensures { result ≡ unwrap_or (slice_index_or kinds.now place None) false }
+{
+    match value_at(kinds, place) {
+        Some(semi) => semi,
+        None => false,
+    }
+}
+
+/// The lower bound that is not told: 0 under an upper bound that a card of type SC gives.
+fn lower_under(semi_upper: bool, upper: Ext) -> Ext
+    ensures { result ≡ lower_under semi_upper upper }
+{
+    if semi_upper {
+        Ext::at(Frac::zero())
+    } else {
+        default_lower(upper)
+    }
+}
+
 /// The lower bound, by the upper bound where none is told.
-fn lower_bound(lowers: &[Option<Ext>], place: usize, upper: Ext) -> Ext
-    ensures { result ≡ unwrap_or (slice_index_or lowers.now place None) (default_lower upper) }
+fn lower_bound(lowers: &[Option<Ext>], place: usize, semi_upper: bool, upper: Ext) -> Ext
+    ensures { result ≡ unwrap_or (slice_index_or lowers.now place None) (lower_under semi_upper upper) }
 {
     match value_at(lowers, place) {
         Some(end) => end,
-        None => default_lower(upper),
+        None => lower_under(semi_upper, upper),
     }
 }
 
@@ -96,9 +122,15 @@ fn column_definition(
     Ok(ColumnDef {
         name: Name::from_slice(alloc, name_at(columns.names, place))?,
         cost,
-        lower: lower_bound(columns.lowers, place, upper),
+        lower: lower_bound(
+            columns.lowers,
+            place,
+            is_semi_upper(columns.semi_uppers, place),
+            upper,
+        ),
         upper,
         whole: mark_at(columns.wholes, place),
+        semi: mark_at(columns.semis, place),
         entries,
     })
 }

@@ -18,7 +18,7 @@ use Rattle.mps_profile.specs.Bounds.{valued_change, bare_change}
 use Rattle.mps_profile.specs.Sides.{default_lower}
 use Rattle.mps_profile.specs.Sets.{counts, bound_set}
 use Rattle.mps_profile.specs.Rows.{is_at}
-use Rattle.mps_profile.specs.Columns.{column_names, change_in, change_on, change_at, lower_in, upper_in, or_before, lower_of, upper_of, upper_bound, lower_bound}
+use Rattle.mps_profile.specs.Columns.{column_names, change_in, change_on, change_at, lower_in, upper_in, or_before, lower_of, upper_of, upper_bound, lower_bound, lower_under, semi_upper_of}
 use Rattle.mps_profile.specs.declared.dialect.Dialect.{Dialect}
 use Rattle.mps_profile.specs.declared.bounds.Limit.{Limit}
 use Rattle.mps_profile.specs.declared.bounds.Limit.TheVariants.{Below, At, Above}
@@ -117,6 +117,9 @@ valued-fits numbers valued.TheVariants.WholeLower Above h = (tt, tt)
 valued-fits numbers valued.TheVariants.WholeUpper Below h = (tt, tt)
 valued-fits numbers valued.TheVariants.WholeUpper (At q) h = (tt, h)
 valued-fits numbers valued.TheVariants.WholeUpper Above h = (tt, tt)
+valued-fits numbers valued.TheVariants.SemiContinuous Below h = (tt, tt)
+valued-fits numbers valued.TheVariants.SemiContinuous (At q) h = (tt, h)
+valued-fits numbers valued.TheVariants.SemiContinuous Above h = (tt, tt)
 
 bare-fits : (numbers : Numbers) (kind : Bare) → ChangeFits numbers (Some (bare_change kind))
 bare-fits numbers bare.TheVariants.Free = (tt, tt)
@@ -172,9 +175,14 @@ default-fits numbers (Some upper) = by (lt_ℚ upper zero_ℚ)
     by true = tt
     by false = zero_bound numbers
 
+under-fits : (numbers : Numbers) (semi : Bool) (upper : Option Number) → IfSome (lower_under semi upper) (WritableBound numbers)
+under-fits numbers true upper = zero_bound numbers
+under-fits numbers false upper = default-fits numbers upper
+
 pub upper_bound-fits : (dialect : Dialect) (cards : List Card) (j : ℕ) → IfSome (upper_bound dialect cards j) (WritableBound dialect.numbers)
 upper_bound-fits dialect cards j = or_default dialect.numbers (upper_of dialect cards j) None (upper_of-fits dialect cards j) tt
 
 pub lower_bound-fits : (dialect : Dialect) (cards : List Card) (j : ℕ) → IfSome (lower_bound dialect cards j) (WritableBound dialect.numbers)
 lower_bound-fits dialect cards j =
-    or_default dialect.numbers (lower_of dialect cards j) (default_lower (upper_bound dialect cards j)) (lower_of-fits dialect cards j) (default-fits dialect.numbers (upper_bound dialect cards j))
+    or_default dialect.numbers (lower_of dialect cards j) (lower_under (unwrap_or (semi_upper_of dialect cards j) false) (upper_bound dialect cards j)) (lower_of-fits dialect cards j)
+    (under-fits dialect.numbers (unwrap_or (semi_upper_of dialect cards j) false) (upper_bound dialect cards j))

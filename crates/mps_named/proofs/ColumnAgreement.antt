@@ -9,11 +9,11 @@ use Rattle.mps_profile.specs.Cards.{Card, RowCard, MarkerCard, ColumnCard, SideC
 use Rattle.mps_profile.specs.Bounds.{bare_change}
 use Rattle.mps_profile.specs.Sets.{counts, bound_set}
 use Rattle.mps_profile.specs.Rows.{row_names, is_at, pairs_value}
-use Rattle.mps_profile.specs.Columns.{column_names, column_place, number_at, in_run, change_on, lower_in, upper_in, makes_whole, or_before, lower_of, upper_of, is_whole}
+use Rattle.mps_profile.specs.Columns.{column_names, column_place, number_at, in_run, change_on, lower_in, upper_in, makes_whole, or_before, lower_of, upper_of, is_whole, is_semi, last_kind, makes_semi, semi_upper_in, semi_upper_of}
 use Rattle.mps_profile.specs.declared.dialect.Dialect.{Dialect}
 use Rattle.mps_profile.specs.declared.bounds.Change.{Change}
 use Rattle.mps_laws.specs.Faultless.{IsFaultless}
-use Rattle.mps_named.specs.Named.{pairs_named, number_named, lower_named, upper_named, whole_named, RowIsNamed, ColumnIsNamed}
+use Rattle.mps_named.specs.Named.{pairs_named, number_named, lower_named, upper_named, whole_named, RowIsNamed, ColumnIsNamed, semi_named, semi_upper_named}
 use Rattle.mps_named.proofs.CardSense.{sound}
 use Rattle.mps_named.proofs.Agreement.{IsNumbered, joined-numbered, Agree, agree_push, agree_step, agree_joined}
 use Rattle.mps_named.proofs.RowAgreement.{is_new, rows-numbered, kinds-agree, pairs-agree, sides-agree, ranges-agree}
@@ -136,6 +136,39 @@ wholes-agree dialect (BareCard set kind column ∷ before) h =
     (λ y. refl) (columns-numbered before) (sound dialect before (BareCard set kind column) h.0).unknown_column (wholes-agree dialect before h.1)
 wholes-agree dialect (UnknownCard ∷ before) h = wholes-agree dialect before h.1
 
+-- ---- semi-continuous columns
+semis-agree : (dialect : Dialect) (cards : List Card) → IsFaultless dialect cards → Agree false (column_names cards) (λ j. is_semi dialect cards j) (λ column. semi_named dialect cards column)
+semis-agree dialect [] h = record { within = λ i lt. refl; past = λ i l. refl; unknown = λ m l. refl }
+semis-agree dialect (RowCard kind name ∷ before) h = semis-agree dialect before h.1
+semis-agree dialect (MarkerCard word ∷ before) h = semis-agree dialect before h.1
+semis-agree dialect (ColumnCard name pairs ∷ before) h =
+    agree_joined false (column_names before) (λ j. is_semi dialect before j) (λ m. semi_named dialect before m) (λ b y. y) name (λ y. refl) (columns-numbered before) (semis-agree dialect before h.1)
+semis-agree dialect (SideCard set pairs ∷ before) h = semis-agree dialect before h.1
+semis-agree dialect (RangeCard set pairs ∷ before) h = semis-agree dialect before h.1
+semis-agree dialect (ValuedCard set kind column number ∷ before) h =
+    bound-agrees false (column_names before) (λ j. is_semi dialect before j) (λ m. semi_named dialect before m) (λ change y. makes_semi change || y) (counts (bound_set before) set) column (change_on dialect kind number)
+    (λ y. refl) (columns-numbered before) (sound dialect before (ValuedCard set kind column number) h.0).unknown_column (semis-agree dialect before h.1)
+semis-agree dialect (BareCard set kind column ∷ before) h =
+    bound-agrees false (column_names before) (λ j. is_semi dialect before j) (λ m. semi_named dialect before m) (λ change y. makes_semi change || y) (counts (bound_set before) set) column (Some (bare_change kind))
+    (λ y. refl) (columns-numbered before) (sound dialect before (BareCard set kind column) h.0).unknown_column (semis-agree dialect before h.1)
+semis-agree dialect (UnknownCard ∷ before) h = semis-agree dialect before h.1
+
+semi_uppers-agree : (dialect : Dialect) (cards : List Card) → IsFaultless dialect cards → Agree None (column_names cards) (λ j. semi_upper_of dialect cards j) (λ column. semi_upper_named dialect cards column)
+semi_uppers-agree dialect [] h = record { within = λ i lt. refl; past = λ i l. refl; unknown = λ m l. refl }
+semi_uppers-agree dialect (RowCard kind name ∷ before) h = semi_uppers-agree dialect before h.1
+semi_uppers-agree dialect (MarkerCard word ∷ before) h = semi_uppers-agree dialect before h.1
+semi_uppers-agree dialect (ColumnCard name pairs ∷ before) h =
+    agree_joined None (column_names before) (λ j. semi_upper_of dialect before j) (λ m. semi_upper_named dialect before m) (λ b y. y) name (λ y. refl) (columns-numbered before) (semi_uppers-agree dialect before h.1)
+semi_uppers-agree dialect (SideCard set pairs ∷ before) h = semi_uppers-agree dialect before h.1
+semi_uppers-agree dialect (RangeCard set pairs ∷ before) h = semi_uppers-agree dialect before h.1
+semi_uppers-agree dialect (ValuedCard set kind column number ∷ before) h =
+    bound-agrees None (column_names before) (λ j. semi_upper_of dialect before j) (λ m. semi_upper_named dialect before m) (λ change y. last_kind (semi_upper_in change) y) (counts (bound_set before) set) column (change_on dialect kind number)
+    (λ y. refl) (columns-numbered before) (sound dialect before (ValuedCard set kind column number) h.0).unknown_column (semi_uppers-agree dialect before h.1)
+semi_uppers-agree dialect (BareCard set kind column ∷ before) h =
+    bound-agrees None (column_names before) (λ j. semi_upper_of dialect before j) (λ m. semi_upper_named dialect before m) (λ change y. last_kind (semi_upper_in change) y) (counts (bound_set before) set) column (Some (bare_change kind))
+    (λ y. refl) (columns-numbered before) (sound dialect before (BareCard set kind column) h.0).unknown_column (semi_uppers-agree dialect before h.1)
+semi_uppers-agree dialect (UnknownCard ∷ before) h = semi_uppers-agree dialect before h.1
+
 -- ---- all words
 pub rows-named : (dialect : Dialect) (cards : List Card) (i : ℕ) → IsFaultless dialect cards → i < length (row_names cards) → RowIsNamed dialect cards i
 rows-named dialect cards i h lt = record {
@@ -149,5 +182,7 @@ columns-named dialect cards j h lt = record {
   lower = (lowers-agree dialect cards h).within j lt;
   upper = (uppers-agree dialect cards h).within j lt;
   whole = (wholes-agree dialect cards h).within j lt;
+  semi = (semis-agree dialect cards h).within j lt;
+  semi_upper = (semi_uppers-agree dialect cards h).within j lt;
   numbers = λ i l. (numbers-of_rows dialect cards j h).within i l ∙ (numbers-of_columns dialect cards (field (row_names cards) i)).within j lt;
 }

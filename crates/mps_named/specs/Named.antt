@@ -9,7 +9,7 @@ use Rattle.mps_profile.specs.Numerals.{number_on}
 use Rattle.mps_profile.specs.Sets.{counts, side_set, range_set, bound_set}
 use Rattle.mps_profile.specs.Bounds.{bare_change}
 use Rattle.mps_profile.specs.Rows.{row_names, row_kind, value_in, side_of, interval_in, range_of}
-use Rattle.mps_profile.specs.Columns.{column_names, number_at, in_run, change_on, lower_in, upper_in, makes_whole, or_before, lower_of, upper_of, is_whole}
+use Rattle.mps_profile.specs.Columns.{column_names, number_at, in_run, change_on, lower_in, upper_in, makes_whole, or_before, lower_of, upper_of, is_whole, is_semi, last_kind, makes_semi, semi_upper_in, semi_upper_of}
 use Rattle.mps_profile.specs.declared.dialect.Dialect.{Dialect}
 use Rattle.mps_profile.specs.declared.bounds.Change.{Change}
 use Rattle.mps_profile.specs.declared.row_kinds.Interval.{Interval}
@@ -87,6 +87,16 @@ abbrev pub whole_named : Dialect → List Card → Text → Bool
 whole_named dialect [] column = false
 whole_named dialect (card ∷ before) column = named_in_run card before column || makes_whole (change_named dialect card before column) || whole_named dialect before column
 
+-- whether a card of BOUNDS makes the column semi-continuous
+abbrev pub semi_named : Dialect → List Card → Text → Bool
+semi_named dialect [] column = false
+semi_named dialect (card ∷ before) column = makes_semi (change_named dialect card before column) || semi_named dialect before column
+
+-- whether the last card that sets its upper bound is of type SC
+abbrev pub semi_upper_named : Dialect → List Card → Text → Option Bool
+semi_upper_named dialect [] column = None
+semi_upper_named dialect (card ∷ before) column = last_kind (semi_upper_in (change_named dialect card before column)) (semi_upper_named dialect before column)
+
 -- what the words by places say of row i the words by names say of its name
 pub record RowIsNamed (dialect : Dialect) (cards : List Card) (i : ℕ) : Type 0 where
   pub kind : row_kind cards i ≡ row_kind_named cards (field (row_names cards) i)
@@ -98,4 +108,6 @@ pub record ColumnIsNamed (dialect : Dialect) (cards : List Card) (j : ℕ) : Typ
   pub lower : lower_of dialect cards j ≡ lower_named dialect cards (field (column_names cards) j)
   pub upper : upper_of dialect cards j ≡ upper_named dialect cards (field (column_names cards) j)
   pub whole : is_whole dialect cards j ≡ whole_named dialect cards (field (column_names cards) j)
+  pub semi : is_semi dialect cards j ≡ semi_named dialect cards (field (column_names cards) j)
+  pub semi_upper : semi_upper_of dialect cards j ≡ semi_upper_named dialect cards (field (column_names cards) j)
   pub numbers : (i : ℕ) → i < length (row_names cards) → number_at dialect cards j i ≡ number_named dialect cards (field (column_names cards) j) (field (row_names cards) i)

@@ -52,7 +52,8 @@ pub fn names_differ()
 {}
 
 /// In cards without a fault a row has the type, the right side and the sides of a range that its
-/// name has, and a column the bounds, the wholeness and the numbers that its name has.
+/// name has, and a column the bounds, the wholeness, the semi-continuity and the numbers that its
+/// name has.
 pub fn places_say_what_names_say()
     ensures rows { (dialect : Dialect) (cards : List Card) (i : ℕ) → IsFaultless dialect cards →
         i < length (row_names cards) → RowIsNamed dialect cards i }

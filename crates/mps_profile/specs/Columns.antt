@@ -1,5 +1,5 @@
 -- What the cards say of columns. The nearest card stands first.
-use Rattle.std.specs.Prelude.{ℕ, ◌==◌, ◌&&◌, ◌||◌, ◌++◌, Bool, false, List, [], ◌∷◌, length, Option, Some, None, Result, Ok, Err, codes, unwrap_or, is_some, if◌then◌else◌}
+use Rattle.std.specs.Prelude.{ℕ, ◌==◌, ◌&&◌, ◌||◌, ◌++◌, Bool, true, false, List, [], ◌∷◌, length, Option, Some, None, Result, Ok, Err, codes, unwrap_or, is_some, if◌then◌else◌}
 use Rattle.std.specs.Str.{bytes_eq}
 use Rattle.rational.specs.Number.{Number, zero_ℚ}
 use Rattle.names.specs.Names.{place}
@@ -100,12 +100,35 @@ abbrev pub upper_of : Dialect → List Card → ℕ → Option (Option Number)
 upper_of dialect [] j = None
 upper_of dialect (card ∷ before) j = or_before (upper_in (change_at dialect card before j)) (upper_of dialect before j)
 
--- without a card the upper bound is infinite, and the lower one 0, or infinite under a negative upper one
+abbrev pub makes_semi : Option Change → Bool
+makes_semi None = false
+makes_semi (Some change) = change.semi
+
+-- where a card sets the upper bound, whether it is of type SC
+abbrev pub semi_upper_in : Option Change → Option Bool
+semi_upper_in None = None
+semi_upper_in (Some change) = if is_some change.upper then Some change.semi else None
+
+abbrev pub last_kind : Option Bool → Option Bool → Option Bool
+last_kind None before = before
+last_kind (Some semi) before = Some semi
+
+-- whether the last card that sets the upper bound of column j is of type SC
+abbrev pub semi_upper_of : Dialect → List Card → ℕ → Option Bool
+semi_upper_of dialect [] j = None
+semi_upper_of dialect (card ∷ before) j = last_kind (semi_upper_in (change_at dialect card before j)) (semi_upper_of dialect before j)
+
+-- the lower bound that no card sets, by the upper bound; under one that SC sets it is 0
+abbrev pub lower_under : Bool → Option Number → Option Number
+lower_under true upper = Some zero_ℚ
+lower_under false upper = default_lower upper
+
+-- without a card the upper bound is infinite, and the lower one 0, or infinite under a negative upper one that SC does not set
 abbrev pub upper_bound : Dialect → List Card → ℕ → Option Number
 upper_bound dialect cards j = unwrap_or (upper_of dialect cards j) None
 
 abbrev pub lower_bound : Dialect → List Card → ℕ → Option Number
-lower_bound dialect cards j = unwrap_or (lower_of dialect cards j) (default_lower (upper_bound dialect cards j))
+lower_bound dialect cards j = unwrap_or (lower_of dialect cards j) (lower_under (unwrap_or (semi_upper_of dialect cards j) false) (upper_bound dialect cards j))
 
 -- whether a card of COLUMNS in a run names column j
 abbrev pub stands_in_run : Card → List Card → ℕ → Bool
@@ -116,3 +139,8 @@ stands_in_run card before j = false
 abbrev pub is_whole : Dialect → List Card → ℕ → Bool
 is_whole dialect [] j = false
 is_whole dialect (card ∷ before) j = stands_in_run card before j || makes_whole (change_at dialect card before j) || is_whole dialect before j
+
+-- whether column j is semi-continuous: a card of BOUNDS says so
+abbrev pub is_semi : Dialect → List Card → ℕ → Bool
+is_semi dialect [] j = false
+is_semi dialect (card ∷ before) j = makes_semi (change_at dialect card before j) || is_semi dialect before j

@@ -14,7 +14,7 @@ use Rattle.mps_profile.specs.Items.{progress_of, cards_of}
 use Rattle.mps_profile.specs.Reading.{lines_read}
 use Rattle.mps_profile.specs.Sides.{sides_of}
 use Rattle.mps_profile.specs.Rows.{row_names, row_kinds, row_kind, is_free, right_side, range_of}
-use Rattle.mps_profile.specs.Columns.{column_names, coefficient, lower_bound, upper_bound, is_whole}
+use Rattle.mps_profile.specs.Columns.{column_names, coefficient, lower_bound, upper_bound, is_semi, is_whole}
 use Rattle.mps_profile.specs.declared.dialect.Dialect.{Dialect}
 use Rattle.mps_profile.specs.declared.row_kinds.Interval.{Interval}
 use Rattle.mps_profile.specs.declared.row_kinds.RowKind.{RowKind}
@@ -74,6 +74,7 @@ column_def dialect cards j = record {
   lower = lower_bound dialect cards j;
   upper = upper_bound dialect cards j;
   whole = is_whole dialect cards j;
+  semi = is_semi dialect cards j;
   entries = terms_of dialect cards j (length (row_names cards));
 }
 

@@ -47,6 +47,7 @@ type_named word =
     else if bytes_eq word (codes "FX") then Some (types.TheVariants.Valued valued.TheVariants.Fixed)
     else if bytes_eq word (codes "LI") then Some (types.TheVariants.Valued valued.TheVariants.WholeLower)
     else if bytes_eq word (codes "UI") then Some (types.TheVariants.Valued valued.TheVariants.WholeUpper)
+    else if bytes_eq word (codes "SC") then Some (types.TheVariants.Valued valued.TheVariants.SemiContinuous)
     else if bytes_eq word (codes "FR") then Some (types.TheVariants.Bare bare.TheVariants.Free)
     else if bytes_eq word (codes "MI") then Some (types.TheVariants.Bare bare.TheVariants.NoLower)
     else if bytes_eq word (codes "PL") then Some (types.TheVariants.Bare bare.TheVariants.NoUpper)

@@ -23,6 +23,7 @@ pub enum Valued {
     Fixed,
     WholeLower,
     WholeUpper,
+    SemiContinuous,
 }
 
 /// The types of bounds whose cards need no value.
@@ -55,6 +56,8 @@ pub fn bound_type(word: &[u8]) -> Option<BoundType>
         Some(BoundType::Valued(Valued::WholeLower))
     } else if word == b"UI".as_slice() {
         Some(BoundType::Valued(Valued::WholeUpper))
+    } else if word == b"SC".as_slice() {
+        Some(BoundType::Valued(Valued::SemiContinuous))
     } else if word == b"FR".as_slice() {
         Some(BoundType::Bare(Bare::Free))
     } else if word == b"MI".as_slice() {
@@ -72,6 +75,7 @@ pub fn bound_type(word: &[u8]) -> Option<BoundType>
 #[derive(Clone, Copy)]
 pub struct Change {
     pub whole: bool,
+    pub semi: bool,
     pub lower: Option<Ext>,
     pub upper: Option<Ext>,
 }
@@ -114,13 +118,17 @@ pub fn valued_change(kind: Valued, limit: Limit) -> Option<Change>
     ensures { result ≡ valued_change kind limit }
 {
     let whole = matches!(kind, Valued::WholeLower | Valued::WholeUpper);
+    let semi = matches!(kind, Valued::SemiContinuous);
     let (lower, upper) = match kind {
         Valued::Lower | Valued::WholeLower => (Some(lower_end(limit)?), None),
-        Valued::Upper | Valued::WholeUpper => (None, Some(upper_end(limit)?)),
+        Valued::Upper | Valued::WholeUpper | Valued::SemiContinuous => {
+            (None, Some(upper_end(limit)?))
+        }
         Valued::Fixed => (Some(fixed_end(limit)?), Some(fixed_end(limit)?)),
     };
     Some(Change {
         whole,
+        semi,
         lower,
         upper,
     })
@@ -140,6 +148,7 @@ pub fn bare_change(kind: Bare) -> Change
     };
     Change {
         whole,
+        semi: false,
         lower,
         upper,
     }

@@ -66,6 +66,8 @@ fn parts_of(tables: &Tables) -> Parts<'_>
             lowers: tables.lowers().as_slice(),
             uppers: tables.uppers().as_slice(),
             wholes: tables.wholes().as_slice(),
+            semis: tables.semis().as_slice(),
+            semi_uppers: tables.semi_uppers().as_slice(),
         },
         entries: tables.entries(),
     }

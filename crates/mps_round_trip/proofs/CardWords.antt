@@ -15,7 +15,7 @@ use Rattle.mps_profile.specs.Cards.{MarkerCard}
 use Rattle.mps_profile.specs.FreeCards.{column_with, pairs_at, free_card}
 use Rattle.mps_profile.specs.declared.sections.Section.TheVariants.{Rows, Columns, Rhs, Ranges, Bounds}
 use Rattle.mps_profile.specs.declared.bounds.Valued.{Valued}
-use Rattle.mps_profile.specs.declared.bounds.Valued.TheVariants.{Lower, Upper, Fixed, WholeLower, WholeUpper}
+use Rattle.mps_profile.specs.declared.bounds.Valued.TheVariants.{Lower, Upper, Fixed, WholeLower, WholeUpper, SemiContinuous}
 use Rattle.mps_profile.specs.declared.bounds.Bare.{Bare}
 use Rattle.mps_profile.specs.declared.bounds.Bare.TheVariants.{Free, NoLower, NoUpper, Binary}
 use Rattle.mps_profile.specs.declared.faults.MpsFaultKind.TheVariants.{FieldCount}
@@ -24,7 +24,7 @@ use Rattle.mps_writer.specs.declared.rows.RowType.TheVariants.{Equal, AtMost, At
 use Rattle.mps_writer.specs.Sections.{type_by, type_word, is_below_zero}
 use Rattle.mps_written_lines.specs.Words.{IsWord}
 use Rattle.mps_written_lines.specs.Words.{IsRowName}
-use Rattle.mps_written_lines.specs.Written.{WrittenCard, row_written, objective_written, marks, entry_written, all_terms, columns_written, side_written, side_by, range_written, range_by, valued_written, bare_written, valued_word, bare_word, lower_written, upper_written, ends_written, bounds_by}
+use Rattle.mps_written_lines.specs.Written.{WrittenCard, row_written, objective_written, marks, entry_written, all_terms, columns_written, side_written, side_by, range_written, range_by, valued_written, infinite_written, bare_written, valued_word, bare_word, lower_written, upper_written, ends_written, bounds_by, semi_lower_written, semi_upper_written, semi_written, bounds_written}
 use Rattle.mps_written_cards.proofs.Segments.{all_append}
 use Rattle.mps_written_lines.specs.AreCards.{IsCardOf}
 use Rattle.mps_written_lines.proofs.Reading.{card_kind}
@@ -45,6 +45,7 @@ valued_is_word Upper = record { some = refl; plain = refl }
 valued_is_word Fixed = record { some = refl; plain = refl }
 valued_is_word WholeLower = record { some = refl; plain = refl }
 valued_is_word WholeUpper = record { some = refl; plain = refl }
+valued_is_word SemiContinuous = record { some = refl; plain = refl }
 
 bare_is_word : (kind : Bare) → IsWord (bare_word kind)
 bare_is_word Free = record { some = refl; plain = refl }
@@ -101,6 +102,20 @@ valued_read numbers kind name q word read =
     said Fixed = refl
     said WholeLower = refl
     said WholeUpper = refl
+    said SemiContinuous = refl
+
+pub infinite_read : (kind : Valued) (name : Text) → IsWord name → IsCardOf (Some Bounds) (infinite_written kind name)
+infinite_read kind name word =
+    let all : AllByRecursion IsWord (infinite_written kind name).words = (valued_is_word kind, (record { some = refl; plain = refl }, (word, (record { some = refl; plain = refl }, tt)))) in
+    record { words = all; kind = card_kind (valued_word kind) (codes "BND" ∷ name ∷ codes "inf" ∷ []) all; says = said kind }
+  where
+    said : (k : Valued) → free_card (Some Bounds) (infinite_written k name).words ≡ Ok (infinite_written k name).card
+    said Lower = refl
+    said Upper = refl
+    said Fixed = refl
+    said WholeLower = refl
+    said WholeUpper = refl
+    said SemiContinuous = refl
 
 pub bare_read : (kind : Bare) (name : Text) → IsWord name → IsCardOf (Some Bounds) (bare_written kind name)
 bare_read kind name word =
@@ -174,14 +189,39 @@ module _ (P : WrittenCard → Type 0) (numbers : Numbers) (name : Text) (bare : 
   ends_all : (whole : Bool) (lower upper : Option Number) → IsReadIn numbers lower → IsReadIn numbers upper → AllByRecursion P (lower_written name lower upper ++ upper_written name whole upper)
   ends_all whole lower upper low high = all_append P (lower_written name lower upper) (upper_written name whole upper) (lower_all lower upper low) (upper_all whole upper high)
 
-pub bounds_all : (P : WrittenCard → Type 0) (numbers : Numbers) (c : ColumnDef) → ((kind : Bare) → P (bare_written kind c.name))
+  semi_lower_all : (lower : Option Number) → IsReadIn numbers lower → AllByRecursion P (semi_lower_written name lower)
+  semi_lower_all None read = (bare NoLower, tt)
+  semi_lower_all (Some q) read = by_test (eq_ℚ q zero_ℚ)
+    where
+      by_test : (b : Bool) → AllByRecursion P (cond b [] (valued_written Lower name q ∷ []))
+      by_test true = tt
+      by_test false = (valued Lower q read, tt)
+
+  semi_upper_one : P (infinite_written SemiContinuous name) → (upper : Option Number) → IsReadIn numbers upper → P (semi_upper_written name upper)
+  semi_upper_one infinite None read = infinite
+  semi_upper_one infinite (Some q) read = valued SemiContinuous q read
+
+  semi_all : P (infinite_written SemiContinuous name) → (lower upper : Option Number) → IsReadIn numbers lower → IsReadIn numbers upper
+      → AllByRecursion P (semi_lower_written name lower ++ semi_upper_written name upper ∷ [])
+  semi_all infinite lower upper low high = all_append P (semi_lower_written name lower) (semi_upper_written name upper ∷ []) (semi_lower_all lower low) (semi_upper_one infinite upper high, tt)
+
+plain_all : (P : WrittenCard → Type 0) (numbers : Numbers) (c : ColumnDef) → ((kind : Bare) → P (bare_written kind c.name))
     → ((kind : Valued) (q : Number) → IsRead numbers q → P (valued_written kind c.name q)) → (lower upper : Option Number) → IsReadIn numbers lower → IsReadIn numbers upper
     → IsReadIn numbers c.lower → IsReadIn numbers c.upper → AllByRecursion P (bounds_by c lower upper)
-bounds_all P numbers c bare valued None None low high read_low read_high = (bare Free, tt)
-bounds_all P numbers c bare valued None (Some u) low high read_low read_high = ends_all P numbers c.name bare valued c.whole c.lower c.upper read_low read_high
-bounds_all P numbers c bare valued (Some l) None low high read_low read_high = ends_all P numbers c.name bare valued c.whole c.lower c.upper read_low read_high
-bounds_all P numbers c bare valued (Some l) (Some u) low high read_low read_high = by_test (eq_ℚ l u)
+plain_all P numbers c bare valued None None low high read_low read_high = (bare Free, tt)
+plain_all P numbers c bare valued None (Some u) low high read_low read_high = ends_all P numbers c.name bare valued c.whole c.lower c.upper read_low read_high
+plain_all P numbers c bare valued (Some l) None low high read_low read_high = ends_all P numbers c.name bare valued c.whole c.lower c.upper read_low read_high
+plain_all P numbers c bare valued (Some l) (Some u) low high read_low read_high = by_test (eq_ℚ l u)
   where
     by_test : (b : Bool) → AllByRecursion P (cond b (valued_written Fixed c.name l ∷ []) (ends_written c))
     by_test true = (valued Fixed l low, tt)
     by_test false = ends_all P numbers c.name bare valued c.whole c.lower c.upper read_low read_high
+
+pub bounds_all : (P : WrittenCard → Type 0) (numbers : Numbers) (c : ColumnDef) → ((kind : Bare) → P (bare_written kind c.name))
+    → ((kind : Valued) (q : Number) → IsRead numbers q → P (valued_written kind c.name q)) → P (infinite_written SemiContinuous c.name) → IsReadIn numbers c.lower → IsReadIn numbers c.upper
+    → AllByRecursion P (bounds_written c)
+bounds_all P numbers c bare valued infinite low high = by_test c.semi
+  where
+    by_test : (b : Bool) → AllByRecursion P (cond b (semi_written c) (bounds_by c c.lower c.upper))
+    by_test true = semi_all P numbers c.name bare valued infinite c.lower c.upper low high
+    by_test false = plain_all P numbers c bare valued c.lower c.upper low high low high

@@ -19,9 +19,9 @@ use Rattle.lp_model.specs.Names.{names_of_rows}
 use Rattle.lp_model.specs.Sparse.{Ascends}
 use Rattle.mps_profile.specs.Texts.{Text, field}
 use Rattle.mps_profile.specs.Cards.{Card}
-use Rattle.mps_profile.specs.Sides.{sides_of, default_lower}
+use Rattle.mps_profile.specs.Sides.{sides_of}
 use Rattle.mps_profile.specs.Rows.{row_names, is_free, right_side, range_of}
-use Rattle.mps_profile.specs.Columns.{column_names, coefficient, lower_bound, upper_bound, is_whole}
+use Rattle.mps_profile.specs.Columns.{column_names, coefficient, lower_under, lower_bound, upper_bound, semi_upper_of, is_whole, is_semi}
 use Rattle.mps_profile.specs.Program.{objective_place, kind_at, row_defs_at, rows_below, row_defs, terms_below, terms_of, column_def, columns_below, column_defs, sense_in, program_in}
 use Rattle.mps_profile.specs.declared.dialect.Dialect.{Dialect}
 use Rattle.mps_profile.specs.declared.row_kinds.Interval.{Interval}
@@ -39,7 +39,7 @@ use Rattle.mps_written_cards.proofs.ColumnCards.{told, whole_of}
 use Rattle.mps_written_cards.proofs.Arithmetic.{neg_neg, or_zero}
 use Rattle.mps_written_cards.proofs.SideCards.{side_told}
 use Rattle.mps_round_trip.proofs.RangeCards.{interval, interval_by, range_told}
-use Rattle.mps_round_trip.proofs.BoundCards.{lower_told, upper_told, lower_is, upper_is}
+use Rattle.mps_round_trip.proofs.BoundCards.{lower_told, upper_told, semi_told, semi_upper_told, gives}
 use Rattle.mps_written_cards.proofs.Terms.{cost_is, entry_is, written_kinds, terms_are}
 use Rattle.mps_round_trip.proofs.Ready.{Ready}
 use Rattle.mps_round_trip.proofs.Said.{Says}
@@ -58,7 +58,7 @@ sides_back numbers (Some l) (Some u) w = by_test (eq_ℚ l u) refl
 
 -- stands for a column past the last
 abbrev no_column : ColumnDef
-no_column = record { name = []; cost = zero_ℚ; lower = None; upper = None; whole = false; entries = [] }
+no_column = record { name = []; cost = zero_ℚ; lower = None; upper = None; whole = false; semi = false; entries = [] }
 
 columns_to : (column : ℕ → ColumnDef) (cs : List ColumnDef) → ((j : ℕ) → j < length cs → column j ≡ get_or cs j no_column) → (n : ℕ) → n ≤ length cs → columns_below column n ≡ take n cs
 columns_to column cs same zero le = refl
@@ -127,19 +127,23 @@ module _ (numbers : Numbers) (p : ProgramData) (r : Ready numbers p) (s : Says n
   number_is j i c at = ap (λ (o : Option Number). unwrap_or o zero_ℚ) (s.entries j i ∙ ap (λ (o : Option ColumnDef). told o i) at)
 
   upper_at : (j : ℕ) (c : ColumnDef) → slice_get p.columns j ≡ Some c → upper_bound d cards j ≡ c.upper
-  upper_at j c at = ap (λ (o : Option (Option Number)). unwrap_or o None) (s.upper j ∙ ap upper_told at) ∙ upper_is c.name c.whole c.lower c.upper
+  upper_at j c at = ap (λ (o : Option (Option Number)). unwrap_or o None) (s.upper j ∙ ap upper_told at) ∙ (gives c).upper_is
+
+  semi_upper_at : (j : ℕ) (c : ColumnDef) → slice_get p.columns j ≡ Some c → unwrap_or (semi_upper_of d cards j) false ≡ c.semi
+  semi_upper_at j c at = ap (λ (o : Option Bool). unwrap_or o false) (s.semi_uppers j ∙ ap semi_upper_told at) ∙ (gives c).semi_upper_is
 
   lower_at : (j : ℕ) (c : ColumnDef) → slice_get p.columns j ≡ Some c → lower_bound d cards j ≡ c.lower
   lower_at j c at =
-      ap₂ (λ (o : Option (Option Number)) (u : Option Number). unwrap_or o (default_lower u)) (s.lower j ∙ ap lower_told at) (upper_at j c at) ∙ lower_is c.name c.whole c.lower c.upper
+      ap₂ (λ (o : Option (Option Number)) (u : Option Number). unwrap_or o (lower_under (unwrap_or (semi_upper_of d cards j) false) u)) (s.lower j ∙ ap lower_told at) (upper_at j c at)
+      ∙ ap (λ (b : Bool). unwrap_or (lower_told (Some c)) (lower_under b c.upper)) (semi_upper_at j c at) ∙ (gives c).lower_is
 
   terms_at : (j : ℕ) (c : ColumnDef) → slice_get p.columns j ≡ Some c → Ascends 0 (length p.rows) c.entries → terms_of d cards j (length (row_names cards)) ≡ c.entries
   terms_at j c at ascend =
       ap₂ (λ (ks : List RowKind) (n : ℕ). terms_below ks (coefficient d cards j) n) s.row_kinds_are row_count
       ∙ terms_are p.rows (coefficient d cards j) c.entries ascend (λ k. number_is j (suc k) c at ∙ ap (λ (o : Option Number). unwrap_or o zero_ℚ) (entry_is c k))
 
-  made : Text → Number → Option Number → Option Number → Bool → List Term → ColumnDef
-  made name cost lower upper whole entries = record { name = name; cost = cost; lower = lower; upper = upper; whole = whole; entries = entries }
+  made : Text → Number → Option Number → Option Number → Bool → Bool → List Term → ColumnDef
+  made name cost lower upper whole semi entries = record { name = name; cost = cost; lower = lower; upper = upper; whole = whole; semi = semi; entries = entries }
 
   column_at : (j : ℕ) → j < length p.columns → column_def d cards j ≡ get_or p.columns j no_column
   unfolding made
@@ -149,11 +153,13 @@ module _ (numbers : Numbers) (p : ProgramData) (r : Ready numbers p) (s : Says n
       let name : field (column_names cards) j ≡ c.name = ap (λ (names : List Text). field names j) s.column_names_are ∙ get_or-map (λ (x : ColumnDef). x.name) p.columns j no_column [] lt in
       let cost : coefficient d cards j (objective_place cards) ≡ c.cost = ap (coefficient d cards j) place_is ∙ number_is j 0 c at ∙ cost_is c in
       let whole : is_whole d cards j ≡ c.whole = s.wholes j ∙ ap whole_of at in
+      let semi : is_semi d cards j ≡ c.semi = s.semis j ∙ ap semi_told at ∙ (gives c).semi_is in
       let entries : terms_of d cards j (length (row_names cards)) ≡ c.entries =
       terms_at j c at (All-from_recursion (λ (x : ColumnDef). Ascends 0 (length p.rows) x.entries) p.columns r.ascend j no_column lt) in
-      ap₂ (λ (n : Text) (v : Number). made n v (lower_bound d cards j) (upper_bound d cards j) (is_whole d cards j) (terms_of d cards j (length (row_names cards)))) name cost
-      ∙ ap₂ (λ (l u : Option Number). made c.name c.cost l u (is_whole d cards j) (terms_of d cards j (length (row_names cards)))) (lower_at j c at) (upper_at j c at)
-      ∙ ap₂ (λ (w : Bool) (ts : List Term). made c.name c.cost c.lower c.upper w ts) whole entries
+      ap₂ (λ (n : Text) (v : Number). made n v (lower_bound d cards j) (upper_bound d cards j) (is_whole d cards j) (is_semi d cards j) (terms_of d cards j (length (row_names cards)))) name cost
+      ∙ ap₂ (λ (l u : Option Number). made c.name c.cost l u (is_whole d cards j) (is_semi d cards j) (terms_of d cards j (length (row_names cards)))) (lower_at j c at) (upper_at j c at)
+      ∙ ap₂ (λ (w s : Bool). made c.name c.cost c.lower c.upper w s (terms_of d cards j (length (row_names cards)))) whole semi
+      ∙ ap (λ (ts : List Term). made c.name c.cost c.lower c.upper c.whole c.semi ts) entries
 
   column_count : length (column_names cards) ≡ length p.columns
   column_count = ap length s.column_names_are ∙ length-map p.columns (λ (x : ColumnDef). x.name)

@@ -21,6 +21,7 @@ use Rattle.mps_profile.specs.declared.dialect.Format.TheVariants.{Free}
 use Rattle.mps_profile.specs.declared.progress.Progress.{Progress}
 use Rattle.mps_profile.specs.declared.sections.Section.{Section}
 use Rattle.mps_profile.specs.declared.sections.Section.TheVariants.{Rows, Columns, Rhs, Ranges, Bounds, Endata}
+use Rattle.mps_profile.specs.declared.bounds.Valued.TheVariants.{SemiContinuous}
 use Rattle.mps_writer.specs.MpsText.{mps_text}
 use Rattle.mps_writer.specs.Sections.{right_side_by}
 use Rattle.mps_written_lines.specs.Words.{IsWord}
@@ -38,7 +39,7 @@ use Rattle.mps_written_lines.proofs.Reading.{Reads, at, told_of, lines_reads}
 use Rattle.mps_written_cards.proofs.RowCards.{kinds_said}
 use Rattle.mps_written_cards.proofs.SideCards.{IsReadIn}
 use Rattle.mps_round_trip.proofs.RangeCards.{WidthIn}
-use Rattle.mps_round_trip.proofs.CardWords.{row_read, objective_read, columns_read, side_read, sides_all, range_read, ranges_all, valued_read, bare_read, bounds_all}
+use Rattle.mps_round_trip.proofs.CardWords.{row_read, objective_read, columns_read, side_read, sides_all, range_read, ranges_all, valued_read, infinite_read, bare_read, bounds_all}
 use Rattle.mps_round_trip.proofs.Ready.{Ready, ready, both}
 use Rattle.mps_round_trip.proofs.Said.{columns_ready, said}
 use Rattle.mps_round_trip.proofs.Program.{program_back}
@@ -68,7 +69,8 @@ are_cards numbers p r = record {
       (λ row is. ranges_all (IsCardOf (Some Ranges)) numbers row.name row.lower row.upper is.1 (λ q read. range_read numbers row.name q is.0.word read))
       p.rows (both (λ (row : RowDef) a b. (a, b)) p.rows r.rows_named.1 r.widths);
   bounds = all_flat (IsCardOf (Some Bounds)) (BoundColumn numbers) bounds_written
-      (λ c is. bounds_all (IsCardOf (Some Bounds)) numbers c (λ kind. bare_read kind c.name is.0) (λ kind q read. valued_read numbers kind c.name q is.0 read) c.lower c.upper is.1.0 is.1.1 is.1.0 is.1.1)
+      (λ c is. bounds_all (IsCardOf (Some Bounds)) numbers c (λ kind. bare_read kind c.name is.0) (λ kind q read. valued_read numbers kind c.name q is.0 read)
+      (infinite_read SemiContinuous c.name is.0) is.1.0 is.1.1)
       p.columns (both (λ (c : ColumnDef) a b. (a, b)) p.columns r.columns_named r.bounds_read);
 }
 

@@ -13,7 +13,7 @@ use Rattle.mps_profile.specs.declared.bounds.Valued.{Valued}
 use Rattle.mps_profile.specs.declared.bounds.Bare.{Bare}
 use Rattle.mps_profile.specs.Sets.{counts, side_set, range_set, bound_set}
 use Rattle.mps_profile.specs.Rows.{row_names, row_kinds, side_of, range_of}
-use Rattle.mps_profile.specs.Columns.{column_names, number_at, in_run, lower_of, upper_of, is_whole}
+use Rattle.mps_profile.specs.Columns.{column_names, number_at, in_run, lower_of, upper_of, semi_upper_of, is_whole, is_semi}
 use Rattle.mps_profile.specs.declared.dialect.Dialect.{Dialect}
 use Rattle.mps_profile.specs.declared.row_kinds.RowKind as kinds
 use Rattle.mps_laws.specs.Faultless.{IsFaultless}
@@ -27,7 +27,7 @@ use Rattle.mps_written_cards.proofs.EntryCards.{Told}
 use Rattle.mps_written_cards.proofs.ColumnCards.{told, whole_of, Columned, columns_run}
 use Rattle.mps_written_cards.proofs.SideCards.{IsReadIn, side_told, Sided, sides_run}
 use Rattle.mps_round_trip.proofs.RangeCards.{WidthIn, range_told, Ranged, ranges_run}
-use Rattle.mps_round_trip.proofs.BoundCards.{lower_told, upper_told, Bounded, bounds_run}
+use Rattle.mps_round_trip.proofs.BoundCards.{lower_told, upper_told, semi_told, semi_upper_told, Bounded, bounds_run}
 use Rattle.mps_written_cards.proofs.Terms.{written_kinds}
 use Rattle.mps_round_trip.proofs.CardWords.{ReadColumn, columns_all, sides_all, ranges_all, bounds_all}
 use Rattle.mps_round_trip.proofs.Ready.{Ready}
@@ -42,6 +42,8 @@ pub record Says (numbers : Numbers) (p : ProgramData) (cards : List Card) : Type
   pub entries : (j i : ℕ) → number_at (free_format numbers) cards j i ≡ told (slice_get p.columns j) i
   pub lower : (j : ℕ) → lower_of (free_format numbers) cards j ≡ lower_told (slice_get p.columns j)
   pub upper : (j : ℕ) → upper_of (free_format numbers) cards j ≡ upper_told (slice_get p.columns j)
+  pub semis : (j : ℕ) → is_semi (free_format numbers) cards j ≡ semi_told (slice_get p.columns j)
+  pub semi_uppers : (j : ℕ) → semi_upper_of (free_format numbers) cards j ≡ semi_upper_told (slice_get p.columns j)
   pub wholes : (j : ℕ) → is_whole (free_format numbers) cards j ≡ whole_of (slice_get p.columns j)
   pub sound : IsFaultless (free_format numbers) cards
 
@@ -94,7 +96,7 @@ module _ (numbers : Numbers) (p : ProgramData) (r : Ready numbers p) where
 
   of_bounds : AllByRecursion (λ (w : WrittenCard). OfBounds w.card) bounds
   of_bounds = all_flat (λ (w : WrittenCard). OfBounds w.card) (λ (c : ColumnDef). IsReadIn numbers c.lower × IsReadIn numbers c.upper) bounds_written
-      (λ c read. bounds_all (λ (w : WrittenCard). OfBounds w.card) numbers c (λ kind. tt) (λ kind q is. tt) c.lower c.upper read.0 read.1 read.0 read.1) p.columns r.bounds_read
+      (λ c read. bounds_all (λ (w : WrittenCard). OfBounds w.card) numbers c (λ kind. tt) (λ kind q is. tt) tt read.0 read.1) p.columns r.bounds_read
 
   -- after ROWS and COLUMNS
   columned : Columned numbers names p.columns (column_cards p) false
@@ -164,6 +166,10 @@ module _ (numbers : Numbers) (p : ProgramData) (r : Ready numbers p) where
             ∙ untold (λ (cards : List Card). lower_of d cards j) (λ kind name before. refl) (λ word before. refl) (λ name pairs before. refl);
         upper = λ j. past_ranges (λ (cards : List Card). upper_of d cards j) (λ set pairs before. refl) (λ set pairs before. refl)
             ∙ untold (λ (cards : List Card). upper_of d cards j) (λ kind name before. refl) (λ word before. refl) (λ name pairs before. refl);
+        semi = λ j. past_ranges (λ (cards : List Card). is_semi d cards j) (λ set pairs before. refl) (λ set pairs before. refl)
+            ∙ untold (λ (cards : List Card). is_semi d cards j) (λ kind name before. refl) (λ word before. refl) (λ name pairs before. refl);
+        semi_upper = λ j. past_ranges (λ (cards : List Card). semi_upper_of d cards j) (λ set pairs before. refl) (λ set pairs before. refl)
+            ∙ untold (λ (cards : List Card). semi_upper_of d cards j) (λ kind name before. refl) (λ word before. refl) (λ name pairs before. refl);
         whole = λ j. refl;
         sound = ranged_all.sound;
       }) r.columns_numbered refl r.bounds
@@ -186,6 +192,8 @@ module _ (numbers : Numbers) (p : ProgramData) (r : Ready numbers p) where
         ∙ past_ranges (λ (cards : List Card). number_at d cards j i) (λ set pairs before. refl) (λ set pairs before. refl) ∙ columned.entries j i;
     lower = bounded.lower;
     upper = bounded.upper;
+    semis = bounded.semi;
+    semi_uppers = bounded.semi_upper;
     wholes = λ j. bounded.whole j ∙ past_ranges (λ (cards : List Card). is_whole d cards j) (λ set pairs before. refl) (λ set pairs before. refl) ∙ columned.wholes j;
     sound = bounded.sound;
   }

@@ -14,10 +14,10 @@ ghost use Rattle.mps_round_trip.specs.Plain.{Plain};
 ghost use Rattle.lp_model.specs.Writable.{Writable, EntriesAscend};
 
 /// The text that is written of a program whose numbers can be written has no fault, and it is the
-/// text of this very program: each name, number, side and bound, the sense, the constant and the
-/// order of rows and columns are read as they were. Its names are names and differ, as the type of
-/// programs keeps; none has a carriage return, and the word of marker cards names no row and no
-/// objective.
+/// text of this very program: each name, number, side and bound, the sense, the constant, the order
+/// of rows and columns and which columns are whole and semi-continuous are read as they were. Its
+/// names are names and differ, as the type of programs keeps; none has a carriage return, and the
+/// word of marker cards names no row and no objective.
 pub fn written_texts_are_read_again()
     ensures sound { (numbers : Numbers) (p : ProgramData) → WellNamed p.objective p.rows p.columns → Plain p → Writable numbers p → EntriesAscend p → first_fault (free_format numbers) (mps_text p) ≡ None }
     ensures same { (numbers : Numbers) (p : ProgramData) → WellNamed p.objective p.rows p.columns → Plain p → Writable numbers p → EntriesAscend p → program_of (free_format numbers) (mps_text p) ≡ p }

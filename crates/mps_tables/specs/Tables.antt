@@ -3,7 +3,7 @@ use Rattle.std.specs.Prelude.{◌≡◌, ℕ, List, ◌∷◌, Some, None, Resul
 use Rattle.mps_profile.specs.Cards.{Card}
 use Rattle.mps_profile.specs.Sets.{side_set, range_set, bound_set}
 use Rattle.mps_profile.specs.Rows.{row_names, row_kinds, side_of, range_of}
-use Rattle.mps_profile.specs.Columns.{column_names, number_at, open_column, in_run, is_whole, lower_of, upper_of}
+use Rattle.mps_profile.specs.Columns.{column_names, number_at, open_column, in_run, is_semi, is_whole, lower_of, semi_upper_of, upper_of}
 use Rattle.mps_profile.specs.CardFaults.{card_fault}
 use Rattle.mps_profile.specs.declared.dialect.Dialect.{Dialect}
 use Rattle.mps_stores.specs.Stores.{number_in}
@@ -24,6 +24,8 @@ pub record Holds (dialect : Dialect) (cards : List Card) (tables : Tables) : Typ
   pub current : tables.current ≡ open_column cards
   pub run : tables.run ≡ in_run cards
   pub wholes : (j : ℕ) → flag tables.wholes j ≡ is_whole dialect cards j
+  pub semis : (j : ℕ) → flag tables.semis j ≡ is_semi dialect cards j
+  pub semi_uppers : (j : ℕ) → held tables.semi_uppers j ≡ semi_upper_of dialect cards j
   pub lowers : (j : ℕ) → held tables.lowers j ≡ lower_of dialect cards j
   pub uppers : (j : ℕ) → held tables.uppers j ≡ upper_of dialect cards j
   pub first_side : tables.side_set ≡ side_set cards

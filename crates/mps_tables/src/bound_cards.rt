@@ -22,6 +22,8 @@ impl Tables {
         put_end(&mut self.lowers, column, change.lower)?;
         put_end(&mut self.uppers, column, change.upper)?;
         put_mark(&mut self.wholes, column, change.whole)?;
+        put_mark(&mut self.semis, column, change.semi)?;
+        put_kind(&mut self.semi_uppers, column, upper_kind(change))?;
         Ok(())
     }
 
@@ -69,7 +71,7 @@ impl Tables {
 }
 
 ghost use Rattle.std.specs.Prelude.{◌≡◌, ◌==◌, ◌&&◌, ◌||◌, ℕ, OnOk, None, Some, if◌then◌else◌};
-ghost use Rattle.mps_profile.specs.Columns.{or_before};
+ghost use Rattle.mps_profile.specs.Columns.{last_kind, or_before, semi_upper_in};
 ghost use Rattle.mps_tables.specs.Slots.{held, flag};
 
 /// Gives a column an end, or leaves the one that it has.
@@ -83,8 +85,32 @@ fn put_end(ends: &mut Slots<Ext>, column: usize, end: Option<Ext>) -> Result<(),
 }
 
 /// Marks a column, or leaves it as it is.
-fn put_mark(wholes: &mut Flags, column: usize, whole: bool) -> Result<(), AllocError>
-    ensures { OnOk result ((j : ℕ) → flag wholes.new j ≡ ((column == j && whole) || flag wholes.old j)) }
+fn put_mark(marks: &mut Flags, column: usize, is_marked: bool) -> Result<(), AllocError>
+    ensures { OnOk result ((j : ℕ) → flag marks.new j ≡ ((column == j && is_marked) || flag marks.old j)) }
 {
-    if whole { wholes.mark(column) } else { Ok(()) }
+    if is_marked {
+        marks.mark(column)
+    } else {
+        Ok(())
+    }
+}
+
+/// Whether a change of an upper bound is of type SC; none where it is none of an upper bound.
+fn upper_kind(change: Change) -> Option<bool>
+    ensures { result ≡ semi_upper_in (Some change) }
+{
+    match change.upper {
+        Some(_) => Some(change.semi),
+        None => None,
+    }
+}
+
+/// Notes what kind of card set the upper bound of a column, or leaves what is noted.
+fn put_kind(kinds: &mut Slots<bool>, column: usize, kind: Option<bool>) -> Result<(), AllocError>
+    ensures { OnOk result ((j : ℕ) → held kinds.new j ≡ last_kind (if column == j then kind else None) (held kinds.old j)) }
+{
+    match kind {
+        Some(semi) => kinds.put(column, semi),
+        None => Ok(()),
+    }
 }

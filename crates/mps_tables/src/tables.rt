@@ -36,6 +36,10 @@ pub struct Tables {
     pub(crate) run: bool,
     /// The columns that are whole.
     pub(crate) wholes: Flags,
+    /// The columns that are semi-continuous.
+    pub(crate) semis: Flags,
+    /// Whether a card of type SC gives a column its upper bound.
+    pub(crate) semi_uppers: Slots<bool>,
     /// The lower bounds that cards give columns.
     pub(crate) lowers: Slots<Ext>,
     /// The upper bounds that cards give columns.
@@ -68,6 +72,8 @@ impl Tables {
             current: None,
             run: false,
             wholes: Flags::new(alloc),
+            semis: Flags::new(alloc),
+            semi_uppers: Slots::new(alloc),
             lowers: Slots::new(alloc),
             uppers: Slots::new(alloc),
             side_set: FirstSet::new(),
@@ -130,6 +136,20 @@ impl Tables {
         ensures { result.now ≡ self.now.wholes }
     {
         &self.wholes
+    }
+
+    /// The columns that are semi-continuous.
+    pub fn semis(&self) -> &Flags
+        ensures { result.now ≡ self.now.semis }
+    {
+        &self.semis
+    }
+
+    /// Whether it is of type SC, where a card sets the upper bound of a column.
+    pub fn semi_uppers(&self) -> &Slots<bool>
+        ensures { result.now ≡ self.now.semi_uppers }
+    {
+        &self.semi_uppers
     }
 
     /// The lower bounds of columns, where a card sets one.

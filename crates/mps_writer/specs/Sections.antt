@@ -77,6 +77,10 @@ bound_card kind name = card (kind ∷ codes "BND" ∷ name ∷ [])
 abbrev pub bound_at_card : List ℕ → List ℕ → Number → List ℕ
 bound_at_card kind name q = card (kind ∷ codes "BND" ∷ name ∷ written q ∷ [])
 
+-- a bound that is infinite, with the word for it
+abbrev pub infinite_bound_card : List ℕ → List ℕ → List ℕ
+infinite_bound_card kind name = card (kind ∷ codes "BND" ∷ name ∷ codes "inf" ∷ [])
+
 abbrev pub is_below_zero : Option Number → Bool
 is_below_zero None = false
 is_below_zero (Some q) = lt_ℚ q zero_ℚ
@@ -94,12 +98,25 @@ upper_text name whole (Some q) = bound_at_card (codes "UP") name q
 abbrev pub ends_text : ColumnDef → List ℕ
 ends_text c = lower_text c.name c.lower c.upper ++ upper_text c.name c.whole c.upper
 
--- a column's bounds: free, fixed, or each end by itself
+-- the bounds of a column that isn't semi-continuous: free, fixed, or each end by itself
 abbrev pub bounds_by : ColumnDef → Option Number → Option Number → List ℕ
 bounds_by c None None = bound_card (codes "FR") c.name
 bounds_by c None (Some u) = ends_text c
 bounds_by c (Some l) None = ends_text c
 bounds_by c (Some l) (Some u) = if eq_ℚ l u then bound_at_card (codes "FX") c.name l else ends_text c
 
+-- the lower bound of a semi-continuous column: 0 is left out
+abbrev pub semi_lower_text : List ℕ → Option Number → List ℕ
+semi_lower_text name None = bound_card (codes "MI") name
+semi_lower_text name (Some q) = if eq_ℚ q zero_ℚ then [] else bound_at_card (codes "LO") name q
+
+-- its upper bound, which makes it semi-continuous
+abbrev pub semi_upper_text : List ℕ → Option Number → List ℕ
+semi_upper_text name None = infinite_bound_card (codes "SC") name
+semi_upper_text name (Some q) = bound_at_card (codes "SC") name q
+
+abbrev pub semi_text : ColumnDef → List ℕ
+semi_text c = semi_lower_text c.name c.lower ++ semi_upper_text c.name c.upper
+
 abbrev pub bounds_text : ColumnDef → List ℕ
-bounds_text c = bounds_by c c.lower c.upper
+bounds_text c = if c.semi then semi_text c else bounds_by c c.lower c.upper

@@ -1,9 +1,9 @@
 //! The section of bounds.
 
 ghost use Rattle.std.specs.Prelude.{◌≡◌, ◌++◌, OnOk, IfOk, flat_map};
-ghost use Rattle.mps_writer.specs.Sections.{is_below_zero, lower_text, upper_text, ends_text, bounds_text};
+ghost use Rattle.mps_writer.specs.Sections.{is_below_zero, lower_text, upper_text, ends_text, bounds_by, semi_lower_text, semi_upper_text, semi_text, bounds_text};
 
-use crate::cards::{push_bound, push_bound_at};
+use crate::cards::{push_bound, push_bound_at, push_infinite_bound};
 use fractions::frac::Frac;
 use lp_model::ColumnDef;
 use std::alloc::{AllocError, Global};
@@ -52,9 +52,9 @@ fn push_ends(out: &mut Vec<u8>, column: &ColumnDef) -> Result<(), AllocError>
     push_upper(out, column)
 }
 
-/// Appends a column's bounds, where they aren't those that a column has without cards.
-fn push_bounds(out: &mut Vec<u8>, column: &ColumnDef) -> Result<(), AllocError>
-    ensures { OnOk result (out.new.items ≡ out.old.items ++ bounds_text column.now) }
+/// Appends the bounds of a column that isn't semi-continuous, where they aren't those that a column has without cards.
+fn push_plain(out: &mut Vec<u8>, column: &ColumnDef) -> Result<(), AllocError>
+    ensures { OnOk result (out.new.items ≡ out.old.items ++ bounds_by column.now column.now.lower column.now.upper) }
 {
     let name = column.name.as_bytes();
     match (column.lower.number(), column.upper.number()) {
@@ -67,6 +67,48 @@ fn push_bounds(out: &mut Vec<u8>, column: &ColumnDef) -> Result<(), AllocError>
             }
         }
         _ => push_ends(out, column),
+    }
+}
+
+/// Appends the lower bound of a semi-continuous column; 0 is left out.
+fn push_semi_lower(out: &mut Vec<u8>, column: &ColumnDef) -> Result<(), AllocError>
+    ensures { OnOk result (out.new.items ≡ out.old.items ++ semi_lower_text column.now.name column.now.lower) }
+{
+    let name = column.name.as_bytes();
+    match column.lower.number() {
+        Some(lower) if lower.is_zero() => Ok(()),
+        Some(lower) => push_bound_at(out, b"LO", name, &lower),
+        None => push_bound(out, b"MI", name),
+    }
+}
+
+/// Appends the upper bound of a semi-continuous column, of the type that makes it one.
+fn push_semi_upper(out: &mut Vec<u8>, column: &ColumnDef) -> Result<(), AllocError>
+    ensures { OnOk result (out.new.items ≡ out.old.items ++ semi_upper_text column.now.name column.now.upper) }
+{
+    let name = column.name.as_bytes();
+    match column.upper.number() {
+        Some(upper) => push_bound_at(out, b"SC", name, &upper),
+        None => push_infinite_bound(out, b"SC", name),
+    }
+}
+
+/// Appends the bounds of a semi-continuous column.
+fn push_semi(out: &mut Vec<u8>, column: &ColumnDef) -> Result<(), AllocError>
+    ensures { OnOk result (out.new.items ≡ out.old.items ++ semi_text column.now) }
+{
+    push_semi_lower(out, column)?;
+    push_semi_upper(out, column)
+}
+
+/// Appends a column's bounds.
+fn push_bounds(out: &mut Vec<u8>, column: &ColumnDef) -> Result<(), AllocError>
+    ensures { OnOk result (out.new.items ≡ out.old.items ++ bounds_text column.now) }
+{
+    if column.semi {
+        push_semi(out, column)
+    } else {
+        push_plain(out, column)
     }
 }
 

@@ -3,7 +3,7 @@
 ghost use Rattle.std.specs.Prelude.{◌≡◌, ◌++◌, ◌∷◌, [], OnOk};
 ghost use Rattle.number_texts.specs.Written.{written};
 ghost use Rattle.mps_writer.specs.Cards.{card};
-ghost use Rattle.mps_writer.specs.Sections.{bound_card, bound_at_card};
+ghost use Rattle.mps_writer.specs.Sections.{bound_card, bound_at_card, infinite_bound_card};
 
 use fractions::frac::Frac;
 use std::alloc::AllocError;
@@ -67,4 +67,13 @@ pub fn push_bound_at(
 {
     push_word(out, kind)?;
     push_value_card(out, b"BND", column, value)
+}
+
+/// Appends a bound that is infinite, with the word for it.
+pub fn push_infinite_bound(out: &mut Vec<u8>, kind: &[u8], column: &[u8]) -> Result<(), AllocError>
+    ensures { OnOk result (out.new.items ≡ out.old.items ++ infinite_bound_card kind.now column.now) }
+{
+    push_word(out, kind)?;
+    push_word(out, b"BND")?;
+    push_card(out, column, b"inf")
 }

@@ -28,7 +28,7 @@ use Rattle.number_texts.proofs.Again.{read-written, shown-is}
 use Rattle.mps_profile.specs.Texts.{Text}
 use Rattle.mps_profile.specs.Numerals.{number_on, limit_on, limit_by, is_far, is_far_form, infinity, is_infinity, lowered}
 use Rattle.mps_profile.specs.declared.bounds.Limit.{Limit}
-use Rattle.mps_profile.specs.declared.bounds.Limit.TheVariants.{At}
+use Rattle.mps_profile.specs.declared.bounds.Limit.TheVariants.{At, Above}
 use Rattle.mps_written_lines.specs.Words.{ends_word, IsWord}
 use Rattle.mps_written_lines.specs.Formats.{free_format}
 use Rattle.lp_model.specs.Writable.{WritableNumber, WritableBound, IsNear}
@@ -157,3 +157,7 @@ limit_read numbers q w =
     ap (λ (b : Bool). cond b (Ok (infinity (is_minus text))) read) (no_infinity (unsigned text) (none_unsigned text (written-marks late late_mark q fits)))
     ∙ ap (λ (r : Result Number ReadNumber). limit_by r (is_minus text) (is_far_form (terms_of (unsigned text)))) (readable numbers q w.0).again
     ∙ ap (λ (b : Bool). Ok (cond b (infinity (is_minus text)) (At q))) (near_is q w.1)
+
+-- and the word of an infinite upper bound as one
+pub infinite_read : (numbers : Numbers) → limit_on (free_format numbers) (codes "inf") ≡ Ok Above
+infinite_read numbers = refl

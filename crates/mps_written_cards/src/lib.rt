@@ -3,7 +3,7 @@
 //! card by card.
 #![tactic(auto)]
 
-ghost use Rattle.std.specs.Prelude.{◌≡◌, Ok};
+ghost use Rattle.std.specs.Prelude.{◌≡◌, Ok, codes};
 ghost use Rattle.rational.specs.Number.{Number};
 ghost use Rattle.fractions.specs.declared.Numbers.{Numbers};
 ghost use Rattle.number_texts.specs.Written.{written};
@@ -13,18 +13,19 @@ ghost use Rattle.lp_model.specs.Writable.{WritableNumber, WritableBound};
 ghost use Rattle.mps_profile.specs.Numerals.{number_on, limit_on};
 ghost use Rattle.mps_profile.specs.Rows.{row_names};
 ghost use Rattle.mps_profile.specs.declared.dialect.Dialect.{Dialect};
-ghost use Rattle.mps_profile.specs.declared.bounds.Limit.TheVariants.{At};
+ghost use Rattle.mps_profile.specs.declared.bounds.Limit.TheVariants.{At, Above};
 ghost use Rattle.mps_laws.specs.Faultless.{IsFaultless};
 ghost use Rattle.mps_laws.specs.Names.{IsNumbered};
 ghost use Rattle.mps_written_lines.specs.Words.{IsWord};
 ghost use Rattle.mps_written_lines.specs.Formats.{free_format};
 ghost use Rattle.mps_written_lines.specs.Written.{all_rows, row_cards};
 
-/// A number that can be written is a word, and is read again, as an entry and as a bound.
+/// A number that can be written is a word, and is read again, as an entry and as a bound; `inf` is read as an infinite bound.
 pub fn written_numbers_are_read_again()
     ensures word { (numbers : Numbers) (q : Number) → WritableNumber numbers q → IsWord (written q) }
     ensures number { (numbers : Numbers) (q : Number) → WritableNumber numbers q → number_on (free_format numbers) (written q) ≡ Ok q }
     ensures bound { (numbers : Numbers) (q : Number) → WritableBound numbers q → limit_on (free_format numbers) (written q) ≡ Ok (At q) }
+    ensures infinite { (numbers : Numbers) → limit_on (free_format numbers) (codes "inf") ≡ Ok Above }
 {}
 
 /// The cards of ROWS name the objective and the rows in their order, and have no fault where the names differ.

@@ -25,7 +25,7 @@ use Rattle.mps_writer.specs.MpsText as whole
 use Rattle.mps_writer.specs.MpsText.{section, mps_text}
 use Rattle.mps_written_lines.specs.Written.{unlined}
 use Rattle.lp_model.specs.Writable.{EntriesAscend}
-use Rattle.mps_written_lines.specs.Written.{WrittenCard, all_rows, row_written, rows_written, marks, entry_written, side_written, range_written, valued_written, cost_terms, moved, all_terms, columns_written, side_by, sides_written, range_by, ranges_written, lower_written, upper_written, ends_written, bounds_by, bounds_written, line, sense_lines, section_lines, written_lines}
+use Rattle.mps_written_lines.specs.Written.{WrittenCard, all_rows, row_written, rows_written, marks, entry_written, side_written, range_written, valued_written, cost_terms, moved, all_terms, columns_written, side_by, sides_written, range_by, ranges_written, lower_written, upper_written, ends_written, bounds_by, semi_lower_written, semi_upper_written, semi_written, bounds_written, line, sense_lines, section_lines, written_lines}
 
 -- the text of cards
 abbrev text_of : List WrittenCard → List ℕ
@@ -132,6 +132,30 @@ bounds_text_by c (Some l) (Some u) = by_test (eq_ℚ l u)
     by_test true = sym (append-nil _)
     by_test false = ends_text_is c
 
+semi_lower_text_is : (name : Text) (lower : Option Number) → texts.semi_lower_text name lower ≡ text_of (semi_lower_written name lower)
+semi_lower_text_is name None = sym (append-nil _)
+semi_lower_text_is name (Some q) = by_test (eq_ℚ q zero_ℚ)
+  where
+    by_test : (b : Bool) → cond b [] (texts.bound_at_card (codes "LO") name q) ≡ text_of (cond b [] (valued_written Lower name q ∷ []))
+    by_test true = refl
+    by_test false = sym (append-nil _)
+
+semi_upper_text_is : (name : Text) (upper : Option Number) → texts.semi_upper_text name upper ≡ text_of (semi_upper_written name upper ∷ [])
+semi_upper_text_is name None = sym (append-nil _)
+semi_upper_text_is name (Some q) = sym (append-nil _)
+
+semi_text_is : (c : ColumnDef) → texts.semi_text c ≡ text_of (semi_written c)
+semi_text_is c =
+    ap₂ (λ (x y : List ℕ). x ++ y) (semi_lower_text_is c.name c.lower) (semi_upper_text_is c.name c.upper)
+    ∙ sym (two_texts (semi_lower_written c.name c.lower) (semi_upper_written c.name c.upper ∷ []))
+
+bounds_text_is : (c : ColumnDef) → texts.bounds_text c ≡ text_of (bounds_written c)
+bounds_text_is c = by_test c.semi
+  where
+    by_test : (b : Bool) → cond b (texts.semi_text c) (texts.bounds_by c c.lower c.upper) ≡ text_of (cond b (semi_written c) (bounds_by c c.lower c.upper))
+    by_test true = semi_text_is c
+    by_test false = bounds_text_by c c.lower c.upper
+
 each_text_is : {X : Type 0} (text : X → List ℕ) (ws : X → List WrittenCard) → ((x : X) → text x ≡ text_of (ws x)) → (xs : List X) → flat_map text xs ≡ text_of (flat_map ws xs)
 each_text_is text ws each [] = refl
 each_text_is text ws each (x ∷ xs) = ap₂ (λ (a b : List ℕ). a ++ b) (each x) (each_text_is text ws each xs) ∙ sym (two_texts (ws x) (flat_map ws xs))
@@ -200,7 +224,7 @@ text_lines p ascend =
     (joined (whole.columns_section p.objective p.rows p.columns) _ from_sides from_columns
     (joined (section (codes "RHS") (whole.right_sides p.objective p.constant p.rows)) _ from_ranges from_sides
     (joined (section (codes "RANGES") (flat_map texts.range_text p.rows)) _ from_bounds from_ranges
-    (section_by (codes "BOUNDS") (flat_map texts.bounds_text p.columns) bounds end (each_text_is texts.bounds_text bounds_written (λ c. bounds_text_by c c.lower c.upper) p.columns))
+    (section_by (codes "BOUNDS") (flat_map texts.bounds_text p.columns) bounds end (each_text_is texts.bounds_text bounds_written bounds_text_is p.columns))
     (section_by (codes "RANGES") (flat_map texts.range_text p.rows) ranges from_bounds (each_text_is texts.range_text ranges_written (λ r. range_text_is r.name r.lower r.upper) p.rows)))
     (section_by (codes "RHS") (whole.right_sides p.objective p.constant p.rows) sides from_ranges (each_text_is texts.right_side_text sides_written (λ r. side_text_is r.name (texts.right_side_by r.lower r.upper)) (all_rows p))))
     (columns_section_is p from_sides ascend))

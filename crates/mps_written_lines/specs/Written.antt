@@ -14,7 +14,7 @@ use Rattle.lp_model.specs.Names.{names_of_rows}
 use Rattle.mps_profile.specs.Texts.{Text, field}
 use Rattle.mps_profile.specs.Cards.{One, Card, RowCard, MarkerCard, ColumnCard, SideCard, RangeCard, ValuedCard, BareCard}
 use Rattle.mps_profile.specs.declared.bounds.Valued.{Valued}
-use Rattle.mps_profile.specs.declared.bounds.Valued.TheVariants.{Lower, Upper, Fixed, WholeLower, WholeUpper}
+use Rattle.mps_profile.specs.declared.bounds.Valued.TheVariants.{Lower, Upper, Fixed, WholeLower, WholeUpper, SemiContinuous}
 use Rattle.mps_profile.specs.declared.bounds.Bare.{Bare}
 use Rattle.mps_profile.specs.declared.bounds.Bare.TheVariants.{Free, NoLower, NoUpper, Binary}
 use Rattle.mps_writer.specs.Cards.{spaced}
@@ -102,6 +102,7 @@ valued_word Upper = codes "UP"
 valued_word Fixed = codes "FX"
 valued_word WholeLower = codes "LI"
 valued_word WholeUpper = codes "UI"
+valued_word SemiContinuous = codes "SC"
 
 abbrev pub bare_word : Bare → Text
 bare_word Free = codes "FR"
@@ -111,6 +112,10 @@ bare_word Binary = codes "BV"
 
 abbrev pub valued_written : Valued → Text → Number → WrittenCard
 valued_written kind name q = record { words = valued_word kind ∷ codes "BND" ∷ name ∷ written q ∷ []; card = ValuedCard (Some (codes "BND")) kind name (written q) }
+
+-- a bound that is infinite, with the word for it
+abbrev pub infinite_written : Valued → Text → WrittenCard
+infinite_written kind name = record { words = valued_word kind ∷ codes "BND" ∷ name ∷ codes "inf" ∷ []; card = ValuedCard (Some (codes "BND")) kind name (codes "inf") }
 
 abbrev pub bare_written : Bare → Text → WrittenCard
 bare_written kind name = record { words = bare_word kind ∷ codes "BND" ∷ name ∷ []; card = BareCard (Some (codes "BND")) kind name }
@@ -128,15 +133,28 @@ upper_written name whole (Some q) = valued_written Upper name q ∷ []
 abbrev pub ends_written : ColumnDef → List WrittenCard
 ends_written c = lower_written c.name c.lower c.upper ++ upper_written c.name c.whole c.upper
 
--- a column's bounds: free, fixed, or each end by itself
+-- the bounds of a column that isn't semi-continuous: free, fixed, or each end by itself
 abbrev pub bounds_by : ColumnDef → Option Number → Option Number → List WrittenCard
 bounds_by c None None = bare_written Free c.name ∷ []
 bounds_by c None (Some u) = ends_written c
 bounds_by c (Some l) None = ends_written c
 bounds_by c (Some l) (Some u) = if eq_ℚ l u then valued_written Fixed c.name l ∷ [] else ends_written c
 
+-- the lower bound of a semi-continuous column: 0 is left out
+abbrev pub semi_lower_written : Text → Option Number → List WrittenCard
+semi_lower_written name None = bare_written NoLower name ∷ []
+semi_lower_written name (Some q) = if eq_ℚ q zero_ℚ then [] else valued_written Lower name q ∷ []
+
+-- its upper bound, which makes it semi-continuous
+abbrev pub semi_upper_written : Text → Option Number → WrittenCard
+semi_upper_written name None = infinite_written SemiContinuous name
+semi_upper_written name (Some q) = valued_written SemiContinuous name q
+
+abbrev pub semi_written : ColumnDef → List WrittenCard
+semi_written c = semi_lower_written c.name c.lower ++ semi_upper_written c.name c.upper ∷ []
+
 abbrev pub bounds_written : ColumnDef → List WrittenCard
-bounds_written c = bounds_by c c.lower c.upper
+bounds_written c = if c.semi then semi_written c else bounds_by c c.lower c.upper
 
 -- cards after those before them, of which the nearest stands first
 abbrev pub onto : List Card → List WrittenCard → List Card

@@ -25,6 +25,6 @@ agreeing s M R f g same h = subst (λ (u : Priced → Priced). ReducesPairs s M 
 -- nothing meets the optimality conditions of a program with a whole column
 pub with_whole_column : (s : Sense) (M R : LinearProgram) (f : Priced → Priced) (j : ℕ) → j < R.columns → IsTrue (R.whole j) → ReducesPairs s M R f
 with_whole_column s M R f j l w = record {
-  priced = λ p priced meets. absurd (true≢false (sym w ∙ meets.continuous j l));
-  meets = λ p priced meets. absurd (true≢false (sym w ∙ meets.continuous j l));
+  priced = λ p priced meets. absurd (true≢false (sym w ∙ (meets.continuous j l).0));
+  meets = λ p priced meets. absurd (true≢false (sym w ∙ (meets.continuous j l).0));
 }

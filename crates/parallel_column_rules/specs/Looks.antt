@@ -4,7 +4,7 @@ use Rattle.rational.specs.Number.{Number, ◌*ℚ◌}
 use Rattle.rational.specs.Compare.{eq_ℚ}
 use Rattle.problem_model.specs.declared.line.Bounds.{Bounds}
 use Rattle.problem_model.specs.declared.part.Contents.{Contents}
-use Rattle.problem_model.specs.declared.part.Contents.TheVariants as holding
+use Rattle.problem_model.specs.Parts.{bounds_held}
 use Rattle.problem_model.specs.Problems.{bounds_at, column_at, column_entries, cost_at}
 use Rattle.problem_model.specs.Sparse.{Sparse}
 use Rattle.rule_words.specs.Multiples.{are_times}
@@ -21,7 +21,7 @@ factor_if p j k = first_over (column_entries p j) (column_entries p k)
 
 -- the bounds of a live column, as a part that holds them
 abbrev pub held : Bounds → Contents
-held b = holding.Bounds b.lower b.upper b.whole
+held b = bounds_held b.semi b.lower b.upper b.whole
 
 -- column j is s times column k
 abbrev pub is_times : Sparse → ℕ → ℕ → Number → Bool

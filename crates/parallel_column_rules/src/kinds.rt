@@ -8,11 +8,14 @@ use fractions::frac::Frac;
 use lp_model::ends::{broken, in_order};
 use problem_model::Bounds;
 
-/// Whether no bounds are crossed.
+/// Whether no bounds are crossed, and neither column is semi-continuous.
 pub fn are_in_order(first: &Bounds, second: &Bounds) -> bool
     ensures { result ≡ in_order_are (held first.now) (held second.now) }
 {
-    in_order(&first.lower, &first.upper) && in_order(&second.lower, &second.upper)
+    !first.semi
+        && !second.semi
+        && in_order(&first.lower, &first.upper)
+        && in_order(&second.lower, &second.upper)
 }
 
 /// Whether bounds are whole or infinite.
@@ -30,10 +33,14 @@ fn is_unit(factor: &Frac) -> bool
     factor.is_same(&one) || factor.is_same(&one.neg())
 }
 
-/// Whether both columns are continuous, or both are whole, with whole or infinite bounds and a factor of 1 or -1.
+/// Whether both columns are continuous, or both are whole, with whole or infinite bounds and a factor of 1 or -1; and neither is
+/// semi-continuous.
 pub fn are_of_a_kind(factor: &Frac, first: &Bounds, second: &Bounds) -> bool
     ensures { result ≡ of_a_kind factor.now (held first.now) (held second.now) }
 {
+    if first.semi || second.semi {
+        return false;
+    }
     if first.whole {
         second.whole && (is_unit(factor) && (are_whole(first) && are_whole(second)))
     } else {

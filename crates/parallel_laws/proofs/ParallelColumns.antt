@@ -55,6 +55,8 @@ use Rattle.rule_words.proofs.Multiples.{times_at, times_some}
 use Rattle.rule_words.proofs.Named.{lives, none_on, nothing_twice, one_on, two_sided}
 use Rattle.row_spans.specs.Exact.{fits}
 use Rattle.parallel_laws.specs.ParallelColumns.{are_in_order, are_of_a_kind, are_whole, edits, enabled, factor, is_multiple, is_parallel, is_unit, joined_lower, joined_upper, record_of}
+use Rattle.problem_model.specs.Parts.{bounds_held}
+use Rattle.rule_words.proofs.Solid.{gap_solid, low_shown, high_shown}
 
 -- ---- ends
 in_order : (l u : Option Number) → is_in_order l u ≡ true → InOrder l u
@@ -114,9 +116,11 @@ module _ (s : Number) (l u m n : Option Number) where
       })
 
 -- ---- what the condition says: of two live columns that differ
-pub record Said (first second : Bool) (j k : ℕ) (ts us : List Term) (c d : Number) (l u : Option Number) (w : Bool) (m n : Option Number) (x : Bool) : Type 0 where
+pub record Said (first second semi other : Bool) (j k : ℕ) (ts us : List Term) (c d : Number) (l u : Option Number) (w : Bool) (m n : Option Number) (x : Bool) : Type 0 where
   pub first_live : first ≡ true
   pub second_live : second ≡ true
+  pub first_solid : semi ≡ false
+  pub second_solid : other ≡ false
   pub differ : j ≢ k
   pub first_bounds : InOrder l u
   pub second_bounds : InOrder m n
@@ -139,7 +143,7 @@ module _ (j k : ℕ) (ts us : List Term) (c d : Number) (l u : Option Number) (w
   abbrev two : Contents
   two = holding.Bounds m n x
 
-  parts_said : is_parallel j k (holding.Column ts c) (holding.Column us d) one two ≡ true → Said true true j k ts us c d l u w m n x
+  parts_said : is_parallel j k (holding.Column ts c) (holding.Column us d) one two ≡ true → Said true true false false j k ts us c d l u w m n x
   parts_said e =
       let e1 = and_parts (not (nat_eq j k)) (are_in_order one two && (are_of_a_kind s one two && is_multiple s ts c us d)) e in
       let e2 = and_parts (are_in_order one two) (are_of_a_kind s one two && is_multiple s ts c us d) e1.1 in
@@ -151,6 +155,8 @@ module _ (j k : ℕ) (ts us : List Term) (c d : Number) (l u : Option Number) (w
       record {
         first_live = refl;
         second_live = refl;
+        first_solid = refl;
+        second_solid = refl;
         differ = differ_of j k e1.0;
         first_bounds = in_order l u bounds.0;
         second_bounds = in_order m n bounds.1;
@@ -161,19 +167,21 @@ module _ (j k : ℕ) (ts us : List Term) (c d : Number) (l u : Option Number) (w
         entries = e6.1;
       }
 
-  says : (a b : Bool) → is_parallel j k (if a then holding.Column ts c else holding.Gone) (if b then holding.Column us d else holding.Gone) (if a then one else holding.Gone) (if b then two else holding.Gone) ≡ true
-      → Said a b j k ts us c d l u w m n x
-  says true true e = parts_said e
-  says true false e = absurd (not_true e)
-  says false b e = absurd (not_true e)
+  says : (a b semi other : Bool) → is_parallel j k (if a then holding.Column ts c else holding.Gone) (if b then holding.Column us d else holding.Gone) (if a then bounds_held semi l u w else holding.Gone) (if b then bounds_held other m n x else holding.Gone) ≡ true
+      → Said a b semi other j k ts us c d l u w m n x
+  says true true true other e = absurd (not_true (and_parts (not (nat_eq j k)) false e).1)
+  says true true false true e = absurd (not_true (and_parts (not (nat_eq j k)) false e).1)
+  says true true false false e = parts_said e
+  says true false semi other e = absurd (not_true e)
+  says false b semi other e = absurd (not_true e)
 
 abbrev pub SaidAt : Sparse → ℕ → ℕ → Type 0
-SaidAt p j k = Said (column_at p j).live (column_at p k).live j k (column_entries p j) (column_entries p k) (cost_at p j) (cost_at p k) (bounds_at p j).lower (bounds_at p j).upper (bounds_at p j).whole
+SaidAt p j k = Said (column_at p j).live (column_at p k).live (bounds_at p j).semi (bounds_at p k).semi j k (column_entries p j) (column_entries p k) (cost_at p j) (cost_at p k) (bounds_at p j).lower (bounds_at p j).upper (bounds_at p j).whole
     (bounds_at p k).lower (bounds_at p k).upper (bounds_at p k).whole
 
 pub said : (p : Sparse) (j k : ℕ) → enabled p j k ≡ true → SaidAt p j k
 said p j k = says j k (column_entries p j) (column_entries p k) (cost_at p j) (cost_at p k) (bounds_at p j).lower (bounds_at p j).upper (bounds_at p j).whole (bounds_at p k).lower (bounds_at p k).upper (bounds_at p k).whole
-    (column_at p j).live (column_at p k).live
+    (column_at p j).live (column_at p k).live (bounds_at p j).semi (bounds_at p k).semi
 
 -- ---- the number nearest to 0
 near_same : (l u : Option Number) → near l u ≡ nearest.near l u
@@ -214,22 +222,22 @@ module _ (p : Sparse) (sp : IsSparse p) (j k : ℕ) (f : SaidAt p j k) where
   costs_are : M.costs j ≡ q *ℚ M.costs k
   costs_are = cost_of j f.first_live ∙ f.costs ∙ ap (λ (a : Number). q *ℚ a) (sym (cost_of k f.second_live))
 
-  lower_of : (c : ℕ) → (column_at p c).live ≡ true → M.lower_bound c ≡ (bounds_at p c).lower
-  lower_of c live = end_live (column_at p c).live (bounds_at p c).lower live
+  lower_of : (c : ℕ) → (column_at p c).live ≡ true → (bounds_at p c).semi ≡ false → M.lower_bound c ≡ (bounds_at p c).lower
+  lower_of c live solid = low_shown p c live solid
 
-  upper_of : (c : ℕ) → (column_at p c).live ≡ true → M.upper_bound c ≡ (bounds_at p c).upper
-  upper_of c live = end_live (column_at p c).live (bounds_at p c).upper live
+  upper_of : (c : ℕ) → (column_at p c).live ≡ true → (bounds_at p c).semi ≡ false → M.upper_bound c ≡ (bounds_at p c).upper
+  upper_of c live solid = high_shown p c live solid
 
-  bounds_of : (c : ℕ) → (column_at p c).live ≡ true → InOrder (bounds_at p c).lower (bounds_at p c).upper → InOrder (M.lower_bound c) (M.upper_bound c)
-  bounds_of c live h = subst (λ (e : Option Number). InOrder e (M.upper_bound c)) (sym (lower_of c live)) (subst (λ (e : Option Number). InOrder (bounds_at p c).lower e) (sym (upper_of c live)) h)
+  bounds_of : (c : ℕ) → (column_at p c).live ≡ true → (bounds_at p c).semi ≡ false → InOrder (bounds_at p c).lower (bounds_at p c).upper → InOrder (M.lower_bound c) (M.upper_bound c)
+  bounds_of c live solid h = subst (λ (e : Option Number). InOrder e (M.upper_bound c)) (sym (lower_of c live solid)) (subst (λ (e : Option Number). InOrder (bounds_at p c).lower e) (sym (upper_of c live solid)) h)
 
   whole_of : (c : ℕ) → (column_at p c).live ≡ true → M.whole c ≡ (bounds_at p c).whole
   whole_of c live = ap (λ (on : Bool). on && (bounds_at p c).whole) live
 
-  whole_bounds : (c : ℕ) → (column_at p c).live ≡ true → IfSome (bounds_at p c).lower IsWhole → IfSome (bounds_at p c).upper IsWhole → HasWholeBounds M c
-  whole_bounds c live h g = record {
-    lower = subst (λ (e : Option Number). IfSome e IsWhole) (sym (lower_of c live)) h;
-    upper = subst (λ (e : Option Number). IfSome e IsWhole) (sym (upper_of c live)) g;
+  whole_bounds : (c : ℕ) → (column_at p c).live ≡ true → (bounds_at p c).semi ≡ false → IfSome (bounds_at p c).lower IsWhole → IfSome (bounds_at p c).upper IsWhole → HasWholeBounds M c
+  whole_bounds c live solid h g = record {
+    lower = subst (λ (e : Option Number). IfSome e IsWhole) (sym (lower_of c live solid)) h;
+    upper = subst (λ (e : Option Number). IfSome e IsWhole) (sym (upper_of c live solid)) g;
   }
 
   kinds_are : NoneWhole (bounds_at p j).whole (bounds_at p k).whole
@@ -239,8 +247,8 @@ module _ (p : Sparse) (sp : IsSparse p) (j k : ℕ) (f : SaidAt p j k) where
   kinds_are (inr h) = inr (record {
     first = whole_of j f.first_live ∙ h.first;
     second = whole_of k f.second_live ∙ h.second;
-    first_bounds = whole_bounds j f.first_live h.lower h.upper;
-    second_bounds = whole_bounds k f.second_live h.other_lower h.other_upper;
+    first_bounds = whole_bounds j f.first_live f.first_solid h.lower h.upper;
+    second_bounds = whole_bounds k f.second_live f.second_solid h.other_lower h.other_upper;
     factor = h.factor;
   })
 
@@ -252,9 +260,11 @@ module _ (p : Sparse) (sp : IsSparse p) (j k : ℕ) (f : SaidAt p j k) where
     factor = factor_some;
     entries = λ i l. entries_are i;
     costs = costs_are;
-    first_bounds = bounds_of j f.first_live f.first_bounds;
-    second_bounds = bounds_of k f.second_live f.second_bounds;
+    first_bounds = bounds_of j f.first_live f.first_solid f.first_bounds;
+    second_bounds = bounds_of k f.second_live f.second_solid f.second_bounds;
     kinds = kinds_are f.kinds;
+    first_solid = gap_solid (column_at p j).live (bounds_at p j) f.first_solid;
+    second_solid = gap_solid (column_at p k).live (bounds_at p k) f.second_solid;
   }
 
   -- ---- what the edits make of it
@@ -266,10 +276,10 @@ module _ (p : Sparse) (sp : IsSparse p) (j k : ℕ) (f : SaidAt p j k) where
       (λ z o m. put-other g k y z o ∙ sym (put-other (put g j x) k y z o ∙ put-other g j x z m)) z n)
 
   lower_is : joined_lower p j k ≡ plus (M.lower_bound k) (least_term q (M.lower_bound j) (M.upper_bound j))
-  lower_is = sym (ap₂ (λ (x y : Bool). plus (end_if x (bounds_at p k).lower) (least_term q (end_if y (bounds_at p j).lower) (end_if y (bounds_at p j).upper))) f.second_live f.first_live)
+  lower_is t = plus (sym (low_shown p k f.second_live f.second_solid) t) (least_term q (sym (low_shown p j f.first_live f.first_solid) t) (sym (high_shown p j f.first_live f.first_solid) t))
 
   upper_is : joined_upper p j k ≡ plus (M.upper_bound k) (greatest_term q (M.lower_bound j) (M.upper_bound j))
-  upper_is = sym (ap₂ (λ (x y : Bool). plus (end_if x (bounds_at p k).upper) (greatest_term q (end_if y (bounds_at p j).lower) (end_if y (bounds_at p j).upper))) f.second_live f.first_live)
+  upper_is t = plus (sym (high_shown p k f.second_live f.second_solid) t) (greatest_term q (sym (low_shown p j f.first_live f.first_solid) t) (sym (high_shown p j f.first_live f.first_solid) t))
 
   shows : programs_edited M (edits p j k) ≡ parallel_columns_joined M j k q
   shows t = record (parallel_columns_joined M j k q) {
@@ -280,11 +290,11 @@ module _ (p : Sparse) (sp : IsSparse p) (j k : ℕ) (f : SaidAt p j k) where
   -- ---- what the record undoes
   undone_is : undo_parallel_columns j k q (M.lower_bound j) (M.upper_bound j) (M.lower_bound k) (M.upper_bound k) ≡ undone (record_of p j k)
   undone_is w x =
-      ((λ z. undo_parallel_columns j k q (lower_of j f.first_live z) (upper_of j f.first_live z) (lower_of k f.second_live z) (upper_of k f.second_live z) x)
+      ((λ z. undo_parallel_columns j k q (lower_of j f.first_live f.first_solid z) (upper_of j f.first_live f.first_solid z) (lower_of k f.second_live f.second_solid z) (upper_of k f.second_live f.second_solid z) x)
       ∙ ap (part x j k q) (part_same q (bounds_at p j).lower (bounds_at p j).upper (bounds_at p k).lower (bounds_at p k).upper (x k))) w
 
   reduces : Reduces Min M (shown (committed p (edits p j k))) (undone (record_of p j k)) (added_by (edits p j k))
-  reduces = by_edits p (edits p j k) (parallel_columns_joined M j k q) (undone (record_of p j k)) zero_ℚ sp (f.second_live, (f.first_live, tt)) shows nothing_twice
+  reduces = by_edits p (edits p j k) (parallel_columns_joined M j k q) (undone (record_of p j k)) zero_ℚ sp ((f.second_live, f.second_solid), (f.first_live, tt)) shows nothing_twice
       (subst (λ (g : Vector → Vector). Reduces Min M (parallel_columns_joined M j k q) g zero_ℚ) undone_is (parallel_columns M j k q are_parallel Min))
 
   -- the record holds what is shown
@@ -293,14 +303,14 @@ module _ (p : Sparse) (sp : IsSparse p) (j k : ℕ) (f : SaidAt p j k) where
     column = j;
     kept = k;
     factor = q;
-    lower = lower_of j f.first_live z;
-    upper = upper_of j f.first_live z;
-    kept_lower = lower_of k f.second_live z;
-    kept_upper = upper_of k f.second_live z;
+    lower = lower_of j f.first_live f.first_solid z;
+    upper = upper_of j f.first_live f.first_solid z;
+    kept_lower = lower_of k f.second_live f.second_solid z;
+    kept_upper = upper_of k f.second_live f.second_solid z;
   })
 
   pairs : ReducesPairs Min M (shown (committed p (edits p j k))) (undone_pair (record_of p j k))
-  pairs = pairs_by_edits p (edits p j k) (parallel_columns_joined M j k q) (undone_pair (record_of p j k)) sp (f.second_live, (f.first_live, tt)) shows
+  pairs = pairs_by_edits p (edits p j k) (parallel_columns_joined M j k q) (undone_pair (record_of p j k)) sp ((f.second_live, f.second_solid), (f.first_live, tt)) shows
       (subst (λ (u : Undo). ReducesPairs Min M (parallel_columns_joined M j k q) (undone_pair u)) record_is (parallel_columns_pair M j k q are_parallel))
 
   columns_on : All (λ c. is_on (lives p.matrix.columns) c ≡ true) (j ∷ k ∷ [])
@@ -309,7 +319,7 @@ module _ (p : Sparse) (sp : IsSparse p) (j k : ℕ) (f : SaidAt p j k) where
 
   owes_said : Owes p (edits p j k) (record_of p j k)
   owes_said = record {
-    allowed = (f.second_live, (f.first_live, tt));
+    allowed = ((f.second_live, f.second_solid), (f.first_live, tt));
     ordered = tt;
     reduces = reduces;
     pairs = λ continuous. pairs;

@@ -47,6 +47,7 @@ use Rattle.dual_laws.proofs.DualFixing as dual_fixing
 use Rattle.dual_laws.proofs.DominatedColumn as dominated_column
 use Rattle.dual_laws.proofs.UnboundedColumn as unbounded_column
 use Rattle.aggregation_laws.proofs.DoubletonEquation as doubleton_equation
+use Rattle.singleton_laws.proofs.SingletonRow as singleton_row
 use Rattle.column_laws.proofs.FreeColumnSingleton as free_column_singleton
 use Rattle.column_laws.proofs.SlackColumnSingleton as slack_column_singleton
 
@@ -57,7 +58,7 @@ reads_near p s (at.Verdict (CrossedSides i)) on a c = one_in (λ (b : Part). Con
 reads_near p s (at.Verdict (InfeasibleRow i)) on a c = by_row p s i (said is_infeasible_row p i on).live a c
 reads_near p s (at.Verdict (UnboundedColumn j)) on a c = by_column p s j (unbounded_column.said p j on).live a c
 reads_near p s (at.Reduction (EmptyRow i)) on a c = two_in (λ (b : Part). Contains (rows_with b) i) (part.Row i) (part.Sides i) a (alone i) (alone i) c
-reads_near p s (at.Reduction (SingletonRow i)) on a c = two_in (λ (b : Part). Contains (rows_with b) i) (part.Row i) (part.Sides i) a (alone i) (alone i) c
+reads_near p s (at.Reduction (SingletonRow i)) on a c = by_row p s i (singleton_row.said p i on).live a c
 reads_near p s (at.Reduction (FixedColumn j)) on a c = two_in (λ (b : Part). Contains (columns_with b) j) (part.Col j) (part.Bounds j) a (alone j) (alone j) c
 reads_near p s (at.Reduction (RoundedBounds j)) on a c = one_in (λ (b : Part). Contains (columns_with b) j) (part.Bounds j) a (alone j) c
 reads_near p s (at.Reduction (RedundantRow i)) on a c = by_row p s i (said is_redundant_row p i on).live a c

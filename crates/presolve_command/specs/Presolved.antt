@@ -34,11 +34,11 @@ pub record IsPresolved (names : PresolveNames) (printed : List ℕ) (before now 
 abbrev pub SaysFault : PresolveNames → List ℕ → Moment → Moment → Type 0
 SaysFault names said before now = SaysFaultOf INPUT_LIMIT (form_of names.options) names.input said before now
 
--- `--dual` was given, IN's text has no fault, and this line names the first column of its program that has to be whole
+-- `--dual` was given, IN's text has no fault, and this line names the first column of its program that has to be whole or is semi-continuous
 abbrev pub SaysNotTaken : PresolveNames → List ℕ → Moment → Type 0
 SaysNotTaken names said before = Reads INPUT_LIMIT (before.told names.input) (λ text. TextIsNotTaken names.options text said)
 
--- this is said of IN's text, or of a column that has to be whole
+-- this is said of IN's text, or of a column that has to be whole or is semi-continuous
 abbrev pub RefusesProgram : PresolveNames → List ℕ → Moment → Moment → Type 0
 RefusesProgram names said before now = SaysFault names said before now ⊎ SaysNotTaken names said before
 

@@ -24,7 +24,7 @@ use Rattle.record_round_trip.specs.Ranges.{HasRange}
 use Rattle.whole_way.specs.Texts.{TextsFit}
 use Rattle.presolve_report.specs.Outcomes.{Outcome, Tells}
 use Rattle.presolve_report.specs.Report.{report_text}
-use Rattle.endings.specs.Continuity.{NamesFirstWhole}
+use Rattle.endings.specs.Continuity.{NamesFirstNotContinuous}
 use Rattle.endings.specs.Forms.{form_of, numbers_of}
 use Rattle.endings.specs.ProgramTexts.{HasNoFault, IsFaultOf, IsProgramOf, program_in}
 use Rattle.presolve_command.specs.declared.reduce.Texts.{Texts}
@@ -51,13 +51,13 @@ ReadsBack numbers outcome text = Plain outcome.source → TextReads numbers text
 abbrev pub ComesBack : Outcome → List ℕ → List ℕ → Type 0
 ComesBack outcome program records = Plain outcome.source → TextsFit outcome.program outcome.records program records
 
--- where duals are asked for, no column of the program has to be whole
+-- where duals are asked for, no column of the program has to be whole or is semi-continuous
 abbrev pub IsTaken : Options → ProgramData → Type 0
 IsTaken options program = options.dual ≡ true → Continuous (meaning program)
 
--- duals are asked for, and this line names the first column of the program that has to be whole
+-- duals are asked for, and this line names the first column of the program that has to be whole or is semi-continuous
 abbrev pub IsNotTaken : Options → ProgramData → List ℕ → Type 0
-IsNotTaken options program said = (options.dual ≡ true) × NamesFirstWhole program said
+IsNotTaken options program said = (options.dual ≡ true) × NamesFirstNotContinuous program said
 
 -- presolve, told this, concludes by these workers this outcome of its program, and these are its texts, which read back; the records' numbers have room.
 -- Where duals are asked for, the records bring back what meets the optimality conditions of what is left
@@ -106,7 +106,7 @@ options_for options = record { numbers = numbers_of options; limit = options.lim
 abbrev pub workers_for : PresolveOptions → Workers
 workers_for options = record { threads = options.threads; ordered = options.ordered }
 
--- a text has no fault, and its program is not taken: this line names its first column that has to be whole
+-- a text has no fault, and its program is not taken: this line names its first column that has to be whole or is semi-continuous
 abbrev pub TextIsNotTaken : PresolveOptions → List ℕ → List ℕ → Type 0
 TextIsNotTaken options text said =
     HasNoFault (form_of options) text × IsNotTaken (options_for options) (program_in (form_of options) text) said

@@ -36,7 +36,7 @@ fn write_both<F: Files>(
 }
 
 /// Reads a program, writes the reduced one and its records; nothing where it has no feasible point, or none of least cost, or duals are
-/// asked for and a column has to be whole. All that is written and printed is made before the first write. The gate
+/// asked for and a column has to be whole or is semi-continuous. All that is written and printed is made before the first write. The gate
 /// is called by workers that race, and the onlooker is told of the rounds.
 pub fn presolve<R: Threads + Wait + Sync, F: Files, G: Gate, O: Onlooker>(
     rt: &R,

@@ -4,7 +4,7 @@ ghost use Rattle.std.specs.Prelude.{◌≡◌, ◌<◌, ◌≤◌, ◌^◌, true
 ghost use Rattle.command_words.specs.declared.words.TheConstants.{MOST_THREADS};
 ghost use Rattle.lp_model.specs.Meaning.{meaning};
 ghost use Rattle.lp_model.specs.ProgramData.{ProgramData};
-ghost use Rattle.lp_check.specs.FirstWhole.{IsFirstWhole};
+ghost use Rattle.lp_check.specs.FirstNotContinuous.{IsFirstNotContinuous};
 ghost use Rattle.presolve_command.specs.Texts.{AreTexts, IsMade, IsReduced, IsTaken};
 ghost use Rattle.lp_model.specs.Writable.{EntriesAscend, Writable};
 ghost use Rattle.mps_writer.specs.MpsText.{mps_text, WidthsFit};
@@ -12,7 +12,7 @@ ghost use Rattle.presolve_report.specs.Outcomes.{Tells};
 
 use command_words::PresolveOptions;
 use endings::{ProgramError, ProgramFault, form_of, not_continuous_text, read_program};
-use lp_check::first_whole_column;
+use lp_check::first_not_continuous;
 use lp_model::Program;
 use mps_writer::{WriteError, write_mps};
 use presolve_model::{Options, Workers};
@@ -42,7 +42,7 @@ pub struct Texts {
 pub enum NotReduced {
     /// The text's first fault.
     Fault(ProgramFault),
-    /// Duals are asked for, and a column has to be whole: the line that names the first one.
+    /// Duals are asked for, and a column has to be whole or is semi-continuous: the line that names the first one.
     NotContinuous(Vec<u8>),
     /// The text's program has no feasible point.
     Infeasible,
@@ -92,10 +92,10 @@ fn texts_of(alloc: Global, made: &ReducedProgram, report: &Report) -> Result<Tex
 // The first column that has to be whole, where duals are asked for.
 fn column_in_the_way(program: &Program, options: &Options) -> Option<u32>
     requires { length program.now.columns < 2 ^ 32 }
-    ensures { MatchOption result (IsTaken options.now program.now) (λ j. (options.now.dual ≡ true) × IsFirstWhole (meaning program.now) j) }
+    ensures { MatchOption result (IsTaken options.now program.now) (λ j. (options.now.dual ≡ true) × IsFirstNotContinuous (meaning program.now) j) }
 {
     if options.dual {
-        first_whole_column(program)
+        first_not_continuous(program)
     } else {
         None
     }

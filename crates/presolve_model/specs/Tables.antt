@@ -58,7 +58,7 @@ heads_of (EmptyColumn j) = empty_column.heads j
 -- what it reads by what the heads hold
 abbrev pub more_of : Reduction → List Contents → List Part
 more_of (EmptyRow i) cs = no_more cs
-more_of (SingletonRow i) cs = no_more cs
+more_of (SingletonRow i) cs = bounds_named cs
 more_of (FixedColumn j) cs = no_more cs
 more_of (RoundedBounds j) cs = no_more cs
 more_of (RedundantRow i) cs = bounds_named cs

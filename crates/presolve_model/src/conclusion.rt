@@ -9,7 +9,7 @@ pub struct Options {
     pub numbers: Numbers,
     /// How many reductions may be applied.
     pub limit: u64,
-    /// The records undo duals too. That is of use where no column of the program has to be whole.
+    /// The records undo duals too. That is of use where no column of the program has to be whole or is semi-continuous.
     pub dual: bool,
 }
 

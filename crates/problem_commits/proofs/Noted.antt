@@ -1,6 +1,6 @@
 -- The notes of edits name each part that the edits change, and say of none that it changed for certain that did not. Of a column of which
 -- the cost alone is noted the entries stay.
-use Rattle.std.proofs.Common.{◌≡◌, ◌≢◌, ℕ, nat_eq, Bool, true, false, not, ◌||◌, ◌&&◌, get_or, List, [], ◌∷◌, ◌++◌, refl, sym, ap, ap₂, ◌∙◌, subst, ◌⊎◌, inl, inr}
+use Rattle.std.proofs.Common.{Option, ◌≡◌, ◌≢◌, ℕ, nat_eq, Bool, true, false, not, ◌||◌, ◌&&◌, get_or, List, [], ◌∷◌, ◌++◌, refl, sym, ap, ap₂, ◌∙◌, subst, ◌⊎◌, inl, inr}
 use Rattle.std.specs.Prelude.{if◌then◌else◌, ⊤}
 use Rattle.std.proofs.lemmas.Bool.{eq-eqb, ne_eqb, cases_eq}
 use Rattle.std.specs.List.{All}
@@ -18,7 +18,7 @@ use Rattle.problem_model.specs.declared.part.Contents.TheVariants as holds
 use Rattle.problem_model.specs.Allowed.{IsAllowed, AreAllowed}
 use Rattle.problem_model.specs.Applied.{edited, applied}
 use Rattle.problem_model.specs.Edits.{row_deleted, column_deleted}
-use Rattle.problem_model.specs.Parts.{contents_of}
+use Rattle.problem_model.specs.Parts.{bounds_held, contents_of}
 use Rattle.problem_model.specs.Problems.{row_at, column_at, sides_at, bounds_at, row_entries, column_entries, cost_at, IsSparse}
 use Rattle.problem_model.specs.Raised.{same_contents}
 use Rattle.problem_model.specs.Sparse.{Sparse}
@@ -115,6 +115,7 @@ terms_in (holds.Column ts c) = ts
 terms_in holds.Gone = []
 terms_in (holds.Sides l u) = []
 terms_in (holds.Bounds l u w) = []
+terms_in (holds.Semi l u w) = []
 
 pub row_held : (p : Sparse) (i : ℕ) → (row_at p i).live ≡ true → terms_in (contents_of p (part.Row i)) ≡ row_entries p i
 row_held p i h = ap (λ (b : Bool). terms_in (if b then holds.Entries (row_entries p i) else holds.Gone)) h
@@ -130,6 +131,7 @@ seen false holds.Gone = holds.Gone
 seen false (holds.Entries ts) = holds.Entries ts
 seen false (holds.Sides l u) = holds.Sides l u
 seen false (holds.Bounds l u w) = holds.Bounds l u w
+seen false (holds.Semi l u w) = holds.Semi l u w
 
 seen_terms : (b : Bool) (c : Contents) → terms_in (seen b c) ≡ terms_in c
 seen_terms true c = refl
@@ -138,6 +140,7 @@ seen_terms false holds.Gone = refl
 seen_terms false (holds.Entries ts) = refl
 seen_terms false (holds.Sides l u) = refl
 seen_terms false (holds.Bounds l u w) = refl
+seen_terms false (holds.Semi l u w) = refl
 
 same_terms_seen : (b : Bool) (c d : Contents) → seen b c ≡ seen b d → terms_in c ≡ terms_in d
 same_terms_seen b c d e = sym (seen_terms b c) ∙ ap terms_in e ∙ seen_terms b d
@@ -316,6 +319,16 @@ here (holds.Entries ts) = true
 here (holds.Sides l u) = true
 here (holds.Column ts c) = true
 here (holds.Bounds l u w) = true
+here (holds.Semi l u w) = true
+
+bounds_here : (on semi : Bool) (l u : Option Number) (w : Bool) → on ≡ true → here (if on then bounds_held semi l u w else holds.Gone) ≡ true
+bounds_here true true l u w e = refl
+bounds_here true false l u w e = refl
+bounds_here false semi l u w e = absurd (not_both refl (sym e))
+
+bounds_gone : (on semi : Bool) (l u : Option Number) (w : Bool) → on ≡ false → here (if on then bounds_held semi l u w else holds.Gone) ≡ false
+bounds_gone true semi l u w e = absurd (not_both refl e)
+bounds_gone false semi l u w e = refl
 
 gone_other : (c d : Contents) → here c ≡ false → here d ≡ true → c ≢ d
 gone_other c d e f g = not_both (ap here g ∙ f) e
@@ -347,7 +360,7 @@ module _ (p q : Sparse) (s : IsSparse p) where
 
   column_gone : (j : ℕ) → (column_at p j).live ≡ true → (column_at q j).live ≡ false → All (IsTrueNote p q) (certain p (part.Col j) ∷ certain p (part.Bounds j) ∷ rows_noted p (column_entries p j))
   column_gone j on off = All-cons (IsTrueNote p q) (certain p (part.Col j)) (certain p (part.Bounds j) ∷ rows_noted p (column_entries p j)) (certain_true p q (part.Col j) (column_inside p j on) (gone_other _ _ (ap (λ (b : Bool). here (if b then holds.Column (column_entries q j) (cost_at q j) else holds.Gone)) off) (ap (λ (b : Bool). here (if b then holds.Column (column_entries p j) (cost_at p j) else holds.Gone)) on)))
-      (All-cons (IsTrueNote p q) (certain p (part.Bounds j)) (rows_noted p (column_entries p j)) (certain_true p q (part.Bounds j) (bounds_inside p j s on) (gone_other _ _ (ap (λ (b : Bool). here (if b then holds.Bounds (bounds_at q j).lower (bounds_at q j).upper (bounds_at q j).whole else holds.Gone)) off) (ap (λ (b : Bool). here (if b then holds.Bounds (bounds_at p j).lower (bounds_at p j).upper (bounds_at p j).whole else holds.Gone)) on)))
+      (All-cons (IsTrueNote p q) (certain p (part.Bounds j)) (rows_noted p (column_entries p j)) (certain_true p q (part.Bounds j) (bounds_inside p j s on) (gone_other _ _ (bounds_gone (column_at q j).live (bounds_at q j).semi (bounds_at q j).lower (bounds_at q j).upper (bounds_at q j).whole off) (bounds_here (column_at p j).live (bounds_at p j).semi (bounds_at p j).lower (bounds_at p j).upper (bounds_at p j).whole on)))
       (All-map (IsTrueNote p q) (λ t. certain p (part.Row t.id)) (column_entries p j) rows))
     where
       lost : (i : ℕ) → (row_at p i).live ≡ true → has i (column_entries p j) ≡ true → contents_of q (part.Row i) ≢ contents_of p (part.Row i)
@@ -367,7 +380,7 @@ one_true : (p r q : Sparse) (e : Edit) (es : List Edit) → IsSparse p → Lives
 one_true p r q (DeleteRow i) es s lives after h = row_gone p q s i (lives.rows i h) (dead (row_at q i).live (row_at (row_deleted r i) i).live (after.rows i) (without-dead r.matrix.rows i (row_inside r i h)))
 one_true p r q (DeleteColumn j) es s lives after h = column_gone p q s j (lives.columns j h) (dead (column_at q j).live (column_at (column_deleted r j) j).live (after.columns j) (without-dead r.matrix.columns j (column_inside r j h)))
 one_true p r q (SetSides i l u) es s lives after h = All-cons (IsTrueNote p q) (asked p (part.Sides i)) [] (asked_true p q (part.Sides i) (sides_inside p i s (lives.rows i h))) (All-nil (IsTrueNote p q))
-one_true p r q (SetBounds j l u) es s lives after h = All-cons (IsTrueNote p q) (asked p (part.Bounds j)) [] (asked_true p q (part.Bounds j) (bounds_inside p j s (lives.columns j h))) (All-nil (IsTrueNote p q))
+one_true p r q (SetBounds j l u) es s lives after h = All-cons (IsTrueNote p q) (asked p (part.Bounds j)) [] (asked_true p q (part.Bounds j) (bounds_inside p j s (lives.columns j h.0))) (All-nil (IsTrueNote p q))
 one_true p r q (AddOffset k) es s lives after h = All-nil (IsTrueNote p q)
 one_true p r q (SetCost j c) es s lives after h = costs_true p q j
 one_true p r q (SetEntry i j w) es s lives after h = All-cons (IsTrueNote p q) (asked p (part.Row i)) (column_noted p j es) (asked_true p q (part.Row i) (row_inside p i (lives.rows i h.0))) (by (goes_on j es))
@@ -474,6 +487,7 @@ module _ (p q : Sparse) where
       column_same (holds.Sides l u) d k ts is h e = absurd (not_both h refl)
       column_same (holds.Column us m) d k ts is h e = ap₂ holds.Column (ap terms_in (e ∙ ap (seen false) is)) (sym ((eq_ℚ-is k m).0 h)) ∙ sym is
       column_same (holds.Bounds l u w) d k ts is h e = absurd (not_both h refl)
+      column_same (holds.Semi l u w) d k ts is h e = absurd (not_both h refl)
 
 pub untold_same : (p : Sparse) (es : List Edit) (a : Part) → IsSparse p → AreAllowed p es → told p (applied p es) (all_noted p es) a ≡ false → contents_of (applied p es) a ≡ contents_of p a
 untold_same p es a s h t = by (names false (all_noted p es) a) refl (names true (all_noted p es) a) refl

@@ -74,6 +74,7 @@ costs c (holds.Entries ts) = false
 costs c (holds.Sides l u) = false
 costs c (holds.Column ts d) = eq_ℚ c d
 costs c (holds.Bounds l u w) = false
+costs c (holds.Semi l u w) = false
 
 -- whether contents are other ones than those of which this was kept, by what was kept
 abbrev pub is_other : Held → Contents → Bool

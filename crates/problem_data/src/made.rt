@@ -47,6 +47,7 @@ fn all_bounds(alloc: Global, columns: &[ColumnDef]) -> Result<Vec<Bounds>, Alloc
             lower: column.lower,
             upper: column.upper,
             whole: column.whole,
+            semi: column.semi,
             changes: 0,
         })?;
     }

@@ -73,6 +73,7 @@ impl ProblemData {
             lower: bounds.lower,
             upper: bounds.upper,
             whole: bounds.whole,
+            semi: bounds.semi,
             entries,
         })
     }

@@ -9,7 +9,7 @@ use Rattle.rational.proofs.Totals.{put-same, put-other, at_or_off}
 use Rattle.lp_model.specs.Sparse.{dense}
 use Rattle.lp_model.specs.Edits.{with_coefficient, with_cost}
 use Rattle.problem_model.specs.Problems.{row_at, column_at, sides_at, bounds_at, cost_at, IsSparse}
-use Rattle.problem_model.specs.Showing.{coefficient_of, end_if, shown}
+use Rattle.problem_model.specs.Showing.{coefficient_of, end_if, shown, reach_low, reach_high, gap_if}
 use Rattle.problem_model.specs.Sparse.{Sparse}
 use Rattle.problem_laws.proofs.AtIds.{row_inside, column_inside, cost_inside}
 use Rattle.problem_laws.proofs.ShowingEdits.{cell}
@@ -56,9 +56,10 @@ module _ (p : Sparse) (m k : ℕ) (c : Number) (s : IsSparse p) (row : (row_at p
     coefficient = λ i j. coefficients i j t;
     lower_side = λ i. end_if (row_lives i t) (sides_at p i).lower;
     upper_side = λ i. end_if (row_lives i t) (sides_at p i).upper;
-    lower_bound = λ j. end_if (column_lives j t) (bounds_at p j).lower;
-    upper_bound = λ j. end_if (column_lives j t) (bounds_at p j).upper;
+    lower_bound = λ j. end_if (column_lives j t) (reach_low (bounds_at p j));
+    upper_bound = λ j. end_if (column_lives j t) (reach_high (bounds_at p j));
     whole = λ j. column_lives j t && (bounds_at p j).whole;
+    gap = λ j. gap_if (column_lives j t) (bounds_at p j);
     costs = λ j. if column_lives j t then cost_at p j else zero_ℚ;
     constant = p.constant;
   }
@@ -76,9 +77,10 @@ module _ (p : Sparse) (k : ℕ) (c : Number) (s : IsSparse p) (column : (column_
     coefficient = coefficient_of p;
     lower_side = λ i. end_if (row_at p i).live (sides_at p i).lower;
     upper_side = λ i. end_if (row_at p i).live (sides_at p i).upper;
-    lower_bound = λ j. end_if (column_at p j).live (bounds_at p j).lower;
-    upper_bound = λ j. end_if (column_at p j).live (bounds_at p j).upper;
+    lower_bound = λ j. end_if (column_at p j).live (reach_low (bounds_at p j));
+    upper_bound = λ j. end_if (column_at p j).live (reach_high (bounds_at p j));
     whole = λ j. (column_at p j).live && (bounds_at p j).whole;
+    gap = λ j. gap_if (column_at p j).live (bounds_at p j);
     costs = λ j. costs_put j t;
     constant = p.constant;
   }

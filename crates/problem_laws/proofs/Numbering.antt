@@ -1,5 +1,5 @@
 -- Problems that differ in their numbers of changes alone.
-use Rattle.std.proofs.Common.{◌≡◌, ℕ, zero, suc, ◌+◌, ◌<◌, ◌&&◌, List, [], ◌∷◌, length, map, get_or, sym, refl, ap, ap₂, ◌∙◌, subst, arith, Option, add-zero}
+use Rattle.std.proofs.Common.{◌≡◌, ℕ, zero, suc, ◌+◌, ◌<◌, ◌&&◌, List, [], ◌∷◌, length, map, get_or, sym, refl, ap, ap₂, ◌∙◌, subst, arith, Option, None, add-zero}
 use Rattle.std.specs.Prelude.{if◌then◌else◌, IfSome}
 use Rattle.std.specs.List.{All}
 use Rattle.rational.specs.Number.{Number, zero_ℚ}
@@ -16,15 +16,16 @@ use Rattle.problem_model.specs.declared.part.Contents.TheVariants as holds
 use Rattle.problem_model.specs.Flags.{flags_of}
 use Rattle.problem_model.specs.Grids.{Grid}
 use Rattle.problem_model.specs.Matrices.{no_line, line_at, live_only, Crosses, IsMatrix}
-use Rattle.problem_model.specs.Parts.{contents_of, changes_of}
+use Rattle.problem_model.specs.Parts.{contents_of, changes_of, bounds_held}
 use Rattle.problem_model.specs.Problems.{no_sides, no_bounds, row_at, column_at, sides_at, bounds_at, cost_at, row_entries, column_entries, IsSparse}
 use Rattle.problem_model.specs.Raised.{each_at, numbered_line, numbered_sides, numbered_bounds, numbered}
-use Rattle.problem_model.specs.Showing.{end_if, shown}
+use Rattle.problem_model.specs.Showing.{end_if, shown, reach_low, reach_high}
 use Rattle.problem_model.specs.Sparse.{Sparse}
 use Rattle.problem_model.specs.Writing.{KeptSides, IsWritable}
 use Rattle.problem_laws.proofs.Entries.{live_only-same}
 use Rattle.problem_laws.proofs.Keeping.{few}
 use Rattle.problem_laws.proofs.ShowingEdits.{cell}
+use Rattle.lp_model.specs.Gaps.{gap_of}
 
 -- ---- each of a list
 pub length-each_at : {X : Type 0} (f : ℕ → X → X) (k : ℕ) (xs : List X) → length (each_at f k xs) ≡ length xs
@@ -115,9 +116,10 @@ module _ (q : Sparse) (number : Part → ℕ) where
     coefficient = λ i j. cell (rows_like.live i t) (columns_like.live j t) (dense (rows_like.entries i t) j);
     lower_side = λ i. end_if (rows_like.live i t) (sides_like (λ x. x.lower) (λ n x. refl) i t);
     upper_side = λ i. end_if (rows_like.live i t) (sides_like (λ x. x.upper) (λ n x. refl) i t);
-    lower_bound = λ j. end_if (columns_like.live j t) (bounds_like (λ b. b.lower) (λ n b. refl) j t);
-    upper_bound = λ j. end_if (columns_like.live j t) (bounds_like (λ b. b.upper) (λ n b. refl) j t);
+    lower_bound = λ j. end_if (columns_like.live j t) (bounds_like reach_low (λ n b. refl) j t);
+    upper_bound = λ j. end_if (columns_like.live j t) (bounds_like reach_high (λ n b. refl) j t);
     whole = λ j. columns_like.live j t && bounds_like (λ b. b.whole) (λ n b. refl) j t;
+    gap = λ j. if columns_like.live j t then bounds_like (λ b. gap_of b.semi b.lower b.upper) (λ n b. refl) j t else None;
     costs = λ j. if columns_like.live j t then cost_at q j else zero_ℚ;
     constant = q.constant;
   }
@@ -139,7 +141,7 @@ module _ (q : Sparse) (number : Part → ℕ) where
   contents-numbered (part.Row i) t = if rows_like.live i t then holds.Entries (row_entries-numbered i t) else holds.Gone
   contents-numbered (part.Sides i) t = if rows_like.live i t then holds.Sides (sides_like (λ x. x.lower) (λ n x. refl) i t) (sides_like (λ x. x.upper) (λ n x. refl) i t) else holds.Gone
   contents-numbered (part.Col j) t = if columns_like.live j t then holds.Column (column_entries-numbered j t) (cost_at q j) else holds.Gone
-  contents-numbered (part.Bounds j) t = if columns_like.live j t then holds.Bounds (bounds_like (λ b. b.lower) (λ n b. refl) j t) (bounds_like (λ b. b.upper) (λ n b. refl) j t) (bounds_like (λ b. b.whole) (λ n b. refl) j t) else holds.Gone
+  contents-numbered (part.Bounds j) t = if columns_like.live j t then bounds_like (λ b. bounds_held b.semi b.lower b.upper b.whole) (λ n b. refl) j t else holds.Gone
 
   -- where there is a part, its number is the one that is given
   pub changes-row : (i : ℕ) → i < length q.matrix.rows → changes_of to (part.Row i) ≡ number (part.Row i)

@@ -12,12 +12,13 @@ use Rattle.problem_model.specs.declared.line.Sides.{Sides}
 use Rattle.problem_model.specs.declared.line.Bounds.{Bounds}
 use Rattle.problem_model.specs.Problems.{row_at, column_at, sides_at, bounds_at, cost_at, IsSparse}
 use Rattle.problem_model.specs.Edits.{lines_without, sides_moved, bounds_moved, row_deleted, column_deleted, sides_set, bounds_set, offset_set}
-use Rattle.problem_model.specs.Showing.{coefficient_of, end_if, shown}
+use Rattle.problem_model.specs.Showing.{coefficient_of, end_if, reach_low, reach_high, gap_if, shown}
 use Rattle.problem_model.specs.Sparse.{Sparse}
 use Rattle.problem_model.specs.LeftOut.{column_left_out}
 use Rattle.problem_laws.proofs.AtIds.{without-dead, without-live, without-other, losing-live, row_inside, column_inside, sides_inside, bounds_inside, sides_set-same, sides_set-other, bounds_set-same, bounds_set-other}
 use Rattle.problem_laws.proofs.Entries.{losing-dense}
 use Rattle.problem_laws.proofs.Keeping.{length-lines_without, length-lines_losing}
+use Rattle.lp_model.specs.Gaps.{gap_of, reach_lower, reach_upper}
 
 -- a coefficient by what it is made of: whether the row and the column are live, and the number there
 abbrev pub cell : Bool → Bool → Number → Number
@@ -72,9 +73,10 @@ module _ (p : Sparse) (i : ℕ) (s : IsSparse p) (live : (row_at p i).live ≡ t
     coefficient = λ k j. row_coefficient k j t;
     lower_side = λ k. row_end (λ s. s.lower) k t;
     upper_side = λ k. row_end (λ s. s.upper) k t;
-    lower_bound = λ j. end_if (losing-live rows_left p.matrix.columns i j t) (bounds_at p j).lower;
-    upper_bound = λ j. end_if (losing-live rows_left p.matrix.columns i j t) (bounds_at p j).upper;
+    lower_bound = λ j. end_if (losing-live rows_left p.matrix.columns i j t) (reach_low (bounds_at p j));
+    upper_bound = λ j. end_if (losing-live rows_left p.matrix.columns i j t) (reach_high (bounds_at p j));
     whole = λ j. losing-live rows_left p.matrix.columns i j t && (bounds_at p j).whole;
+    gap = λ j. gap_if (losing-live rows_left p.matrix.columns i j t) (bounds_at p j);
     costs = λ j. if losing-live rows_left p.matrix.columns i j t then cost_at p j else zero_ℚ;
     constant = p.constant;
   }
@@ -109,9 +111,10 @@ module _ (p : Sparse) (j : ℕ) (s : IsSparse p) (live : (column_at p j).live �
     coefficient = λ i k. column_coefficient i k t;
     lower_side = λ i. end_if (losing-live columns_left p.matrix.rows j i t) (sides_at p i).lower;
     upper_side = λ i. end_if (losing-live columns_left p.matrix.rows j i t) (sides_at p i).upper;
-    lower_bound = λ k. column_shows None (λ b e k. end_if b e.lower) (λ e k. refl) k t;
-    upper_bound = λ k. column_shows None (λ b e k. end_if b e.upper) (λ e k. refl) k t;
+    lower_bound = λ k. column_shows None (λ b e k. end_if b (reach_low e)) (λ e k. refl) k t;
+    upper_bound = λ k. column_shows None (λ b e k. end_if b (reach_high e)) (λ e k. refl) k t;
     whole = λ k. column_shows false (λ b e k. b && e.whole) (λ e k. refl) k t;
+    gap = λ k. column_shows None (λ b e k. gap_if b e) (λ e k. refl) k t;
     costs = λ k. column_shows zero_ℚ (λ b e k. if b then cost_at p k else zero_ℚ) (λ e k. refl) k t;
     constant = p.constant;
   }
@@ -130,14 +133,15 @@ module _ (p : Sparse) (i : ℕ) (lower upper : Option Number) (s : IsSparse p) (
     coefficient = coefficient_of p;
     lower_side = λ k. sides_end (λ s. s.lower) lower refl k t;
     upper_side = λ k. sides_end (λ s. s.upper) upper refl k t;
-    lower_bound = λ j. end_if (column_at p j).live (bounds_at p j).lower;
-    upper_bound = λ j. end_if (column_at p j).live (bounds_at p j).upper;
+    lower_bound = λ j. end_if (column_at p j).live (reach_low (bounds_at p j));
+    upper_bound = λ j. end_if (column_at p j).live (reach_high (bounds_at p j));
     whole = λ j. (column_at p j).live && (bounds_at p j).whole;
+    gap = λ j. gap_if (column_at p j).live (bounds_at p j);
     costs = λ j. if (column_at p j).live then cost_at p j else zero_ℚ;
     constant = p.constant;
   }
 
-module _ (p : Sparse) (j : ℕ) (lower upper : Option Number) (s : IsSparse p) (live : (column_at p j).live ≡ true) where
+module _ (p : Sparse) (j : ℕ) (lower upper : Option Number) (s : IsSparse p) (live : (column_at p j).live ≡ true) (free : (bounds_at p j).semi ≡ false) where
   bounds_end : (end_of : Bounds → Option Number) (e : Option Number) → end_of (bounds_moved (bounds_at p j) lower upper) ≡ e
       → (k : ℕ) → end_if (column_at p k).live (end_of (bounds_at (bounds_set p j lower upper) k)) ≡ put (λ k. end_if (column_at p k).live (end_of (bounds_at p k))) j e k
   bounds_end end_of e is = at_or_off (λ k. end_if (column_at p k).live (end_of (bounds_at (bounds_set p j lower upper) k)) ≡ put (λ k. end_if (column_at p k).live (end_of (bounds_at p k))) j e k) j
@@ -150,6 +154,14 @@ module _ (p : Sparse) (j : ℕ) (lower upper : Option Number) (s : IsSparse p) (
       (ap (λ (b : Bounds). b.whole) (bounds_set-same p j lower upper (bounds_inside p j s live)))
       (λ k n. ap (λ (b : Bounds). b.whole) (bounds_set-other p j lower upper k n))
 
+  -- nor do they make or take a gap
+  gap_stays : (k : ℕ) → gap_if (column_at p k).live (bounds_at (bounds_set p j lower upper) k) ≡ gap_if (column_at p k).live (bounds_at p k)
+  gap_stays = at_or_off (λ k. gap_if (column_at p k).live (bounds_at (bounds_set p j lower upper) k) ≡ gap_if (column_at p k).live (bounds_at p k)) j
+      (ap (gap_if (column_at p j).live) (bounds_set-same p j lower upper (bounds_inside p j s live))
+      ∙ ap (λ (b : Bool). if (column_at p j).live then gap_of b lower upper else None) free
+      ∙ sym (ap (λ (b : Bool). if (column_at p j).live then gap_of b (bounds_at p j).lower (bounds_at p j).upper else None) free))
+      (λ k n. ap (gap_if (column_at p k).live) (bounds_set-other p j lower upper k n))
+
   pub shown-bounds_set : shown (bounds_set p j lower upper) ≡ with_bounds (shown p) j lower upper
   shown-bounds_set t = record {
     rows = length p.matrix.rows;
@@ -157,9 +169,10 @@ module _ (p : Sparse) (j : ℕ) (lower upper : Option Number) (s : IsSparse p) (
     coefficient = coefficient_of p;
     lower_side = λ i. end_if (row_at p i).live (sides_at p i).lower;
     upper_side = λ i. end_if (row_at p i).live (sides_at p i).upper;
-    lower_bound = λ k. bounds_end (λ b. b.lower) lower refl k t;
-    upper_bound = λ k. bounds_end (λ b. b.upper) upper refl k t;
+    lower_bound = λ k. bounds_end reach_low lower (ap (λ t. reach_lower t lower upper) free) k t;
+    upper_bound = λ k. bounds_end reach_high upper (ap (λ t. reach_upper t lower upper) free) k t;
     whole = λ k. (column_at p k).live && whole_stays k t;
+    gap = λ k. gap_stays k t;
     costs = λ k. if (column_at p k).live then cost_at p k else zero_ℚ;
     constant = p.constant;
   }

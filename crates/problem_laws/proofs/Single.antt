@@ -29,7 +29,7 @@ pub shown_edited : (p : Sparse) (e : Edit) → IsSparse p → IsAllowed p e → 
 shown_edited p (DeleteRow i) s a = shown-row_deleted p i s a
 shown_edited p (DeleteColumn j) s a = shown-column_deleted p j s a
 shown_edited p (SetSides i l u) s a = shown-sides_set p i l u s a
-shown_edited p (SetBounds j l u) s a = shown-bounds_set p j l u s a
+shown_edited p (SetBounds j l u) s a = shown-bounds_set p j l u s a.0 a.1
 shown_edited p (AddOffset k) s a = refl
 shown_edited p (SetCost j c) s a = shown-cost_set p j c s a
 shown_edited p (SetEntry i j w) s a = shown-entry_set p i j w s a.0 a.1

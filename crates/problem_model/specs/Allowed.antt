@@ -1,17 +1,17 @@
 -- When edits may be made.
-use Rattle.std.specs.Prelude.{◌≡◌, true, ⊤, List, [], ◌∷◌}
-use Rattle.problem_model.specs.Problems.{row_at, column_at}
+use Rattle.std.specs.Prelude.{◌≡◌, true, false, ⊤, List, [], ◌∷◌}
+use Rattle.problem_model.specs.Problems.{row_at, column_at, bounds_at}
 use Rattle.problem_model.specs.Sparse.{Sparse}
 use Rattle.problem_model.specs.declared.edit.Edit.{Edit}
 use Rattle.problem_model.specs.declared.edit.Edit.TheVariants.{DeleteRow, DeleteColumn, SetSides, SetBounds, AddOffset, SetCost, SetEntry}
 use Rattle.problem_model.specs.Applied.{edited}
 
--- what it changes is live
+-- what it changes is live; a semi-continuous column keeps its bounds
 abbrev pub IsAllowed : Sparse → Edit → Type 0
 IsAllowed p (DeleteRow i) = (row_at p i).live ≡ true
 IsAllowed p (DeleteColumn j) = (column_at p j).live ≡ true
 IsAllowed p (SetSides i l u) = (row_at p i).live ≡ true
-IsAllowed p (SetBounds j l u) = (column_at p j).live ≡ true
+IsAllowed p (SetBounds j l u) = ((column_at p j).live ≡ true) × ((bounds_at p j).semi ≡ false)
 IsAllowed p (AddOffset k) = ⊤
 IsAllowed p (SetCost j c) = (column_at p j).live ≡ true
 IsAllowed p (SetEntry i j a) = ((row_at p i).live ≡ true) × ((column_at p j).live ≡ true)

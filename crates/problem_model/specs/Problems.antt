@@ -13,7 +13,7 @@ abbrev pub no_sides : Sides
 no_sides = record { lower = None; upper = None; changes = 0 }
 
 abbrev pub no_bounds : Bounds
-no_bounds = record { lower = None; upper = None; whole = false; changes = 0 }
+no_bounds = record { lower = None; upper = None; whole = false; semi = false; changes = 0 }
 
 -- a row by its id; past the last it is not live
 abbrev pub row_at : Sparse → ℕ → Line

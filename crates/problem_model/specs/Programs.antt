@@ -23,7 +23,7 @@ abbrev pub sides_of : RowDef → Sides
 sides_of r = record { lower = r.lower; upper = r.upper; changes = 0 }
 
 abbrev pub bounds_of : ColumnDef → Bounds
-bounds_of c = record { lower = c.lower; upper = c.upper; whole = c.whole; changes = 0 }
+bounds_of c = record { lower = c.lower; upper = c.upper; whole = c.whole; semi = c.semi; changes = 0 }
 
 -- the program's rows and columns, all live; costs and constant as they are minimized, nothing added to the cost
 pub record IsProblemOf (program : ProgramData) (p : Sparse) : Type 0 where
@@ -54,7 +54,7 @@ written_rows rs ls ss = []
 -- a column with the present bounds, cost and entries
 abbrev pub written_column : Sense → List Line → ColumnDef → Line → Bounds → Number → ColumnDef
 written_column sense rows c l b cost =
-    record c { cost = signed sense cost; lower = b.lower; upper = b.upper; whole = b.whole; entries = renumbered rows l.entries }
+    record c { cost = signed sense cost; lower = b.lower; upper = b.upper; whole = b.whole; semi = b.semi; entries = renumbered rows l.entries }
 
 abbrev pub written_columns : Sense → List Line → List ColumnDef → List Line → List Bounds → List Number → List ColumnDef
 written_columns sense rows (c ∷ cs) (l ∷ ls) (b ∷ bs) (q ∷ qs) =

@@ -38,6 +38,7 @@ is_gone (holds.Entries ts) = false
 is_gone (holds.Sides l u) = false
 is_gone (holds.Column ts c) = false
 is_gone (holds.Bounds l u w) = false
+is_gone (holds.Semi l u w) = false
 
 abbrev pub has_entries : List Term → Contents → Bool
 has_entries ts (holds.Entries us) = same_terms ts us
@@ -45,6 +46,7 @@ has_entries ts holds.Gone = false
 has_entries ts (holds.Sides l u) = false
 has_entries ts (holds.Column us c) = false
 has_entries ts (holds.Bounds l u w) = false
+has_entries ts (holds.Semi l u w) = false
 
 abbrev pub has_sides : Option Number → Option Number → Contents → Bool
 has_sides l u (holds.Sides m v) = same_end l m && same_end u v
@@ -52,6 +54,7 @@ has_sides l u holds.Gone = false
 has_sides l u (holds.Entries ts) = false
 has_sides l u (holds.Column ts c) = false
 has_sides l u (holds.Bounds m v w) = false
+has_sides l u (holds.Semi m v w) = false
 
 abbrev pub has_column : List Term → Number → Contents → Bool
 has_column ts c (holds.Column us d) = same_terms ts us && eq_ℚ c d
@@ -59,6 +62,7 @@ has_column ts c holds.Gone = false
 has_column ts c (holds.Entries us) = false
 has_column ts c (holds.Sides l u) = false
 has_column ts c (holds.Bounds l u w) = false
+has_column ts c (holds.Semi l u w) = false
 
 abbrev pub has_bounds : Option Number → Option Number → Bool → Contents → Bool
 has_bounds l u w (holds.Bounds m v x) = same_end l m && (same_end u v && same_bit w x)
@@ -66,6 +70,15 @@ has_bounds l u w holds.Gone = false
 has_bounds l u w (holds.Entries ts) = false
 has_bounds l u w (holds.Sides m v) = false
 has_bounds l u w (holds.Column ts c) = false
+has_bounds l u w (holds.Semi m v x) = false
+
+abbrev pub has_semi : Option Number → Option Number → Bool → Contents → Bool
+has_semi l u w (holds.Semi m v x) = same_end l m && (same_end u v && same_bit w x)
+has_semi l u w holds.Gone = false
+has_semi l u w (holds.Entries ts) = false
+has_semi l u w (holds.Sides m v) = false
+has_semi l u w (holds.Column ts c) = false
+has_semi l u w (holds.Bounds m v x) = false
 
 abbrev pub same_contents : Contents → Contents → Bool
 same_contents holds.Gone d = is_gone d
@@ -73,6 +86,7 @@ same_contents (holds.Entries ts) d = has_entries ts d
 same_contents (holds.Sides l u) d = has_sides l u d
 same_contents (holds.Column ts c) d = has_column ts c d
 same_contents (holds.Bounds l u w) d = has_bounds l u w d
+same_contents (holds.Semi l u w) d = has_semi l u w d
 
 -- ---- numbers after a commit
 -- how often a part has changed where p was before and q is after

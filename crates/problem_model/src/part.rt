@@ -30,6 +30,8 @@ pub enum Contents {
     Column(Terms, Frac),
     /// A column's lower and upper bound, and whether it is whole.
     Bounds(Ext, Ext, bool),
+    /// The same of a column that is semi-continuous.
+    Semi(Ext, Ext, bool),
 }
 
 /// A part as it was read.

@@ -12,6 +12,7 @@ use Rattle.lp_model.specs.Reductions.{Reduces, ReducesPairs}
 use Rattle.lp_model.specs.Senses.{Sits}
 use Rattle.lp_theory.proofs.Steps.{same_points}
 use Rattle.program_laws.specs.Alike.{AreAlike}
+use Rattle.lp_model.specs.Gaps.{Gap, Clears}
 
 pub alike_back : (M R : LinearProgram) → AreAlike M R → AreAlike R M
 alike_back M R h = record {
@@ -23,6 +24,7 @@ alike_back M R h = record {
   lower_bound = λ j l. sym (h.lower_bound j (omega (arith, l, h.columns)));
   upper_bound = λ j l. sym (h.upper_bound j (omega (arith, l, h.columns)));
   whole = λ j l. sym (h.whole j (omega (arith, l, h.columns)));
+  gap = λ j l. sym (h.gap j (omega (arith, l, h.columns)));
   costs = λ j l. sym (h.costs j (omega (arith, l, h.columns)));
   constant = sym h.constant;
 }
@@ -46,6 +48,7 @@ module _ (M R : LinearProgram) (h : AreAlike M R) where
     rows = λ i l. let m : i < M.rows = omega (arith, l, h.rows) in same_between (h.lower_side i m) (h.upper_side i m) (value_same i x m) (f.rows i m);
     columns = λ j l. let m : j < M.columns = omega (arith, l, h.columns) in same_between (h.lower_bound j m) (h.upper_bound j m) refl (f.columns j m);
     whole = λ j l w. let m : j < M.columns = omega (arith, l, h.columns) in f.whole j m (subst (λ (b : Bool). IsTrue b) (sym (h.whole j m)) w);
+    gaps = λ j l. let m : j < M.columns = omega (arith, l, h.columns) in subst (λ (o : Option Gap). Clears o (x j)) (h.gap j m) (f.gaps j m);
   }
 
 pub alike_reduces : (d : Sense) (M R : LinearProgram) → AreAlike M R → Reduces d M R (λ x. x) zero_ℚ
@@ -63,7 +66,7 @@ module _ (d : Sense) (M R : LinearProgram) (h : AreAlike M R) where
 
   meets_alike : (x y : Vector) → Meets d M x y → Meets d R x y
   meets_alike x y meets = record {
-    continuous = λ j l. let m : j < M.columns = omega (arith, l, h.columns) in sym (h.whole j m) ∙ meets.continuous j m;
+    continuous = λ j l. let m : j < M.columns = omega (arith, l, h.columns) in (sym (h.whole j m) ∙ (meets.continuous j m).0, sym (h.gap j m) ∙ (meets.continuous j m).1);
     feasible = feasible_alike M R h x meets.feasible;
     rows = λ i l. let m : i < M.rows = omega (arith, l, h.rows) in
         same_sits d (M.lower_side i) (R.lower_side i) (M.upper_side i) (R.upper_side i) (value_at M i x) (value_at R i x) (y i) (y i)

@@ -19,11 +19,12 @@ use Rattle.problem_model.specs.declared.line.Bounds.{Bounds}
 use Rattle.problem_model.specs.Matrices.{no_line, line_at}
 use Rattle.problem_model.specs.Problems.{no_sides, no_bounds, row_at, column_at, sides_at, bounds_at, cost_at}
 use Rattle.problem_model.specs.Programs.{IsProblemOf, line_of, sides_of, bounds_of}
-use Rattle.problem_model.specs.Showing.{coefficient_of, end_if, shown}
+use Rattle.problem_model.specs.Showing.{coefficient_of, end_if, shown, reach_low, reach_high, gap_if}
 use Rattle.problem_model.specs.Sparse.{Sparse}
 use Rattle.problem_laws.proofs.Terms.{dense-absent, has-beyond}
 use Rattle.problem_laws.proofs.ShowingEdits.{cell, cell_dead}
 use Rattle.program_laws.proofs.Negating.{signed_zero, with_signs, minimizing_signs}
+use Rattle.lp_model.specs.Gaps.{gap_of, reach_lower, reach_upper}
 
 module _ (program : ProgramData) (p : Sparse) (h : IsProblemOf program p) where
   pub columns_length : length p.matrix.columns ≡ length program.columns
@@ -102,9 +103,10 @@ module _ (program : ProgramData) (p : Sparse) (h : IsProblemOf program p) where
     coefficient = λ i j. coefficient_shown i j t;
     lower_side = λ i. end_shown (λ s. s.lower) (λ r. r.lower) (λ r. refl) refl i t;
     upper_side = λ i. end_shown (λ s. s.upper) (λ r. r.upper) (λ r. refl) refl i t;
-    lower_bound = λ j. column_shown (λ b e q. end_if b e.lower) (λ c. c.lower) (λ c. refl) (λ b q. refl) j t;
-    upper_bound = λ j. column_shown (λ b e q. end_if b e.upper) (λ c. c.upper) (λ c. refl) (λ b q. refl) j t;
+    lower_bound = λ j. column_shown (λ b e q. end_if b (reach_low e)) (λ c. reach_lower c.semi c.lower c.upper) (λ c. refl) (λ b q. refl) j t;
+    upper_bound = λ j. column_shown (λ b e q. end_if b (reach_high e)) (λ c. reach_upper c.semi c.lower c.upper) (λ c. refl) (λ b q. refl) j t;
     whole = λ j. column_shown (λ b e q. b && e.whole) (λ c. c.whole) (λ c. refl) (λ b q. refl) j t;
+    gap = λ j. column_shown (λ b e q. gap_if b e) (λ c. gap_of c.semi c.lower c.upper) (λ c. refl) (λ b q. refl) j t;
     costs = λ j. column_shown (λ b e q. if b then q else zero_ℚ) (λ c. signed program.sense c.cost) (λ c. refl) (λ b q. sym (signed_zero program.sense)) j t;
     constant = h.constant t;
   }

@@ -20,7 +20,7 @@ use Rattle.lp_theory.proofs.Steps.{compose, compose_pairs}
 use Rattle.problem_model.specs.declared.line.Sides.{Sides}
 use Rattle.problem_model.specs.Problems.{row_at, column_at, sides_at, bounds_at, cost_at, IsSparse}
 use Rattle.problem_model.specs.Programs.{renumbered, written_program, live_ids}
-use Rattle.problem_model.specs.Showing.{coefficient_of, end_if, shown}
+use Rattle.problem_model.specs.Showing.{coefficient_of, end_if, shown, reach_low, reach_high, gap_if}
 use Rattle.problem_model.specs.Sparse.{Sparse}
 use Rattle.problem_laws.proofs.Entries.{dense-live}
 use Rattle.problem_laws.proofs.ShowingEdits.{cell, cell_dead}
@@ -32,6 +32,7 @@ use Rattle.program_laws.proofs.Negating.{signed_twice, with_signs, minimizing_si
 use Rattle.program_laws.proofs.Renumbering.{dense-renumbered, ascends-renumbered}
 use Rattle.program_laws.proofs.Making.{made_columns, made_columns-length, made_column-at, written-columns, written_rows-length, written_columns-length, written_row-at, written_column-at}
 use Rattle.program_laws.proofs.Alikeness.{alike_back, alike_pairs, alike_reduces}
+use Rattle.lp_model.specs.Gaps.{Gap, gap_of, reach_lower, reach_upper}
 
 -- what is not live has nothing
 pub rest : (p : Sparse) → IsSparse p → IsRest (shown p) (live_ids p.matrix.rows) (live_ids p.matrix.columns)
@@ -41,11 +42,22 @@ rest p s = record {
   no_lower_side = λ i l o. ap (λ (b : Bool). end_if b (sides_at p i).lower) (left_out-dead p.matrix.rows i o);
   no_upper_side = λ i l o. ap (λ (b : Bool). end_if b (sides_at p i).upper) (left_out-dead p.matrix.rows i o);
   no_coefficient = λ i j l o. ap (λ (b : Bool). cell (row_at p i).live b (dense (row_at p i).entries j)) (left_out-dead p.matrix.columns j o) ∙ cell_dead (row_at p i).live (dense (row_at p i).entries j);
-  no_lower_bound = λ j l o. ap (λ (b : Bool). end_if b (bounds_at p j).lower) (left_out-dead p.matrix.columns j o);
-  no_upper_bound = λ j l o. ap (λ (b : Bool). end_if b (bounds_at p j).upper) (left_out-dead p.matrix.columns j o);
+  no_lower_bound = λ j l o. ap (λ (b : Bool). end_if b (reach_low (bounds_at p j))) (left_out-dead p.matrix.columns j o);
+  no_upper_bound = λ j l o. ap (λ (b : Bool). end_if b (reach_high (bounds_at p j))) (left_out-dead p.matrix.columns j o);
   not_whole = λ j l o. ap (λ (b : Bool). b && (bounds_at p j).whole) (left_out-dead p.matrix.columns j o);
+  no_gap = λ j l o. ap (λ (b : Bool). gap_if b (bounds_at p j)) (left_out-dead p.matrix.columns j o);
   no_cost = λ j l o. ap (λ (b : Bool). if b then cost_at p j else zero_ℚ) (left_out-dead p.matrix.columns j o);
 }
+
+-- what a column's data mean
+abbrev reach_of : ColumnDef → Option Number
+reach_of c = reach_lower c.semi c.lower c.upper
+
+abbrev reach_over : ColumnDef → Option Number
+reach_over c = reach_upper c.semi c.lower c.upper
+
+abbrev gap_in : ColumnDef → Option Gap
+gap_in c = gap_of c.semi c.lower c.upper
 
 both_live : (row column : Bool) (a : Number) → row ≡ true → column ≡ true → cell row column a ≡ a
 both_live row column a e f = ap₂ (λ (b c : Bool). cell b c a) e f
@@ -81,24 +93,30 @@ module _ (program : ProgramData) (p : Sparse) (s : IsSparse p) (o : IsOf program
         lower_bound = λ b l. column_lower b (omega (arith, l, columns));
         upper_bound = λ b l. column_upper b (omega (arith, l, columns));
         whole = λ b l. column_whole b (omega (arith, l, columns));
+        gap = λ b l. column_gap b (omega (arith, l, columns));
         costs = λ b l. column_cost b (omega (arith, l, columns));
         constant = sym o.constant;
       }
     where
-      column_lower : (b : ℕ) → b < length (live_ids p.matrix.columns) → (get_or (written_program program p).columns b no_column).lower
-          ≡ end_if (column_at p (slice_index (live_ids p.matrix.columns) b)).live (bounds_at p (slice_index (live_ids p.matrix.columns) b)).lower
-      column_lower b l = ap (λ (c : ColumnDef). c.lower) (written_column-at program p s o b l)
-          ∙ sym (ap (λ (y : Bool). end_if y (bounds_at p (slice_index (live_ids p.matrix.columns) b)).lower) (id_live p.matrix.columns b l))
+      column_lower : (b : ℕ) → b < length (live_ids p.matrix.columns) → reach_of (get_or (written_program program p).columns b no_column)
+          ≡ end_if (column_at p (slice_index (live_ids p.matrix.columns) b)).live (reach_low (bounds_at p (slice_index (live_ids p.matrix.columns) b)))
+      column_lower b l = ap reach_of (written_column-at program p s o b l)
+          ∙ sym (ap (λ (y : Bool). end_if y (reach_low (bounds_at p (slice_index (live_ids p.matrix.columns) b)))) (id_live p.matrix.columns b l))
 
-      column_upper : (b : ℕ) → b < length (live_ids p.matrix.columns) → (get_or (written_program program p).columns b no_column).upper
-          ≡ end_if (column_at p (slice_index (live_ids p.matrix.columns) b)).live (bounds_at p (slice_index (live_ids p.matrix.columns) b)).upper
-      column_upper b l = ap (λ (c : ColumnDef). c.upper) (written_column-at program p s o b l)
-          ∙ sym (ap (λ (y : Bool). end_if y (bounds_at p (slice_index (live_ids p.matrix.columns) b)).upper) (id_live p.matrix.columns b l))
+      column_upper : (b : ℕ) → b < length (live_ids p.matrix.columns) → reach_over (get_or (written_program program p).columns b no_column)
+          ≡ end_if (column_at p (slice_index (live_ids p.matrix.columns) b)).live (reach_high (bounds_at p (slice_index (live_ids p.matrix.columns) b)))
+      column_upper b l = ap reach_over (written_column-at program p s o b l)
+          ∙ sym (ap (λ (y : Bool). end_if y (reach_high (bounds_at p (slice_index (live_ids p.matrix.columns) b)))) (id_live p.matrix.columns b l))
 
       column_whole : (b : ℕ) → b < length (live_ids p.matrix.columns) → (get_or (written_program program p).columns b no_column).whole
           ≡ ((column_at p (slice_index (live_ids p.matrix.columns) b)).live && (bounds_at p (slice_index (live_ids p.matrix.columns) b)).whole)
       column_whole b l = ap (λ (c : ColumnDef). c.whole) (written_column-at program p s o b l)
           ∙ sym (ap (λ (y : Bool). y && (bounds_at p (slice_index (live_ids p.matrix.columns) b)).whole) (id_live p.matrix.columns b l))
+
+      column_gap : (b : ℕ) → b < length (live_ids p.matrix.columns) → gap_in (get_or (written_program program p).columns b no_column)
+          ≡ gap_if (column_at p (slice_index (live_ids p.matrix.columns) b)).live (bounds_at p (slice_index (live_ids p.matrix.columns) b))
+      column_gap b l = ap gap_in (written_column-at program p s o b l)
+          ∙ sym (ap (λ (y : Bool). gap_if y (bounds_at p (slice_index (live_ids p.matrix.columns) b))) (id_live p.matrix.columns b l))
 
       column_cost : (b : ℕ) → b < length (live_ids p.matrix.columns) → signed program.sense (get_or (written_program program p).columns b no_column).cost
           ≡ if (column_at p (slice_index (live_ids p.matrix.columns) b)).live then cost_at p (slice_index (live_ids p.matrix.columns) b) else zero_ℚ

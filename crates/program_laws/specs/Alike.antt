@@ -12,5 +12,6 @@ pub record AreAlike (M R : LinearProgram) : Type 0 where
   pub lower_bound : (j : ℕ) → j < M.columns → M.lower_bound j ≡ R.lower_bound j
   pub upper_bound : (j : ℕ) → j < M.columns → M.upper_bound j ≡ R.upper_bound j
   pub whole : (j : ℕ) → j < M.columns → M.whole j ≡ R.whole j
+  pub gap : (j : ℕ) → j < M.columns → M.gap j ≡ R.gap j
   pub costs : (j : ℕ) → j < M.columns → M.costs j ≡ R.costs j
   pub constant : M.constant ≡ R.constant

@@ -13,7 +13,7 @@ use Rattle.problem_model.specs.declared.part.Contents.TheVariants as holding
 use Rattle.problem_model.specs.declared.part.Read.{Read}
 use Rattle.problem_model.specs.Matrices.{no_line}
 use Rattle.problem_model.specs.Noted.{AreNoted}
-use Rattle.problem_model.specs.Parts.{contents_of}
+use Rattle.problem_model.specs.Parts.{bounds_held, contents_of}
 use Rattle.problem_model.specs.Problems.{bounds_at, column_at, column_entries, cost_at, row_at, row_entries, sides_at}
 use Rattle.problem_model.specs.Reading.{read_of}
 use Rattle.problem_model.specs.Sparse.{Sparse}
@@ -30,7 +30,7 @@ sides_past : (p : Sparse) (i : ℕ) → length p.matrix.rows ≤ i → form_on p
 sides_past p i l = ap (λ (x : Line). form_of (if x.live then holding.Sides (sides_at p i).lower (sides_at p i).upper else holding.Gone)) (get_or_past p.matrix.rows i no_line l)
 
 bounds_past : (p : Sparse) (j : ℕ) → length p.matrix.columns ≤ j → form_on p (part.Bounds j) ≡ NoEnds
-bounds_past p j l = ap (λ (x : Line). form_of (if x.live then holding.Bounds (bounds_at p j).lower (bounds_at p j).upper (bounds_at p j).whole else holding.Gone)) (get_or_past p.matrix.columns j no_line l)
+bounds_past p j l = ap (λ (x : Line). form_of (if x.live then bounds_held (bounds_at p j).semi (bounds_at p j).lower (bounds_at p j).upper (bounds_at p j).whole else holding.Gone)) (get_or_past p.matrix.columns j no_line l)
 
 -- what holds entries has no ends
 rows_none : (p : Sparse) (i : ℕ) → NoEnds ≡ form_on p (part.Row i)
@@ -169,11 +169,12 @@ sides_line p i = by (row_at p i).live
     by false = refl
 
 bounds_line : (p : Sparse) (j : ℕ) → line_of (contents_of p (part.Bounds j)) ≡ holding.Gone
-bounds_line p j = by (column_at p j).live
+bounds_line p j = by (column_at p j).live (bounds_at p j).semi
   where
-    by : (b : Bool) → line_of (if b then holding.Bounds (bounds_at p j).lower (bounds_at p j).upper (bounds_at p j).whole else holding.Gone) ≡ holding.Gone
-    by true = refl
-    by false = refl
+    by : (b s : Bool) → line_of (if b then bounds_held s (bounds_at p j).lower (bounds_at p j).upper (bounds_at p j).whole else holding.Gone) ≡ holding.Gone
+    by true true = refl
+    by true false = refl
+    by false s = refl
 
 -- ---- what the tests say
 given : (a b : Bool) → gives a b ≡ true → Gives a b

@@ -18,7 +18,7 @@ use Rattle.lp_model.specs.Sparse.{Ascends, dense}
 use Rattle.lp_model.specs.LinearProgram.{LinearProgram}
 use Rattle.lp_theory.specs.Activities.{total_ends, least_term, greatest_term}
 use Rattle.problem_model.specs.Problems.{row_at, column_at, bounds_at, row_entries, IsSparse}
-use Rattle.problem_model.specs.Showing.{end_if, shown}
+use Rattle.problem_model.specs.Showing.{end_if, shown, reach_low, reach_high}
 use Rattle.problem_model.specs.Sparse.{Sparse}
 use Rattle.problem_laws.proofs.Entries.{dense-live_only, row_entries-live, row_entries-ascend}
 use Rattle.row_spans.specs.declared.span.Span.{Span}
@@ -202,17 +202,17 @@ zero_end Least l u = zero_term l u
 zero_end Greatest l u = zero_term u l
 
 live_ends : (p : Sparse) (x : Extreme) (ts : List Term) → All (λ t. (column_at p t.id).live ≡ true) ts → (k : ℕ)
-    → ends_dense x (map (span_of p) ts) k ≡ end_of x (dense ts k) (end_if (column_at p k).live (bounds_at p k).lower) (end_if (column_at p k).live (bounds_at p k).upper)
+    → ends_dense x (map (span_of p) ts) k ≡ end_of x (dense ts k) (end_if (column_at p k).live (reach_low (bounds_at p k))) (end_if (column_at p k).live (reach_high (bounds_at p k)))
 live_ends p x [] h k = sym (zero_end x _ _)
 live_ends p x (t ∷ ts) h k = by (cases_eq k t.id) (live_ends p x ts (All-tail (λ t. (column_at p t.id).live ≡ true) t ts h) k)
   where
     lower : ℕ → Option Number
-    lower m = end_if (column_at p m).live (bounds_at p m).lower
+    lower m = end_if (column_at p m).live (reach_low (bounds_at p m))
 
     upper : ℕ → Option Number
-    upper m = end_if (column_at p m).live (bounds_at p m).upper
+    upper m = end_if (column_at p m).live (reach_high (bounds_at p m))
 
-    here : (x : Extreme) (b : Bool) → b ≡ true → end_at x (span_of p t) ≡ end_of x t.value (end_if b (bounds_at p t.id).lower) (end_if b (bounds_at p t.id).upper)
+    here : (x : Extreme) (b : Bool) → b ≡ true → end_at x (span_of p t) ≡ end_of x t.value (end_if b (reach_low (bounds_at p t.id))) (end_if b (reach_high (bounds_at p t.id)))
     here Least true e = refl
     here Greatest true e = refl
     here x false e = absurd (true≢false (sym e))

@@ -1,5 +1,5 @@
 -- The entries of a row with the bounds of their columns.
-use Rattle.std.specs.Prelude.{◌≢◌, ℕ, suc, ◌≤◌, ⊤, slice_index_or, not, nat_eq, false, Option, Some, None, option_map, List, [], ◌∷◌, map}
+use Rattle.std.specs.Prelude.{◌≢◌, ℕ, suc, ◌≤◌, ⊤, slice_index_or, not, nat_eq, true, false, Option, Some, None, option_map, List, [], ◌∷◌, map}
 use Rattle.std.specs.List.{filter}
 use Rattle.rational.specs.Number.{Number, zero_ℚ}
 use Rattle.lp_model.specs.declared.terms.Term.{Term}
@@ -12,10 +12,12 @@ use Rattle.problem_model.specs.Sparse.{Sparse}
 use Rattle.row_spans.specs.declared.span.Span.{Span}
 use Rattle.row_spans.specs.declared.span.Extreme.{Extreme}
 use Rattle.row_spans.specs.declared.span.Extreme.TheVariants.{Least, Greatest}
+use Rattle.lp_model.specs.Gaps.{hull_lower, hull_upper}
+use Rattle.problem_model.specs.Showing.{reach_low, reach_high}
 
 -- an entry with its column's bounds
 abbrev pub span_of : Sparse → Term → Span
-span_of p t = record { id = t.id; value = t.value; lower = (bounds_at p t.id).lower; upper = (bounds_at p t.id).upper; whole = (bounds_at p t.id).whole }
+span_of p t = record { id = t.id; value = t.value; lower = reach_low (bounds_at p t.id); upper = reach_high (bounds_at p t.id); whole = (bounds_at p t.id).whole; semi = (bounds_at p t.id).semi }
 
 -- of terms, those at live columns with their bounds
 abbrev pub spans_among : Sparse → List Term → List Span
@@ -49,7 +51,7 @@ AreSpans m (s ∷ ss) = (m ≤ s.id) × (s.value ≢ zero_ℚ) × AreSpans (suc 
 
 -- stands for a span past the last
 abbrev pub no_span : Span
-no_span = record { id = 0; value = zero_ℚ; lower = None; upper = None; whole = false }
+no_span = record { id = 0; value = zero_ℚ; lower = None; upper = None; whole = false; semi = false }
 
 abbrev pub span_at : List Span → ℕ → Span
 span_at ss k = slice_index_or ss k no_span
@@ -63,7 +65,8 @@ abbrev pub spans_from : List Term → List Contents → Option (List Span)
 spans_from [] [] = Some []
 spans_from [] (c ∷ cs) = None
 spans_from (t ∷ ts) [] = None
-spans_from (t ∷ ts) (holds.Bounds l u w ∷ cs) = joined (record { id = t.id; value = t.value; lower = l; upper = u; whole = w }) (spans_from ts cs)
+spans_from (t ∷ ts) (holds.Bounds l u w ∷ cs) = joined (record { id = t.id; value = t.value; lower = l; upper = u; whole = w; semi = false }) (spans_from ts cs)
+spans_from (t ∷ ts) (holds.Semi l u w ∷ cs) = joined (record { id = t.id; value = t.value; lower = hull_lower l u; upper = hull_upper l u; whole = w; semi = true }) (spans_from ts cs)
 spans_from (t ∷ ts) (holds.Gone ∷ cs) = None
 spans_from (t ∷ ts) (holds.Entries es ∷ cs) = None
 spans_from (t ∷ ts) (holds.Sides l u ∷ cs) = None

@@ -24,6 +24,8 @@ pub struct Span {
     pub upper: Ext,
     /// Whether the column must be whole.
     pub whole: bool,
+    /// Whether the column is semi-continuous; then the bounds are their hull with 0.
+    pub semi: bool,
 }
 
 /// Which of a row's activities.

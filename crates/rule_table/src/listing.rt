@@ -51,11 +51,12 @@ pub fn reach_of(rule: Rule) -> Reach
     ensures { result ≡ reach rule }
 {
     match rule {
-        Rule::CrossedSides | Rule::EmptyRow | Rule::SingletonRow => Reach::OwnRow,
+        Rule::CrossedSides | Rule::EmptyRow => Reach::OwnRow,
         Rule::CrossedBounds | Rule::FixedColumn | Rule::RoundedBounds | Rule::EmptyColumn => {
             Reach::OwnColumn
         }
         Rule::InfeasibleRow
+        | Rule::SingletonRow
         | Rule::RedundantRow
         | Rule::RedundantSide
         | Rule::ForcingRow

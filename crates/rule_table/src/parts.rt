@@ -150,12 +150,13 @@ fn add_of_reduction(
     ensures { OnOk result (parts.new.items ≡ parts.old.items ++ reads problem.now (at.Reduction reduction)) }
 {
     match reduction {
-        Reduction::EmptyRow { row } | Reduction::SingletonRow { row } => add_row(parts, row),
+        Reduction::EmptyRow { row } => add_row(parts, row),
         Reduction::FixedColumn { column } | Reduction::EmptyColumn { column } => {
             add_column(parts, column)
         }
         Reduction::RoundedBounds { column } => add_one(parts, Part::Bounds(column)),
-        Reduction::RedundantRow { row }
+        Reduction::SingletonRow { row }
+        | Reduction::RedundantRow { row }
         | Reduction::RedundantSide { row }
         | Reduction::ForcingRow { row }
         | Reduction::BoundTightening { row, .. }

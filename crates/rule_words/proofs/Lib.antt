@@ -3,3 +3,4 @@ pub mod EndTestsSay
 pub mod Named
 pub mod Multiples
 pub mod TermsInTurn
+pub mod Solid

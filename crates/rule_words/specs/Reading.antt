@@ -4,7 +4,7 @@ use Rattle.lp_model.specs.declared.terms.Term.{Term}
 use Rattle.problem_model.specs.declared.part.Part.{Part}
 use Rattle.problem_model.specs.declared.part.Part.TheVariants as part
 use Rattle.problem_model.specs.declared.part.Contents.{Contents}
-use Rattle.problem_model.specs.declared.part.Contents.TheVariants.{Gone, Entries, Sides, Column, Bounds}
+use Rattle.problem_model.specs.declared.part.Contents.TheVariants.{Gone, Entries, Sides, Column, Bounds, Semi}
 use Rattle.problem_model.specs.Parts.{contents_of}
 use Rattle.problem_model.specs.Sparse.{Sparse}
 
@@ -30,6 +30,7 @@ terms_in (Entries ts) = ts
 terms_in (Sides l u) = []
 terms_in (Column ts c) = ts
 terms_in (Bounds l u w) = []
+terms_in (Semi l u w) = []
 
 -- no more parts than the heads
 abbrev pub no_more : List Contents → List Part

@@ -25,7 +25,7 @@ use Rattle.problem_model.specs.declared.part.Contents.TheVariants as holding
 use Rattle.problem_model.specs.Flags.{flags_of}
 use Rattle.problem_model.specs.Matrices.{line_at}
 use Rattle.problem_model.specs.Problems.{row_at, column_at, sides_at, bounds_at, cost_at, column_entries, IsSparse}
-use Rattle.problem_model.specs.Showing.{coefficient_of, end_if, shown}
+use Rattle.problem_model.specs.Showing.{coefficient_of, end_if, shown, reach_low, reach_high}
 use Rattle.problem_model.specs.Sparse.{Sparse}
 use Rattle.problem_model.specs.Writing.{KeptSides, IsWritable}
 use Rattle.problem_model.specs.LeftOut.{column_left_out}
@@ -48,19 +48,23 @@ use Rattle.rule_words.specs.Owed.{RuleOwes}
 use Rattle.singleton_laws.specs.FixedColumn.{is_fixed_column, enabled, value_of, column_out, edits, record_of}
 use Rattle.edit_laws.proofs.Reducing.{by_edits, pairs_by_edits}
 use Rattle.rule_words.proofs.Named.{one_on, ids_on, two_sided}
+use Rattle.problem_model.specs.Parts.{bounds_held}
+use Rattle.rule_words.proofs.Solid.{low_solid, high_solid, gap_solid}
 
 -- what the condition says: a live column whose bounds are v
-pub record Said (on : Bool) (l u : Option Number) (w : Bool) (v : Number) : Type 0 where
+pub record Said (on semi : Bool) (l u : Option Number) (w : Bool) (v : Number) : Type 0 where
   pub live : on ≡ true
+  pub solid : semi ≡ false
   pub ends : AreFixed l u w v
 
-says : (on : Bool) (ts : List Term) (c : Number) (l u : Option Number) (w : Bool)
-    → is_fixed_column (if on then holding.Column ts c else holding.Gone) (if on then holding.Bounds l u w else holding.Gone) ≡ true → Said on l u w (unwrap_or l zero_ℚ)
-says true ts c l u w e = record { live = refl; ends = fixed_ends l u w e }
-says false ts c l u w e = absurd (not_true e)
+says : (on semi : Bool) (ts : List Term) (c : Number) (l u : Option Number) (w : Bool)
+    → is_fixed_column (if on then holding.Column ts c else holding.Gone) (if on then bounds_held semi l u w else holding.Gone) ≡ true → Said on semi l u w (unwrap_or l zero_ℚ)
+says true true ts c l u w e = absurd (not_true e)
+says true false ts c l u w e = record { live = refl; solid = refl; ends = fixed_ends l u w e }
+says false semi ts c l u w e = absurd (not_true e)
 
-pub said : (p : Sparse) (j : ℕ) → enabled p j ≡ true → Said (column_at p j).live (bounds_at p j).lower (bounds_at p j).upper (bounds_at p j).whole (value_of p j)
-said p j = says (column_at p j).live (column_entries p j) (cost_at p j) (bounds_at p j).lower (bounds_at p j).upper (bounds_at p j).whole
+pub said : (p : Sparse) (j : ℕ) → enabled p j ≡ true → Said (column_at p j).live (bounds_at p j).semi (bounds_at p j).lower (bounds_at p j).upper (bounds_at p j).whole (value_of p j)
+said p j = says (column_at p j).live (bounds_at p j).semi (column_entries p j) (cost_at p j) (bounds_at p j).lower (bounds_at p j).upper (bounds_at p j).whole
 
 less_zero : (o : Option Number) (w : Number) → less o (zero_ℚ *ℚ w) ≡ o
 less_zero None w = refl
@@ -72,7 +76,7 @@ sided_less numbers None None c k = k
 sided_less numbers None (Some u) c k = tt
 sided_less numbers (Some l) u c k = tt
 
-module _ (p : Sparse) (s : IsSparse p) (j : ℕ) (w : Number) (f : Said (column_at p j).live (bounds_at p j).lower (bounds_at p j).upper (bounds_at p j).whole w) where
+module _ (p : Sparse) (s : IsSparse p) (j : ℕ) (w : Number) (f : Said (column_at p j).live (bounds_at p j).semi (bounds_at p j).lower (bounds_at p j).upper (bounds_at p j).whole w) where
   abbrev ts : List Term
   ts = column_entries p j
 
@@ -123,8 +127,9 @@ module _ (p : Sparse) (s : IsSparse p) (j : ℕ) (w : Number) (f : Said (column_
   shows_fixed_column : IsFixedColumn (shown p) j w
   shows_fixed_column = record {
     column = column_inside p j f.live;
-    lower = end_live (column_at p j).live (bounds_at p j).lower f.live ∙ f.ends.lower;
-    upper = end_live (column_at p j).live (bounds_at p j).upper f.live ∙ f.ends.upper;
+    lower = end_live (column_at p j).live (reach_low (bounds_at p j)) f.live ∙ low_solid (bounds_at p j) f.solid ∙ f.ends.lower;
+    upper = end_live (column_at p j).live (reach_high (bounds_at p j)) f.live ∙ high_solid (bounds_at p j) f.solid ∙ f.ends.upper;
+    solid = gap_solid (column_at p j).live (bounds_at p j) f.solid;
     whole = λ h. f.ends.whole (and_parts (column_at p j).live (bounds_at p j).whole h).1;
   }
 

@@ -1,5 +1,5 @@
 -- K2.
-use Rattle.std.proofs.Common.{◌≡◌, ℕ, Bool, true, false, List, [], ◌∷◌, length, Option, refl, sym, ap, ap₂, ◌∙◌, subst}
+use Rattle.std.proofs.Common.{◌≡◌, ℕ, Bool, true, false, List, [], ◌∷◌, ◌&&◌, length, map, Option, refl, sym, ap, ap₂, ◌∙◌, subst}
 use Rattle.std.specs.Prelude.{if◌then◌else◌}
 use Rattle.std.specs.List.{All}
 use Rattle.std.proofs.lemmas.List.Elements.{All-head}
@@ -32,36 +32,48 @@ use Rattle.problem_model.specs.Sparse.{Sparse}
 use Rattle.problem_laws.proofs.AtIds.{row_inside}
 use Rattle.problem_laws.proofs.Entries.{row_entries-ascend, row_entries-live}
 use Rattle.rule_words.specs.Owed.{RuleOwes}
-use Rattle.rule_words.proofs.Coefficients.{coefficient_in_row, end_live}
+use Rattle.rule_words.proofs.Coefficients.{coefficient_in_row}
 use Rattle.rule_words.proofs.EndTestsSay.{not_true}
 use Rattle.rule_words.proofs.Named.{one_on, nothing_twice, two_sided}
 use Rattle.edit_laws.proofs.Reducing.{by_edits, pairs_by_edits}
-use Rattle.singleton_laws.specs.SingletonRow.{is_singleton_row, enabled, sole_entry, met_lower, met_upper, edits, record_of}
+use Rattle.singleton_laws.specs.SingletonRow.{are_open, is_singleton_row, enabled, sole_entry, met_lower, met_upper, edits, record_of}
+use Rattle.problem_model.specs.Parts.{bounds_held, contents_of}
+use Rattle.lp_model.specs.EndTests.{is_in_order}
+use Rattle.rule_words.specs.Reading.{bounds_of, terms_in}
+use Rattle.rule_words.proofs.Solid.{low_shown, high_shown}
 
--- what the condition says: a live row with one live entry
-pub record Said (on : Bool) (ts : List Term) : Type 0 where
+-- what the condition says: a live row with one live entry, whose column isn't semi-continuous
+pub record Said (p : Sparse) (on : Bool) (ts : List Term) : Type 0 where
   pub live : on ≡ true
   pub one : ts ≡ first_of ts ∷ []
+  pub solid : (bounds_at p (first_of ts).id).semi ≡ false
 
-says : (on : Bool) (ts : List Term) (l u : Option Number)
-    → is_singleton_row (if on then holding.Entries ts else holding.Gone) (if on then holding.Sides l u else holding.Gone) ≡ true → Said on ts
-says true [] l u e = absurd (not_true e)
-says true (t ∷ []) l u e = record { live = refl; one = refl }
-says true (t ∷ s ∷ ts) l u e = absurd (not_true e)
-says false ts l u e = absurd (not_true e)
+opens : (on semi : Bool) (m v : Option Number) (w ordered : Bool) → (ordered && are_open ((if on then bounds_held semi m v w else holding.Gone) ∷ [])) ≡ true → semi ≡ false
+opens on false m v w ordered e = refl
+opens true true m v w true e = absurd (not_true e)
+opens true true m v w false e = absurd (not_true e)
+opens false true m v w true e = absurd (not_true e)
+opens false true m v w false e = absurd (not_true e)
 
-pub said : (p : Sparse) (i : ℕ) → enabled p i ≡ true → Said (row_at p i).live (row_entries p i)
-said p i = says (row_at p i).live (row_entries p i) (sides_at p i).lower (sides_at p i).upper
+says : (p : Sparse) (on : Bool) (ts : List Term) (l u : Option Number)
+    → is_singleton_row (if on then holding.Entries ts else holding.Gone) (if on then holding.Sides l u else holding.Gone) (map (contents_of p) (bounds_of (terms_in (if on then holding.Entries ts else holding.Gone)))) ≡ true → Said p on ts
+says p true [] l u e = absurd (not_true e)
+says p true (t ∷ []) l u e = record { live = refl; one = refl; solid = opens (column_at p t.id).live (bounds_at p t.id).semi (bounds_at p t.id).lower (bounds_at p t.id).upper (bounds_at p t.id).whole (is_in_order l u) e }
+says p true (t ∷ s ∷ ts) l u e = absurd (not_true e)
+says p false ts l u e = absurd (not_true e)
+
+pub said : (p : Sparse) (i : ℕ) → enabled p i ≡ true → Said p (row_at p i).live (row_entries p i)
+said p i = says p (row_at p i).live (row_entries p i) (sides_at p i).lower (sides_at p i).upper
 
 -- the entry: its column is live, its id is the problem's, and it isn't 0
-sole_live : (p : Sparse) (i : ℕ) → Said (row_at p i).live (row_entries p i) → (column_at p (sole_entry p i).id).live ≡ true
+sole_live : (p : Sparse) (i : ℕ) → Said p (row_at p i).live (row_entries p i) → (column_at p (sole_entry p i).id).live ≡ true
 sole_live p i o = All-head (λ (t : Term). (column_at p t.id).live ≡ true) (sole_entry p i) []
     (subst (All (λ (t : Term). (column_at p t.id).live ≡ true)) o.one (row_entries-live p i))
 
-sole_ascends : (p : Sparse) (i : ℕ) → IsSparse p → Said (row_at p i).live (row_entries p i) → Ascends 0 (length p.matrix.columns) (sole_entry p i ∷ [])
+sole_ascends : (p : Sparse) (i : ℕ) → IsSparse p → Said p (row_at p i).live (row_entries p i) → Ascends 0 (length p.matrix.columns) (sole_entry p i ∷ [])
 sole_ascends p i s o = subst (Ascends 0 (length p.matrix.columns)) o.one (row_entries-ascend p i s)
 
-module _ (p : Sparse) (s : IsSparse p) (i : ℕ) (o : Said (row_at p i).live (row_entries p i)) where
+module _ (p : Sparse) (s : IsSparse p) (i : ℕ) (o : Said p (row_at p i).live (row_entries p i)) where
   abbrev j : ℕ
   j = (sole_entry p i).id
 
@@ -83,18 +95,18 @@ module _ (p : Sparse) (s : IsSparse p) (i : ℕ) (o : Said (row_at p i).live (ro
   }
 
   low_is : met_lower p i (sole_entry p i) ≡ rule.met_lower (shown p) i j
-  low_is t = meet_low (end_if (sym (sole_live p i o) t) (bounds_at p j).lower)
+  low_is t = meet_low (sym (low_shown p j (sole_live p i o) o.solid) t)
       (lower_over (sym entry_is t) (end_if (sym o.live t) (sides_at p i).lower) (end_if (sym o.live t) (sides_at p i).upper))
 
   high_is : met_upper p i (sole_entry p i) ≡ rule.met_upper (shown p) i j
-  high_is t = meet_high (end_if (sym (sole_live p i o) t) (bounds_at p j).upper)
+  high_is t = meet_high (sym (high_shown p j (sole_live p i o) o.solid) t)
       (upper_over (sym entry_is t) (end_if (sym o.live t) (sides_at p i).lower) (end_if (sym o.live t) (sides_at p i).upper))
 
   met : programs_edited (shown p) (edits p i) ≡ singleton_row_met (shown p) i j
   met = ap₂ (λ (x y : Option Number). without_row (with_bounds (shown p) j x y) i) low_is high_is
 
   allowed : AreAllowed p (edits p i)
-  allowed = (sole_live p i o, (o.live, tt))
+  allowed = ((sole_live p i o, o.solid), (o.live, tt))
 
   -- the program's numbers in the record
   same_record : kept.singleton_row (shown p) i j ≡ record_of p i
@@ -102,8 +114,8 @@ module _ (p : Sparse) (s : IsSparse p) (i : ℕ) (o : Said (row_at p i).live (ro
     row = i;
     column = j;
     value = entry_is t;
-    lower = end_live (column_at p j).live (bounds_at p j).lower (sole_live p i o) t;
-    upper = end_live (column_at p j).live (bounds_at p j).upper (sole_live p i o) t;
+    lower = low_shown p j (sole_live p i o) o.solid t;
+    upper = high_shown p j (sole_live p i o) o.solid t;
   })
 
   pairs : ReducesPairs Min (shown p) (shown (committed p (edits p i))) (undone_pair (record_of p i))

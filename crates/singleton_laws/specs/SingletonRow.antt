@@ -17,23 +17,28 @@ use Rattle.lp_model.specs.EndTests.{is_in_order}
 use Rattle.problem_model.specs.Problems.{first_of, sides_at, bounds_at, row_entries}
 use Rattle.problem_model.specs.Sparse.{Sparse}
 use Rattle.rule_words.specs.Entries.{has_one}
-use Rattle.rule_words.specs.Reading.{found_on, no_more}
+use Rattle.rule_words.specs.Reading.{found_on, bounds_named}
 
--- it reads the row and its sides
+-- it reads the row and its sides, and then the bounds of the entry's column
 abbrev pub heads : ℕ → List Part
 heads i = part.Row i ∷ part.Sides i ∷ []
 
--- the row has one entry, and its sides aren't crossed
-abbrev pub is_singleton_row : Contents → Contents → Bool
-is_singleton_row (Entries ts) (Sides l u) = has_one ts && is_in_order l u
-is_singleton_row row sides = false
+-- bounds that aren't crossed, of one column that isn't semi-continuous
+abbrev pub are_open : List Contents → Bool
+are_open (Bounds m v w ∷ []) = is_in_order m v
+are_open other = false
+
+-- the row has one entry, and neither its sides nor its column's bounds are crossed
+abbrev pub is_singleton_row : Contents → Contents → List Contents → Bool
+is_singleton_row (Entries ts) (Sides l u) bounds = has_one ts && (is_in_order l u && are_open bounds)
+is_singleton_row row sides bounds = false
 
 abbrev pub holds : List Contents → Bool
-holds (a ∷ b ∷ []) = is_singleton_row a b
+holds (a ∷ b ∷ bounds) = is_singleton_row a b bounds
 holds other = false
 
 abbrev pub enabled : Sparse → ℕ → Bool
-enabled p i = holds (found_on (heads i) no_more p)
+enabled p i = holds (found_on (heads i) bounds_named p)
 
 -- the entry
 abbrev pub sole_entry : Sparse → ℕ → Term

@@ -14,5 +14,5 @@ pub fn is_enabled(problem: &Problem, column: u32) -> bool
         return false;
     }
     let bounds = problem.bounds(column);
-    crossed(&bounds.lower, &bounds.upper)
+    !bounds.semi && crossed(&bounds.lower, &bounds.upper)
 }

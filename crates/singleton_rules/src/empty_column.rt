@@ -42,7 +42,8 @@ pub fn is_enabled(problem: &Problem, column: u32) -> bool
     }
     let bounds = problem.bounds(column);
     let cost = problem.cost(column);
-    apart(&bounds.lower, &bounds.upper)
+    !bounds.semi
+        && apart(&bounds.lower, &bounds.upper)
         && place(&cheapest(&cost, &bounds.lower, &bounds.upper), bounds.whole)
 }
 

@@ -21,7 +21,8 @@ pub fn is_enabled(problem: &Problem, column: u32) -> bool
         return false;
     }
     let bounds = problem.bounds(column);
-    bounds.whole
+    !bounds.semi
+        && bounds.whole
         && in_order(&bounds.lower, &bounds.upper)
         && (broken(&bounds.lower) || broken(&bounds.upper))
 }

@@ -13,6 +13,7 @@ use Rattle.row_spans.specs.Spans.{span_of, spans_of}
 use Rattle.problem_laws.proofs.AtIds.{bounds_set-same, bounds_set-other, bounds_inside, column_inside}
 use Rattle.problem_laws.proofs.Terms.{named_by, without-absent}
 use Rattle.problem_laws.proofs.Entries.{row_entries-ascend, row_entries-dense, row_entries-has, entries_name, column_deleted-row_entries, row_deleted-row_entries}
+use Rattle.problem_model.specs.Showing.{reach_high, reach_low}
 use Rattle.sparse_problem.specs.KeptRows.{span_within}
 use Rattle.sparse_problem.proofs.Splitting.{term_at, IsSplit, Split, split, map-++, spans_same}
 
@@ -43,10 +44,10 @@ module _ (p : Sparse) (j : ℕ) (s : IsSparse p) (column : (column_at p j).live 
     moved = bounds_set p j l u
 
     other_span : (k : ℕ) → k ≢ j → (a : Number) → span_of moved (term_at k a) ≡ span_of p (term_at k a)
-    other_span k n a = ap (λ (b : Bounds). record { id = k; value = a; lower = b.lower; upper = b.upper; whole = b.whole }) (bounds_set-other p j l u k n)
+    other_span k n a = ap (λ (b : Bounds). record { id = k; value = a; lower = reach_low b; upper = reach_high b; whole = b.whole; semi = b.semi }) (bounds_set-other p j l u k n)
 
     own_span : (a : Number) → span_of moved (term_at j a) ≡ span_within p j a l u
-    own_span a = ap (λ (b : Bounds). record { id = j; value = a; lower = b.lower; upper = b.upper; whole = b.whole }) (bounds_set-same p j l u (bounds_inside p j s column))
+    own_span a = ap (λ (b : Bounds). record { id = j; value = a; lower = reach_low b; upper = reach_high b; whole = b.whole; semi = b.semi }) (bounds_set-same p j l u (bounds_inside p j s column))
 
     pub moved_unnamed : (i : ℕ) → has i (column_at p j).entries ≡ false → spans_of moved i ≡ spans_of p i
     moved_unnamed i h = spans_same p moved j other_span (row_entries p i) (unnamed i h)

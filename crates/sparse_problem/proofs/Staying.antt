@@ -10,6 +10,7 @@ use Rattle.problem_model.specs.Edits.{entry_set}
 use Rattle.problem_model.specs.Matrices.{live_only}
 use Rattle.problem_model.specs.Problems.{column_at, row_at, row_entries}
 use Rattle.problem_model.specs.Raised.{numbered}
+use Rattle.problem_model.specs.Showing.{reach_high, reach_low}
 use Rattle.problem_model.specs.Sparse.{Sparse}
 use Rattle.entry_lines.specs.Putting.{entries_set}
 use Rattle.row_spans.specs.declared.span.Span.{Span}
@@ -34,9 +35,10 @@ numbered_spans p number i =
     same t = λ z. record {
       id = t.id;
       value = t.value;
-      lower = bounds_like p number (λ (b : Bounds). b.lower) (λ n x. refl) t.id z;
-      upper = bounds_like p number (λ (b : Bounds). b.upper) (λ n x. refl) t.id z;
+      lower = bounds_like p number reach_low (λ n x. refl) t.id z;
+      upper = bounds_like p number reach_high (λ n x. refl) t.id z;
       whole = bounds_like p number (λ (b : Bounds). b.whole) (λ n x. refl) t.id z;
+      semi = bounds_like p number (λ (b : Bounds). b.semi) (λ n x. refl) t.id z;
     }
 
 -- ---- entries of other rows

@@ -1,6 +1,7 @@
 -- What is kept of the rows of a problem.
 use Rattle.std.specs.Prelude.{◌≡◌, ℕ, false, List, Option, None, IfSome, slice_index_or, if◌then◌else◌}
 use Rattle.rational.specs.Number.{Number}
+use Rattle.lp_model.specs.Gaps.{reach_lower, reach_upper}
 use Rattle.lp_model.specs.declared.terms.Term.{Term}
 use Rattle.lp_model.specs.Sparse.{has}
 use Rattle.problem_model.specs.Problems.{bounds_at}
@@ -32,4 +33,4 @@ AreBetween p q ts ks = (i : ℕ) → IfSome (kept_at ks i) (AreSumsOf (spans_bet
 
 -- the entry a of column j with the bounds l and u
 abbrev pub span_within : Sparse → ℕ → Number → Option Number → Option Number → Span
-span_within p j a l u = record { id = j; value = a; lower = l; upper = u; whole = (bounds_at p j).whole }
+span_within p j a l u = record { id = j; value = a; lower = reach_lower (bounds_at p j).semi l u; upper = reach_upper (bounds_at p j).semi l u; whole = (bounds_at p j).whole; semi = (bounds_at p j).semi }

@@ -15,9 +15,47 @@ ghost use Rattle.sparse_problem.specs.KeptRows.{AreBetween, AreKept, AreKeptBut,
 use fractions::ext::Ext;
 use kept_sums::KeptSums;
 use lp_model::Term;
+use lp_model::ends::{reach_lower, reach_upper};
 use problem_data::ProblemData;
+use problem_model::Bounds;
 use row_spans::Span;
 use std::alloc::{AllocError, Global};
+
+/// An entry of a column with these bounds, those of their hull with 0 where it is semi-continuous.
+#[cold]
+fn span_with_zero(parts: &ProblemData, j: u32, term: &Term, lower: &Ext, upper: &Ext) -> Span
+    requires { (column_at parts.now j).live ≡ true }
+    ensures { result ≡ span_within parts.now j term.now.value lower.now upper.now }
+{
+    let Bounds { whole, semi, .. } = parts.bounds(j);
+    Span {
+        id: j,
+        value: term.value,
+        lower: reach_lower(semi, lower, upper),
+        upper: reach_upper(semi, lower, upper),
+        whole,
+        semi,
+    }
+}
+
+/// The same, with the bounds as they are where the column isn't semi-continuous.
+fn span_in(parts: &ProblemData, j: u32, term: &Term, lower: &Ext, upper: &Ext) -> Span
+    requires { (column_at parts.now j).live ≡ true }
+    ensures { result ≡ span_within parts.now j term.now.value lower.now upper.now }
+{
+    let bounds = parts.bounds(j);
+    if bounds.semi {
+        return span_with_zero(parts, j, term, lower, upper);
+    }
+    Span {
+        id: j,
+        value: term.value,
+        lower: *lower,
+        upper: *upper,
+        whole: bounds.whole,
+        semi: false,
+    }
+}
 
 /// An entry of a row with the bounds of its column.
 pub(crate) fn span_of(parts: &ProblemData, term: &Term) -> Span
@@ -25,13 +63,7 @@ pub(crate) fn span_of(parts: &ProblemData, term: &Term) -> Span
     ensures { result ≡ span_with parts.now term.now }
 {
     let bounds = parts.bounds(term.id);
-    Span {
-        id: term.id,
-        value: term.value,
-        lower: bounds.lower,
-        upper: bounds.upper,
-        whole: bounds.whole,
-    }
+    span_in(parts, term.id, term, &bounds.lower, &bounds.upper)
 }
 
 /// Sums with a term more, where its column is live. `None` where a number has no room.
@@ -135,20 +167,6 @@ fn lost(kept: &Option<KeptSums>, span: &Span) -> Option<KeptSums>
     match kept {
         None => None,
         Some(kept) => kept.without(span),
-    }
-}
-
-/// An entry of a column with these bounds.
-fn span_in(parts: &ProblemData, j: u32, term: &Term, lower: &Ext, upper: &Ext) -> Span
-    requires { (column_at parts.now j).live ≡ true }
-    ensures { result ≡ span_within parts.now j term.now.value lower.now upper.now }
-{
-    Span {
-        id: j,
-        value: term.value,
-        lower: *lower,
-        upper: *upper,
-        whole: parts.bounds(j).whole,
     }
 }
 

@@ -1,4 +1,5 @@
 -- What check says of the same bytes is one.
+use Rattle.std.specs.Prelude.{IsSome, IsTrue, is_some}
 use Rattle.std.proofs.Common.{◌≡◌, ◌⊎◌, inl, inr, ℕ, ◌<◌, ◌≤◌, true, false, List, [], ◌∷◌, ◌++◌, codes, length, Option, Some, None, sym, ap, ◌∙◌, subst, arith}
 use Rattle.std.proofs.lemmas.Bool.{cases_lt}
 use Rattle.rational.specs.Number.{Number}
@@ -12,13 +13,13 @@ use Rattle.lp_model.specs.Vectors.{Vector, vector_of}
 use Rattle.lp_model.specs.declared.program.Sense.{Sense}
 use Rattle.lp_check.specs.Deciding.{Decides}
 use Rattle.lp_check.specs.DecidingPairs.{DecidesPair}
-use Rattle.lp_check.specs.FirstWhole.{IsFirstWhole}
+use Rattle.lp_check.specs.FirstNotContinuous.{IsFirstNotContinuous}
 use Rattle.lp_check.specs.declared.pair_verdicts.PairVerdict.{PairVerdict}
 use Rattle.lp_check.specs.declared.verdicts.Verdict.{Verdict}
 use Rattle.mps_profile.specs.Reading.{first_fault}
 use Rattle.mps_profile.specs.declared.faults.MpsFaultKind.{MpsFaultKind}
 use Rattle.point_text.specs.declared.faults.SolFaultKind.{SolFaultKind}
-use Rattle.endings.specs.Continuity.{NamesFirstWhole, not_continuous_text}
+use Rattle.endings.specs.Continuity.{NamesFirstNotContinuous, not_continuous_text}
 use Rattle.endings.specs.Moments.{Reads}
 use Rattle.endings.specs.Forms.{dialect_in}
 use Rattle.endings.specs.ProgramTexts.{IsFaultOf, IsProgramOf, mps_fault_text, program_in, SaysFaultOf}
@@ -49,20 +50,24 @@ program_over = codes "error M17" ++ 10 ∷ []
 abbrev pub solution_over : List ℕ
 solution_over = codes "error S6" ++ 10 ∷ []
 
--- ---- the first column that has to be whole
-pub whole_same : (M : LinearProgram) (j k : ℕ) → IsFirstWhole M j → IsFirstWhole M k → j ≡ k
+-- ---- the first column that has to be whole or is semi-continuous
+of_a_kind : (M : LinearProgram) (j : ℕ) → IsTrue (M.whole j) ⊎ IsSome (M.gap j) → (M.whole j ≡ false) × (M.gap j ≡ None) → ⊥
+of_a_kind M j (inl w) n = absurd (let e : false ≡ true = sym n.0 ∙ w in cc)
+of_a_kind M j (inr s) n = absurd (let e : false ≡ true = ap is_some (sym n.1) ∙ s in cc)
+
+pub whole_same : (M : LinearProgram) (j k : ℕ) → IsFirstNotContinuous M j → IsFirstNotContinuous M k → j ≡ k
 whole_same M j k a b = by (cases_lt j k) (cases_lt k j)
   where
     by : (j < k) ⊎ (k ≤ j) → (k < j) ⊎ (j ≤ k) → j ≡ k
-    by (inl l) m = absurd (let e : false ≡ true = sym (b.first j l) ∙ a.whole in cc)
-    by (inr n) (inl m) = absurd (let e : false ≡ true = sym (a.first k m) ∙ b.whole in cc)
+    by (inl l) m = absurd (of_a_kind M j a.kind (b.first j l))
+    by (inr n) (inl m) = absurd (of_a_kind M k b.kind (a.first k m))
     by (inr n) (inr m) = omega (arith, n, m)
 
-pub whole_line_same : (program : ProgramData) (said more : List ℕ) → NamesFirstWhole program said → NamesFirstWhole program more → said ≡ more
+pub whole_line_same : (program : ProgramData) (said more : List ℕ) → NamesFirstNotContinuous program said → NamesFirstNotContinuous program more → said ≡ more
 whole_line_same program said more a b = a.line ∙ ap (not_continuous_text program) (whole_same (meaning program) a.column b.column a.whole b.whole) ∙ sym b.line
 
-pub whole_not_continuous : (M : LinearProgram) (j : ℕ) → IsFirstWhole M j → Continuous M → ⊥
-whole_not_continuous M j a c = let e : false ≡ true = sym (c j a.column) ∙ a.whole in cc
+pub whole_not_continuous : (M : LinearProgram) (j : ℕ) → IsFirstNotContinuous M j → Continuous M → ⊥
+whole_not_continuous M j a c = of_a_kind M j a.kind (c j a.column)
 
 -- ---- a verdict
 module _ (program : ProgramData) (solution : List ℕ) where
@@ -95,7 +100,7 @@ module _ (program : ProgramData) (solution : List ℕ) where
     prices : List Number
     given : duals ≡ Some prices
     refused : s ≡ 2
-    names : NamesFirstWhole program said
+    names : NamesFirstNotContinuous program said
 
   abbrev Told : ℕ → List ℕ → Type 0
   Told s said = OfPoint s said ⊎ (OfPair s said ⊎ OfWhole s said)

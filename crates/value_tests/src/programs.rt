@@ -46,6 +46,7 @@ fn column(
         lower: at(lower),
         upper: Ext::none(),
         whole: false,
+        semi: false,
         entries: Terms::new(terms),
     })
 }

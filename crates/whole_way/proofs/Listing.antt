@@ -5,6 +5,7 @@ use Rattle.rational.specs.Ends.{Between}
 use Rattle.rational.specs.Floor.{IsWhole}
 use Rattle.rational.proofs.Totals.{total_same}
 use Rattle.lp_model.specs.Vectors.{Vector, vector_of}
+use Rattle.lp_model.specs.Gaps.{Clears}
 use Rattle.lp_model.specs.LinearProgram.{LinearProgram, value_at, cost_at, Feasible}
 
 -- the first n numbers of a vector
@@ -33,4 +34,5 @@ module _ (M : LinearProgram) (x y : Vector) (h : (k : ℕ) → k < M.columns →
     rows = λ i l. subst (Between (M.lower_side i) (M.upper_side i)) (value_agrees i) (f.rows i l);
     columns = λ j l. subst (Between (M.lower_bound j) (M.upper_bound j)) (h j l) (f.columns j l);
     whole = λ j l w. subst IsWhole (h j l) (f.whole j l w);
+    gaps = λ j l. subst (Clears (M.gap j)) (h j l) (f.gaps j l);
   }

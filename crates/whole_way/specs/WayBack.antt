@@ -45,7 +45,8 @@ BestComesBack = (options : Options) (workers : Workers) (program reduced : Progr
     → IsUndone told point lifted
     → IsBest program.sense (meaning program) (vector_of lifted)
 
--- what meets the optimality conditions of the reduced program comes back to what meets those of the program, where that has no whole column
+-- what meets the optimality conditions of the reduced program comes back to what meets those of the program, where that has no whole
+-- and no semi-continuous column
 abbrev pub PairsComeBack : Type 0
 PairsComeBack = (options : Options) (workers : Workers) (program reduced : ProgramData) (told : Postsolve) (ended : End) (point duals lifted prices : List Number)
     → Concluded options workers program reduced told ended

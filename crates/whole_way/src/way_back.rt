@@ -16,8 +16,8 @@ pub fn points_come_back()
     ensures best { BestComesBack }
 {}
 
-/// Where no column of the program has to be whole, a pair that meets the optimality conditions of the reduced program comes back to one that
-/// meets those of the program, at the cost with the offset; and so to a proof that no feasible point is better.
+/// Where no column of the program has to be whole or is semi-continuous, a pair that meets the optimality conditions of the reduced program
+/// comes back to one that meets those of the program, at the cost with the offset; and so to a proof that no feasible point is better.
 pub fn pairs_come_back()
     ensures { PairsComeBack }
 {}

@@ -29,6 +29,7 @@ contents_at n (holds.Entries ts) = holds.Entries (terms_at n.column ts)
 contents_at n (holds.Sides l u) = holds.Sides l u
 contents_at n (holds.Column ts c) = holds.Column (terms_at n.row ts) c
 contents_at n (holds.Bounds l u w) = holds.Bounds l u w
+contents_at n (holds.Semi l u w) = holds.Semi l u w
 
 abbrev pub edit_at : Ids → Edit → Edit
 edit_at n (DeleteRow i) = DeleteRow (n.row i)

@@ -6,6 +6,7 @@ use Rattle.std.proofs.lemmas.List.Elements.{All-head, All-tail}
 use Rattle.rational.specs.Number.{Number}
 use Rattle.lp_model.specs.declared.terms.Term.{Term}
 use Rattle.lp_model.specs.EndTests.{is_in_order}
+use Rattle.lp_model.specs.Gaps.{hull_lower, hull_upper, reach_lower, reach_upper}
 use Rattle.problem_model.specs.declared.part.Contents.{Contents}
 use Rattle.problem_model.specs.declared.part.Contents.TheVariants as holding
 use Rattle.problem_model.specs.Problems.{column_at, row_at, row_entries}
@@ -16,6 +17,7 @@ use Rattle.row_spans.specs.declared.span.Extreme.TheVariants.{Least, Greatest}
 use Rattle.row_spans.specs.declared.span.Span.{Span}
 use Rattle.row_spans.specs.RowSums.{activity, rest, row_sum}
 use Rattle.row_spans.specs.Spans.{end_at, ends_at, joined, others, span_of, spans_from, spans_of}
+use Rattle.activity_laws.specs.ForcingRow.{all_solid}
 use Rattle.activity_laws.specs.Rows.{RowTest, all_in_order, has_some, on_activities, on_both, on_parts, on_row, on_spans}
 use Rattle.written_ids.specs.NewIds.{Ids, term_at, terms_at}
 use Rattle.written_ids.specs.Standing.{LinesStand}
@@ -23,7 +25,7 @@ use Rattle.written_ids.proofs.NewIds.{contents_at}
 
 -- an entry with its column's bounds, at another id
 abbrev pub span_by : (ℕ → ℕ) → Span → Span
-span_by f s = record { id = f s.id; value = s.value; lower = s.lower; upper = s.upper; whole = s.whole }
+span_by f s = record { id = f s.id; value = s.value; lower = s.lower; upper = s.upper; whole = s.whole; semi = s.semi }
 
 abbrev pub spans_by : (ℕ → ℕ) → List Span → List Span
 spans_by f ss = map (span_by f) ss
@@ -51,6 +53,10 @@ module _ (f : ℕ → ℕ) where
   in_order_by : (ss : List Span) → all_in_order (spans_by f ss) ≡ all_in_order ss
   in_order_by [] = refl
   in_order_by (s ∷ ss) = ap (λ (b : Bool). is_in_order s.lower s.upper && b) (in_order_by ss)
+
+  pub solid_by : (ss : List Span) → all_solid (spans_by f ss) ≡ all_solid ss
+  solid_by [] = refl
+  solid_by (s ∷ ss) = ap (λ (b : Bool). not s.semi && b) (solid_by ss)
 
   -- ---- the others than one column, where each other column has another id
   -- a span is of the column with the new id of j exactly where it is of j
@@ -84,7 +90,9 @@ module _ (n : Ids) where
   spans_from_at [] [] = refl
   spans_from_at [] (c ∷ cs) = refl
   spans_from_at (t ∷ ts) [] = refl
-  spans_from_at (t ∷ ts) (holding.Bounds l u w ∷ cs) = let s : Span = record { id = t.id; value = t.value; lower = l; upper = u; whole = w } in
+  spans_from_at (t ∷ ts) (holding.Bounds l u w ∷ cs) = let s : Span = record { id = t.id; value = t.value; lower = l; upper = u; whole = w; semi = false } in
+      ap (joined (span_by n.column s)) (spans_from_at ts cs) ∙ joined_by s (spans_from ts cs)
+  spans_from_at (t ∷ ts) (holding.Semi l u w ∷ cs) = let s : Span = record { id = t.id; value = t.value; lower = hull_lower l u; upper = hull_upper l u; whole = w; semi = true } in
       ap (joined (span_by n.column s)) (spans_from_at ts cs) ∙ joined_by s (spans_from ts cs)
   spans_from_at (t ∷ ts) (holding.Gone ∷ cs) = refl
   spans_from_at (t ∷ ts) (holding.Entries es ∷ cs) = refl
@@ -115,7 +123,7 @@ module _ (n : Ids) where
 -- ---- the spans of a row that stands at its new id
 module _ (n : Ids) (p q : Sparse) (s : LinesStand n p q) where
   span_stands : (t : Term) → (column_at p t.id).live ≡ true → span_of q (term_at n.column t) ≡ span_by n.column (span_of p t)
-  span_stands t h = let c = s.column t.id h in λ i. record { id = n.column t.id; value = t.value; lower = c.lower i; upper = c.upper i; whole = c.whole i }
+  span_stands t h = let c = s.column t.id h in λ i. record { id = n.column t.id; value = t.value; lower = reach_lower (c.semi i) (c.lower i) (c.upper i); upper = reach_upper (c.semi i) (c.lower i) (c.upper i); whole = c.whole i; semi = c.semi i }
 
   all_spans_stand : (ts : List Term) → All (λ t. (column_at p t.id).live ≡ true) ts → map (span_of q) (terms_at n.column ts) ≡ spans_by n.column (map (span_of p) ts)
   all_spans_stand [] h = refl

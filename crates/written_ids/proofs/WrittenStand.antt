@@ -1,7 +1,8 @@
 -- The problem of the written program is the problem without what was deleted.
-use Rattle.std.proofs.Common.{◌≡◌, ℕ, ◌<◌, Bool, true, ◌&&◌, List, length, slice_index, refl, sym, ap, ◌∙◌, subst, arith}
+use Rattle.std.proofs.Common.{◌≡◌, ℕ, ◌<◌, Bool, true, false, ◌&&◌, List, length, slice_index, Option, Some, None, is_some, true≢false, refl, sym, ap, ◌∙◌, subst, arith}
 use Rattle.std.specs.Prelude.{if◌then◌else◌}
-use Rattle.rational.specs.Number.{zero_ℚ}
+use Rattle.rational.specs.Number.{Number, zero_ℚ}
+use Rattle.lp_model.specs.Gaps.{Gap, gap_of, given_lower, given_upper, reach_lower, reach_upper}
 use Rattle.lp_model.specs.LinearProgram.{LinearProgram}
 use Rattle.lp_model.specs.ProgramData.{ProgramData}
 use Rattle.lp_model.specs.Sparse.{Ascends, dense}
@@ -10,7 +11,7 @@ use Rattle.problem_model.specs.declared.line.Line.{Line}
 use Rattle.problem_model.specs.Edits.{offset_set}
 use Rattle.problem_model.specs.Problems.{IsSparse, bounds_at, column_at, column_entries, cost_at, row_at, row_entries, sides_at}
 use Rattle.problem_model.specs.Programs.{IsProblemOf, live_ids, rank, renumbered, written_program}
-use Rattle.problem_model.specs.Showing.{coefficient_of, shown}
+use Rattle.problem_model.specs.Showing.{coefficient_of, gap_if, reach_high, reach_low, shown}
 use Rattle.problem_model.specs.Sparse.{Sparse}
 use Rattle.problem_laws.proofs.Entries.{column_entries-ascend, row_entries-ascend}
 use Rattle.edit_laws.specs.Sizes.{SameSize}
@@ -29,6 +30,19 @@ use Rattle.written_ids.proofs.SameTerms.{TellAlike, same_terms}
 -- a problem of the same size is of the program too
 pub still_of : (program : ProgramData) (start p : Sparse) → IsProblemOf program start → SameSize start p → IsOf program p
 still_of program start p h z = record { rows = z.rows ∙ h.rows; columns = z.columns ∙ columns_length program start h; constant = z.constant ∙ h.constant }
+
+-- ---- the bounds of a column are told by its gap and by the ends of its values
+record AreBounds (has : Bool) (l u : Option Number) (had : Bool) (m v : Option Number) : Type 0 where
+  semi : has ≡ had
+  lower : l ≡ m
+  upper : u ≡ v
+
+told_bounds : (has : Bool) (l u : Option Number) (had : Bool) (m v : Option Number) → gap_of has l u ≡ gap_of had m v
+    → reach_lower has l u ≡ reach_lower had m v → reach_upper has l u ≡ reach_upper had m v → AreBounds has l u had m v
+told_bounds true l u true m v e a b = record { semi = refl; lower = ap (λ (g : Option Gap). given_lower g None) e; upper = ap (λ (g : Option Gap). given_upper g None) e }
+told_bounds true l u false m v e a b = absurd (true≢false (ap is_some e))
+told_bounds false l u true m v e a b = absurd (true≢false (sym (ap is_some e)))
+told_bounds false l u false m v e a b = record { semi = refl; lower = a; upper = b }
 
 -- live lines with the same rank are the same
 ranks_apart : (ls : List Line) → IsOneToOne (rank ls) ls
@@ -115,6 +129,21 @@ module _ (program : ProgramData) (p q : Sparse) (s : IsSparse p) (o : IsOf progr
         ∙ ap (λ (y : Bool). if y then dense (column_entries p j) (slice_index rows a) else zero_ℚ) on
         ∙ sym (dense-renumbered p.matrix.rows a l (column_at p j).entries)
 
+    gap_same : gap_of (bounds_at q b).semi (bounds_at q b).lower (bounds_at q b).upper ≡ gap_of (bounds_at p j).semi (bounds_at p j).lower (bounds_at p j).upper
+    gap_same = sym (ap (λ (y : Bool). gap_if y (bounds_at q b)) (columns_live b m)) ∙ alike.gap b inside
+        ∙ ap (shown p).gap place_of ∙ ap (λ (y : Bool). gap_if y (bounds_at p j)) on
+
+    low_same : reach_low (bounds_at q b) ≡ reach_low (bounds_at p j)
+    low_same = sym (end_live (column_at q b).live (reach_low (bounds_at q b)) (columns_live b m)) ∙ alike.lower_bound b inside
+        ∙ ap (shown p).lower_bound place_of ∙ end_live (column_at p j).live (reach_low (bounds_at p j)) on
+
+    high_same : reach_high (bounds_at q b) ≡ reach_high (bounds_at p j)
+    high_same = sym (end_live (column_at q b).live (reach_high (bounds_at q b)) (columns_live b m)) ∙ alike.upper_bound b inside
+        ∙ ap (shown p).upper_bound place_of ∙ end_live (column_at p j).live (reach_high (bounds_at p j)) on
+
+    bounds_same : AreBounds (bounds_at q b).semi (bounds_at q b).lower (bounds_at q b).upper (bounds_at p j).semi (bounds_at p j).lower (bounds_at p j).upper
+    bounds_same = told_bounds (bounds_at q b).semi (bounds_at q b).lower (bounds_at q b).upper (bounds_at p j).semi (bounds_at p j).lower (bounds_at p j).upper gap_same low_same high_same
+
     column_stands : ColumnStands (new_ids p) p (offset_set q p.offset) j
     column_stands = record {
       live = columns_live b m;
@@ -123,10 +152,9 @@ module _ (program : ProgramData) (p q : Sparse) (s : IsSparse p) (o : IsOf progr
           (ascends-renumbered p.matrix.rows (column_at p j).entries (s.matrix.columns.ascends j)) column_told;
       cost = sym (ap (λ (y : Bool). if y then cost_at q b else zero_ℚ) (columns_live b m)) ∙ alike.costs b inside
           ∙ ap (shown p).costs place_of ∙ ap (λ (y : Bool). if y then cost_at p j else zero_ℚ) on;
-      lower = sym (end_live (column_at q b).live (bounds_at q b).lower (columns_live b m)) ∙ alike.lower_bound b inside
-          ∙ ap (shown p).lower_bound place_of ∙ end_live (column_at p j).live (bounds_at p j).lower on;
-      upper = sym (end_live (column_at q b).live (bounds_at q b).upper (columns_live b m)) ∙ alike.upper_bound b inside
-          ∙ ap (shown p).upper_bound place_of ∙ end_live (column_at p j).live (bounds_at p j).upper on;
+      lower = bounds_same.lower;
+      upper = bounds_same.upper;
+      semi = bounds_same.semi;
       whole = sym (ap (λ (y : Bool). y && (bounds_at q b).whole) (columns_live b m)) ∙ alike.whole b inside
           ∙ ap (shown p).whole place_of ∙ ap (λ (y : Bool). y && (bounds_at p j).whole) on;
     }

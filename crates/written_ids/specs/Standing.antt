@@ -33,6 +33,7 @@ pub record ColumnStands (n : Ids) (p q : Sparse) (j : ℕ) : Type 0 where
   pub lower : (bounds_at q (n.column j)).lower ≡ (bounds_at p j).lower
   pub upper : (bounds_at q (n.column j)).upper ≡ (bounds_at p j).upper
   pub whole : (bounds_at q (n.column j)).whole ≡ (bounds_at p j).whole
+  pub semi : (bounds_at q (n.column j)).semi ≡ (bounds_at p j).semi
 
 -- each live row and column stands there, and no two at the same place
 pub record LinesStand (n : Ids) (p q : Sparse) : Type 0 where

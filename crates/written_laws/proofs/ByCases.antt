@@ -27,9 +27,9 @@ use Rattle.problem_model.specs.Problems.{column_at, column_entries, cost_at, fir
 use Rattle.problem_model.specs.Programs.{rank}
 use Rattle.problem_model.specs.Sparse.{Sparse}
 use Rattle.problem_laws.proofs.Entries.{column_entries-live, row_entries-live}
-use Rattle.rule_words.specs.Reading.{found_on, sides_of}
+use Rattle.rule_words.specs.Reading.{bounds_named, found_on, sides_of}
 use Rattle.singleton_laws.specs.EmptyRow.{is_empty_row}
-use Rattle.singleton_laws.specs.SingletonRow.{edits_by, is_singleton_row, sole_entry}
+use Rattle.singleton_laws.specs.SingletonRow.{are_open, edits_by, is_singleton_row, sole_entry}
 use Rattle.singleton_laws.specs.FixedColumn.{column_out, is_fixed_column, value_of}
 use Rattle.rule_words.specs.MovedSides.{SidesFit, sides_less}
 use Rattle.singleton_laws.specs.RoundedBounds.{is_to_be_rounded}
@@ -169,7 +169,7 @@ verdict_heads n (UnboundedColumn j) = refl
 module _ (n : Ids) (p : Sparse) (o : AreOneToOne n p) where
   pub reduction_more : (r : Reduction) → more_of (reduction_at n r) (map (contents_at n) (map (contents_of p) (heads_of r))) ≡ map (part_at n) (more_of r (map (contents_of p) (heads_of r)))
   reduction_more (EmptyRow i) = refl
-  reduction_more (SingletonRow i) = refl
+  reduction_more (SingletonRow i) = bounds_read_at n p i
   reduction_more (FixedColumn j) = refl
   reduction_more (RoundedBounds j) = refl
   reduction_more (RedundantRow i) = bounds_read_at n p i
@@ -195,7 +195,7 @@ module _ (n : Ids) (p : Sparse) (o : AreOneToOne n p) where
 -- what the heads name is live
 pub reduction_names : (p : Sparse) (r : Reduction) → All (IsThere p) (more_of r (map (contents_of p) (heads_of r)))
 reduction_names p (EmptyRow i) = All-nil (IsThere p)
-reduction_names p (SingletonRow i) = All-nil (IsThere p)
+reduction_names p (SingletonRow i) = bounds_read_there p i
 reduction_names p (FixedColumn j) = All-nil (IsThere p)
 reduction_names p (RoundedBounds j) = All-nil (IsThere p)
 reduction_names p (RedundantRow i) = bounds_read_there p i
@@ -223,9 +223,13 @@ empty_row_alike : (n : Ids) (a b : Contents) → is_empty_row (contents_at n a) 
 empty_row_alike n (holding.Entries ts) (holding.Sides l u) = ap (λ y. y && holds_zero l u) (none_at n.column ts)
 empty_row_alike n a b = refl
 
-singleton_row_alike : (n : Ids) (a b : Contents) → is_singleton_row (contents_at n a) (contents_at n b) ≡ is_singleton_row a b
-singleton_row_alike n (holding.Entries ts) (holding.Sides l u) = ap (λ y. y && is_in_order l u) (one_at n.column ts)
-singleton_row_alike n a b = refl
+open_alike : (n : Ids) (cs : List Contents) → are_open (map (contents_at n) cs) ≡ are_open cs
+open_alike n (holding.Bounds l u w ∷ []) = refl
+open_alike n other = refl
+
+singleton_row_alike : (n : Ids) (a b : Contents) (cs : List Contents) → is_singleton_row (contents_at n a) (contents_at n b) (map (contents_at n) cs) ≡ is_singleton_row a b cs
+singleton_row_alike n (holding.Entries ts) (holding.Sides l u) cs = let one = one_at n.column ts in let opens = open_alike n cs in λ t. one t && (is_in_order l u && opens t)
+singleton_row_alike n a b cs = refl
 
 fixed_column_alike : (n : Ids) (a b : Contents) → is_fixed_column (contents_at n a) (contents_at n b) ≡ is_fixed_column a b
 fixed_column_alike n (holding.Column ts c) (holding.Bounds l u w) = refl
@@ -251,7 +255,7 @@ module _ (n : Ids) (p : Sparse) (o : AreOneToOne n p) where
   pub reduction_holds : (r : Reduction) → AreThere p (own_of r)
       → holds_of (reduction_at n r) (map (contents_at n) (found_on (heads_of r) (more_of r) p)) ≡ holds_of r (found_on (heads_of r) (more_of r) p)
   reduction_holds (EmptyRow i) h = empty_row_alike n (contents_of p (Row i)) (contents_of p (Sides i))
-  reduction_holds (SingletonRow i) h = singleton_row_alike n (contents_of p (Row i)) (contents_of p (Sides i))
+  reduction_holds (SingletonRow i) h = singleton_row_alike n (contents_of p (Row i)) (contents_of p (Sides i)) (map (contents_of p) (bounds_named (contents_of p (Row i) ∷ [])))
   reduction_holds (FixedColumn j) h = fixed_column_alike n (contents_of p (Col j)) (contents_of p (Bounds j))
   reduction_holds (RoundedBounds j) h = rounded_bounds_alike n (contents_of p (Bounds j))
   reduction_holds (RedundantRow i) h = redundant_row_alike n (row_found p i)
@@ -332,7 +336,7 @@ verdict_back n m (UnboundedColumn j) h = ap (λ k. UnboundedColumn k) (All-head 
 
 -- ---- edits, and the numbers that are computed
 module _ (n : Ids) (p q : Sparse) (s : LinesStand n p q) where
-  module _ (i : ℕ) (o : singleton_row.Said (row_at p i).live (row_entries p i)) where
+  module _ (i : ℕ) (o : singleton_row.Said p (row_at p i).live (row_entries p i)) where
     abbrev sole : Term
     sole = sole_entry p i
 

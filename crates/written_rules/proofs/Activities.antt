@@ -41,7 +41,7 @@ use Rattle.written_ids.proofs.Lists.{all_one, all_two, map_across}
 use Rattle.written_ids.proofs.NewIds.{contents_at, edit_at, part_at}
 use Rattle.written_ids.proofs.OneToOne.{dense_at, equal_at, NamesLive}
 use Rattle.written_ids.proofs.Standing.{AreThere, IsThere, held}
-use Rattle.written_ids.proofs.Spans.{NamesAlike, has_some_by, on_activities_by, on_row_alike, on_row_at, rest_by, span_by, spans_by, spans_stand, test_by}
+use Rattle.written_ids.proofs.Spans.{NamesAlike, has_some_by, on_activities_by, on_row_alike, on_row_at, rest_by, solid_by, span_by, spans_by, spans_stand, test_by}
 
 -- ---- what is read: the bounds of the columns that a row names when it is read, live or not
 abbrev pub row_read : Sparse → ℕ → List Term
@@ -86,7 +86,11 @@ module _ (n : Ids) where
       (on_activities_by n.column (λ least greatest. redundant_side.differ (keeps_lower l least) (keeps_upper u greatest)) ss)) cs
 
   pub forcing_row_alike : (cs : List Contents) → forcing_row.holds (map (contents_at n) cs) ≡ forcing_row.holds cs
-  forcing_row_alike cs = on_row_alike n forcing_row.is_forcing_row (λ l u ss. some_and (λ least greatest. forcing_row.is_reached l greatest || forcing_row.is_reached u least) ss) cs
+  forcing_row_alike cs = on_row_alike n forcing_row.is_forcing_row (λ l u ss.
+      let a = has_some_by n.column ss in
+      let b = solid_by n.column ss in
+      let c = on_activities_by n.column (λ least greatest. forcing_row.is_reached l greatest || forcing_row.is_reached u least) ss in
+      λ t. a t && (b t && c t)) cs
 
   pub infeasible_row_alike : (cs : List Contents) → infeasible_row.holds (map (contents_at n) cs) ≡ infeasible_row.holds cs
   infeasible_row_alike cs = on_row_alike n infeasible_row.is_infeasible_row (λ l u ss. on_activities_by n.column (λ least greatest. is_crossed least u || is_crossed l greatest) ss) cs
@@ -117,7 +121,7 @@ module _ (f : ℕ → ℕ) (j : ℕ) (ss : List Span) (h : All (NamesAlike f j) 
   tightened_at_by : (side : Side) (l u : Option Number) (o : Option Span)
       → tightened.is_tightened_at side (f j) l u (spans_by f ss) (option_map (span_by f) o) ≡ tightened.is_tightened_at side j l u ss o
   tightened_at_by side l u None = refl
-  tightened_at_by side l u (Some s) = ap (tightened.is_better side (tightened.old_bound side s.lower s.upper)) (implied_by side s.value l u)
+  tightened_at_by side l u (Some s) = ap (λ (b : Option Number). not s.semi && tightened.is_better side (tightened.old_bound side s.lower s.upper) b) (implied_by side s.value l u)
 
   tightened_by : (side : Side) (l u : Option Number) → tightened.is_bound_tightening (f j) side l u (spans_by f ss) ≡ tightened.is_bound_tightening j side l u ss
   tightened_by side l u =

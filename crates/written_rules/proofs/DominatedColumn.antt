@@ -14,7 +14,7 @@ use Rattle.problem_model.specs.declared.line.Line.{Line}
 use Rattle.problem_model.specs.declared.part.Contents.{Contents}
 use Rattle.problem_model.specs.declared.part.Contents.TheVariants as holding
 use Rattle.problem_model.specs.declared.part.Part.TheVariants.{Row, Sides, Col, Bounds}
-use Rattle.problem_model.specs.Parts.{contents_of}
+use Rattle.problem_model.specs.Parts.{bounds_held, contents_of}
 use Rattle.problem_model.specs.Problems.{bounds_at, column_at, column_entries, cost_at, row_at, row_entries}
 use Rattle.problem_model.specs.Sparse.{Sparse}
 use Rattle.problem_laws.proofs.Entries.{column_entries-live, row_entries-live}
@@ -124,18 +124,31 @@ module _ (n : Ids) (p : Sparse) (o : AreOneToOne n p) (i j k : ℕ) (first : (co
       let x : Contents = held a (holding.Column ts (cost_at p j)) in
       let y : Contents = held b (holding.Column us (cost_at p k)) in
       held r (holding.Entries row) ∷ x ∷ y
-      ∷ held a (holding.Bounds (bounds_at p j).lower (bounds_at p j).upper (bounds_at p j).whole)
-      ∷ held b (holding.Bounds (bounds_at p k).lower (bounds_at p k).upper (bounds_at p k).whole)
+      ∷ held a (bounds_held (bounds_at p j).semi (bounds_at p j).lower (bounds_at p j).upper (bounds_at p j).whole)
+      ∷ held b (bounds_held (bounds_at p k).semi (bounds_at p k).lower (bounds_at p k).upper (bounds_at p k).whole)
       ∷ map (contents_of p) (map Sides (rows_of_both (terms_in x) (terms_in y)))
 
-  all_live : holds (n.column j) (n.column k) (map (contents_at n) (found true true true)) ≡ holds j k (found true true true)
-  all_live =
+  -- and what, where all are live and the bounds are of either kind
+  abbrev kind_found : Bool → Bool → List Contents
+  kind_found a b =
+      holding.Entries row ∷ holding.Column ts (cost_at p j) ∷ holding.Column us (cost_at p k)
+      ∷ bounds_held a (bounds_at p j).lower (bounds_at p j).upper (bounds_at p j).whole
+      ∷ bounds_held b (bounds_at p k).lower (bounds_at p k).upper (bounds_at p k).whole
+      ∷ map (contents_of p) (map Sides (rows_of_both ts us))
+
+  all_kind : (semi other : Bool) → holds (n.column j) (n.column k) (map (contents_at n) (kind_found semi other)) ≡ holds j k (kind_found semi other)
+  all_kind true other = refl
+  all_kind false true = refl
+  all_kind false false =
       let a = bounds_at p j in
       let b = bounds_at p k in
       let ss : List Contents = map (contents_of p) (map Sides (rows_of_both ts us)) in
       let same = equal_at n.column p.matrix.columns o.column j k first second in
       λ t. not (same t) && (share_at t && (is_none a.upper && (is_apart b.lower b.upper && (is_place b.lower b.whole
       && (le_ℚ (cost_at p j) (cost_at p k) && ((not a.whole || b.whole) && (are_uncrossed_at n ss t && over_at ss t)))))))
+
+  all_live : holds (n.column j) (n.column k) (map (contents_at n) (found true true true)) ≡ holds j k (found true true true)
+  all_live = all_kind (bounds_at p j).semi (bounds_at p k).semi
 
   pub dominated_column_alike : (row_at p i).live ≡ true → holds (n.column j) (n.column k) (map (contents_at n) (found_on (heads i j k) more p)) ≡ holds j k (found_on (heads i j k) more p)
   dominated_column_alike h =

@@ -19,6 +19,7 @@ use Rattle.problem_model.specs.declared.line.Line.{Line}
 use Rattle.problem_model.specs.declared.part.Contents.{Contents}
 use Rattle.problem_model.specs.declared.part.Contents.TheVariants as holding
 use Rattle.problem_model.specs.declared.part.Part.TheVariants.{Row, Sides, Bounds}
+use Rattle.problem_model.specs.Parts.{bounds_held}
 use Rattle.problem_model.specs.Problems.{bounds_at, column_at, column_entries, cost_at, row_at, row_entries, sides_at}
 use Rattle.problem_model.specs.Sparse.{Sparse}
 use Rattle.problem_laws.proofs.Entries.{column_entries-live, row_entries-live}
@@ -56,11 +57,22 @@ module _ (n : Ids) (p : Sparse) (o : AreOneToOne n p) (i j k : ℕ) (first : (co
   found r a b =
       held r (holding.Entries ts)
       ∷ held r (holding.Sides (sides_at p i).lower (sides_at p i).upper)
-      ∷ held a (holding.Bounds (bounds_at p j).lower (bounds_at p j).upper (bounds_at p j).whole)
-      ∷ held b (holding.Bounds (bounds_at p k).lower (bounds_at p k).upper (bounds_at p k).whole) ∷ []
+      ∷ held a (bounds_held (bounds_at p j).semi (bounds_at p j).lower (bounds_at p j).upper (bounds_at p j).whole)
+      ∷ held b (bounds_held (bounds_at p k).semi (bounds_at p k).lower (bounds_at p k).upper (bounds_at p k).whole) ∷ []
 
-  all_live : holds (n.column j) (n.column k) (map (contents_at n) (found true true true)) ≡ holds j k (found true true true)
-  all_live =
+  -- and what, where all are live and the bounds are of either kind
+  abbrev kind_found : Bool → Bool → List Contents
+  kind_found a b =
+      holding.Entries ts
+      ∷ holding.Sides (sides_at p i).lower (sides_at p i).upper
+      ∷ bounds_held a (bounds_at p j).lower (bounds_at p j).upper (bounds_at p j).whole
+      ∷ bounds_held b (bounds_at p k).lower (bounds_at p k).upper (bounds_at p k).whole ∷ []
+
+  all_kind : (semi other : Bool) → holds (n.column j) (n.column k) (map (contents_at n) (kind_found semi other)) ≡ holds j k (kind_found semi other)
+  all_kind true true = refl
+  all_kind true false = refl
+  all_kind false true = refl
+  all_kind false false =
       let l : Option Number = (sides_at p i).lower in
       let u : Option Number = (sides_at p i).upper in
       let x = bounds_at p j in
@@ -69,6 +81,9 @@ module _ (n : Ids) (p : Sparse) (o : AreOneToOne n p) (i j k : ℕ) (first : (co
       let a = dense_at n.column p.matrix.columns o.column j ts first (row_entries-live p i) in
       let b = dense_at n.column p.matrix.columns o.column k ts second (row_entries-live p i) in
       λ t. same t && (is_fixed l u false && (is_in_order x.lower x.upper && (is_in_order y.lower y.upper && stays_whole x.whole y.whole (a t) (b t) (unwrap_or l zero_ℚ))))
+
+  all_live : holds (n.column j) (n.column k) (map (contents_at n) (found true true true)) ≡ holds j k (found true true true)
+  all_live = all_kind (bounds_at p j).semi (bounds_at p k).semi
 
   pub doubleton_equation_alike : (row_at p i).live ≡ true → holds (n.column j) (n.column k) (map (contents_at n) (found_on (heads i j k) no_more p)) ≡ holds j k (found_on (heads i j k) no_more p)
   doubleton_equation_alike h =

@@ -1,5 +1,5 @@
 -- K15 and K16 at new ids: two lines that are multiples of one another, and what one of them gets.
-use Rattle.std.proofs.Common.{◌≡◌, ◌↔◌, ℕ, Bool, true, not, ◌&&◌, List, [], ◌∷◌, map, Option, refl, sym, ap, ◌∙◌}
+use Rattle.std.proofs.Common.{◌≡◌, ◌↔◌, ℕ, Bool, true, false, not, ◌&&◌, List, [], ◌∷◌, map, Option, refl, sym, ap, ◌∙◌}
 use Rattle.std.specs.List.{All}
 use Rattle.std.proofs.lemmas.List.Elements.{All-append, All-head, All-tail}
 use Rattle.rational.specs.Number.{Number, ◌*ℚ◌}
@@ -14,6 +14,7 @@ use Rattle.problem_model.specs.declared.line.Line.{Line}
 use Rattle.problem_model.specs.declared.part.Contents.{Contents}
 use Rattle.problem_model.specs.declared.part.Contents.TheVariants as holding
 use Rattle.problem_model.specs.declared.part.Part.TheVariants.{Row, Col, Bounds}
+use Rattle.problem_model.specs.Parts.{bounds_held}
 use Rattle.problem_model.specs.Problems.{bounds_at, column_at, column_entries, cost_at, first_of, row_at, row_entries, sides_at}
 use Rattle.problem_model.specs.Sparse.{Sparse}
 use Rattle.problem_laws.proofs.Entries.{column_entries-live, row_entries-live}
@@ -80,11 +81,21 @@ module _ (n : Ids) (p : Sparse) (o : AreOneToOne n p) (j k : ℕ) (first : (colu
   columns_found a b =
       held a (holding.Column (column_entries p j) (cost_at p j))
       ∷ held b (holding.Column (column_entries p k) (cost_at p k))
-      ∷ held a (holding.Bounds (bounds_at p j).lower (bounds_at p j).upper (bounds_at p j).whole)
-      ∷ held b (holding.Bounds (bounds_at p k).lower (bounds_at p k).upper (bounds_at p k).whole) ∷ []
+      ∷ held a (bounds_held (bounds_at p j).semi (bounds_at p j).lower (bounds_at p j).upper (bounds_at p j).whole)
+      ∷ held b (bounds_held (bounds_at p k).semi (bounds_at p k).lower (bounds_at p k).upper (bounds_at p k).whole) ∷ []
 
-  columns_live : columns.holds (n.column j) (n.column k) (map (contents_at n) (columns_found true true)) ≡ columns.holds j k (columns_found true true)
-  columns_live =
+  -- and what, where both are live and the bounds are of either kind
+  abbrev kind_found : Bool → Bool → List Contents
+  kind_found a b =
+      holding.Column (column_entries p j) (cost_at p j)
+      ∷ holding.Column (column_entries p k) (cost_at p k)
+      ∷ bounds_held a (bounds_at p j).lower (bounds_at p j).upper (bounds_at p j).whole
+      ∷ bounds_held b (bounds_at p k).lower (bounds_at p k).upper (bounds_at p k).whole ∷ []
+
+  columns_kind : (semi other : Bool) → columns.holds (n.column j) (n.column k) (map (contents_at n) (kind_found semi other)) ≡ columns.holds j k (kind_found semi other)
+  columns_kind true other = ap (λ (y : Bool). not y && false) (equal_at n.column p.matrix.columns o.column j k first second)
+  columns_kind false true = ap (λ (y : Bool). not y && false) (equal_at n.column p.matrix.columns o.column j k first second)
+  columns_kind false false =
       let ts : List Term = column_entries p j in
       let us : List Term = column_entries p k in
       let a : Contents = holding.Bounds (bounds_at p j).lower (bounds_at p j).upper (bounds_at p j).whole in
@@ -94,6 +105,9 @@ module _ (n : Ids) (p : Sparse) (o : AreOneToOne n p) (j k : ℕ) (first : (colu
       let s = factor_at n.row ts us in
       let times = times_at n.row p.matrix.rows o.row ts us (column_entries-live p j) (column_entries-live p k) in
       λ x. not (same x) && (are_in_order a b && (are_of_a_kind (s x) a b && (not (none x) && (fits (s x) && (eq_ℚ (cost_at p j) (s x *ℚ cost_at p k) && times x)))))
+
+  columns_live : columns.holds (n.column j) (n.column k) (map (contents_at n) (columns_found true true)) ≡ columns.holds j k (columns_found true true)
+  columns_live = columns_kind (bounds_at p j).semi (bounds_at p k).semi
 
   pub parallel_columns_alike : columns.holds (n.column j) (n.column k) (map (contents_at n) (found_on (columns.heads j k) no_more p)) ≡ columns.holds j k (found_on (columns.heads j k) no_more p)
   parallel_columns_alike =

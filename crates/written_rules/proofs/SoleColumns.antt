@@ -1,5 +1,5 @@
 -- K13 and K14 at new ids: a column with one entry, and the other columns of its row, whose costs they change.
-use Rattle.std.proofs.Common.{◌≡◌, ◌↔◌, ℕ, Bool, true, not, ◌&&◌, nat_eq, List, [], ◌∷◌, ◌++◌, get_or, map, Option, Some, None, unwrap_or, option_map, refl, sym, ap, ◌∙◌, subst}
+use Rattle.std.proofs.Common.{◌≡◌, ◌↔◌, ℕ, Bool, true, false, not, ◌&&◌, nat_eq, List, [], ◌∷◌, ◌++◌, get_or, map, Option, Some, None, unwrap_or, option_map, refl, sym, ap, ◌∙◌, subst}
 use Rattle.std.specs.List.{All}
 use Rattle.std.proofs.lemmas.List.{map-append}
 use Rattle.std.proofs.lemmas.List.Elements.{All-append, All-filter, All-head}
@@ -20,7 +20,7 @@ use Rattle.problem_model.specs.declared.part.Contents.{Contents}
 use Rattle.problem_model.specs.declared.part.Contents.TheVariants as holding
 use Rattle.problem_model.specs.declared.part.Part.{Part}
 use Rattle.problem_model.specs.declared.part.Part.TheVariants.{Row, Sides, Col, Bounds}
-use Rattle.problem_model.specs.Parts.{contents_of}
+use Rattle.problem_model.specs.Parts.{bounds_held, contents_of}
 use Rattle.problem_model.specs.Problems.{bounds_at, column_at, column_entries, cost_at, row_at, row_entries, sides_at}
 use Rattle.problem_model.specs.Sparse.{Sparse}
 use Rattle.problem_laws.proofs.Entries.{column_entries-live, row_entries-live}
@@ -59,7 +59,7 @@ module _ (f : ℕ → ℕ) (j : ℕ) (ss : List Span) (h : All (NamesAlike f j) 
 
   free_at_by : (c : Number) (l u : Option Number) (x : Option Span) → free.is_free (f j) c l u (spans_by f ss) (option_map (span_by f) x) ≡ free.is_free j c l u ss x
   free_at_by c l u None = refl
-  free_at_by c l u (Some s) = ap (λ (b : Bool). not s.whole && b) (implied_at_by s (free.side_for c s.value l u))
+  free_at_by c l u (Some s) = ap (λ (b : Bool). not s.whole && (not s.semi && b)) (implied_at_by s (free.side_for c s.value l u))
 
   free_by : (c : Number) (l u : Option Number) → free.is_free (f j) c l u (spans_by f ss) (entry_at (f j) (spans_by f ss)) ≡ free.is_free j c l u ss (entry_at j ss)
   free_by c l u = ap (free.is_free (f j) c l u (spans_by f ss)) (entry_by f j ss h ss h) ∙ free_at_by c l u (entry_at j ss)
@@ -104,14 +104,26 @@ module _ (n : Ids) (p : Sparse) (o : AreOneToOne n p) (j i : ℕ) (on : (row_at 
       held r (holding.Entries (row_entries p i))
       ∷ held r (holding.Sides (sides_at p i).lower (sides_at p i).upper)
       ∷ column_found b
-      ∷ held b (holding.Bounds (bounds_at p j).lower (bounds_at p j).upper (bounds_at p j).whole) ∷ []
+      ∷ held b (bounds_held (bounds_at p j).semi (bounds_at p j).lower (bounds_at p j).upper (bounds_at p j).whole) ∷ []
 
-  slack_live : slack.holds (n.row i) (map (contents_at n) (slack_found true true)) ≡ slack.holds i (slack_found true true)
-  slack_live =
+  -- and what, where both are live and the bounds are of either kind
+  abbrev kind_found : Bool → List Contents
+  kind_found semi =
+      holding.Entries (row_entries p i)
+      ∷ holding.Sides (sides_at p i).lower (sides_at p i).upper
+      ∷ holding.Column es (cost_at p j)
+      ∷ bounds_held semi (bounds_at p j).lower (bounds_at p j).upper (bounds_at p j).whole ∷ []
+
+  slack_kind : (semi : Bool) → slack.holds (n.row i) (map (contents_at n) (kind_found semi)) ≡ slack.holds i (kind_found semi)
+  slack_kind true = refl
+  slack_kind false =
       let l : Option Number = (sides_at p i).lower in
       let u : Option Number = (sides_at p i).upper in
       let x = bounds_at p j in
       λ t. is_in_order l u && (is_in_order x.lower x.upper && (not x.whole && (sole_at_new t && slack.is_equation_or_free l u (cost_at p j))))
+
+  slack_live : slack.holds (n.row i) (map (contents_at n) (slack_found true true)) ≡ slack.holds i (slack_found true true)
+  slack_live = slack_kind (bounds_at p j).semi
 
   pub slack_column_singleton_alike : slack.holds (n.row i) (map (contents_at n) (found_on (slack.heads j i) no_more p)) ≡ slack.holds i (found_on (slack.heads j i) no_more p)
   slack_column_singleton_alike =

@@ -1,4 +1,4 @@
-use Rattle.std.proofs.Common.{◌∙◌, sym}
+use Rattle.std.proofs.Common.{◌∙◌}
 use Rattle.activities.proofs.Halving.{before, behind, found}
 use Rattle.activities.proofs.entries.number_among.Goals as goal
 

@@ -1,4 +1,4 @@
-use Rattle.std.proofs.Common.{◌≡◌, ◌+◌, ◌++◌, ◌∷◌, List, Option, Some, None, take, drop, sym, ap, ◌∙◌, subst, Ok, IfSome}
+use Rattle.std.proofs.Common.{◌≡◌, ◌+◌, ◌++◌, ◌∷◌, List, Option, Some, None, take, drop, ap, ◌∙◌, subst, Ok, IfSome}
 use Rattle.rational.specs.Number.{Number}
 use Rattle.kept_sums.specs.CommonSums.{IsCommonSum}
 use Rattle.row_spans.specs.RowSums.{row_sum}
