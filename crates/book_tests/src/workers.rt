@@ -444,12 +444,12 @@ fn apply(
     rt: &impl Abort,
     alloc: Global,
     book: &mut Book,
-    by: u32,
+    version: u64,
     instance: Instance,
     changed: &mut Vec<Part>,
 ) -> Outcome {
     assert!(rt; is_enabled(book.problem(), instance));
-    book.apply(alloc, by, instance, changed)
+    book.apply(alloc, version, instance, changed)
 }
 
 #[test]
