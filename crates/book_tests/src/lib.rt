@@ -1,7 +1,9 @@
-//! Tests of what no clause says and no text reaches: books with two workers, with none, and with two passes. They stand in a crate of their own, since a crate
-//! with tests is proved twice.
+//! Tests of what no clause says and no text reaches: books with two workers, with none, with two passes, and with a proposal of another
+//! program. They stand in a crate of their own, since a crate with tests is proved twice.
 #![tactic(auto)]
 
+#[cfg(test)]
+mod foreign;
 #[cfg(test)]
 mod models;
 #[cfg(test)]
