@@ -1,5 +1,5 @@
 -- Which names tell what they told, by how a run ended.
-use Rattle.std.proofs.Common.{◌≡◌, ℕ, List, inl, inr, Option, Some, None, refl, ap}
+use Rattle.std.proofs.Common.{◌≡◌, ℕ, List, inl, inr, Option, Some, None, refl, ap, arith}
 use Rattle.file_ports.specs.Ports.{Moment, Told, KeepsOthers}
 use Rattle.command_words.specs.Names.{MigrateNames, PostsolveNames, PresolveNames, Request, Presolve, Check, Postsolve, Migrate, Gen}
 use Rattle.endings.specs.Ending.{status_of, text_of}
@@ -79,6 +79,18 @@ quiet (Some (Check names)) ending before now ends done unwritten = ends.quiet
 quiet (Some (Postsolve names)) ending before now ends done unwritten = quiet_postsolve names ending before now ends done unwritten
 quiet (Some (Migrate names)) ending before now ends done unwritten = quiet_migrate names ending before now ends done unwritten
 quiet (Some (Gen numbers)) ending before now ends done unwritten = ends.quiet
+
+-- ---- where memory ran out
+not_done : (status : ℕ) → status ≡ 5 → status ≡ 0 → ⊥
+not_done status five done = omega (arith, five, done)
+
+not_unwritten : (status : ℕ) → status ≡ 5 → status ≡ 4 → ⊥
+not_unwritten status five unwritten = omega (arith, five, unwritten)
+
+pub unspent : (asked : Option Request) (ending : Ending) (before now : Moment) → Ends asked (status_of ending) (text_of ending) before now
+    → status_of ending ≡ 5 → IsQuiet before now
+unspent asked ending before now ends five =
+    quiet asked ending before now ends (not_done (status_of ending) five) (not_unwritten (status_of ending) five)
 
 -- ---- at any status
 told_still : (before now : Moment) → IsQuiet before now → (other : List ℕ) → now.told other ≡ before.told other

@@ -74,6 +74,7 @@ pub fn run<R: Threads + Wait + Sync, F: Files, S: Sink, G: Gate, O: Onlooker>(
 
     // And of the files.
     ensures quiet { result ≢ 0 → result ≢ 4 → IsQuiet (F.moment files.old) (F.moment files.new) }
+    ensures unspent { result ≡ 5 → IsQuiet (F.moment files.old) (F.moment files.new) }
     ensures kept { KeepsUnasked (asked (texts words.now)) (F.moment files.old) (F.moment files.new) }
     ensures read { result ≢ 3 → result ≢ 4 → result ≢ 5 → AreThere (asked (texts words.now)) (F.moment files.old) }
 {
