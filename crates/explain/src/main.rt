@@ -3,19 +3,24 @@
 
 use explain_command::answer;
 use file_ports::{HostFiles, HostOut, Sink};
-use std::io::IsTerminal;
+use std::io::{ErrorKind, IsTerminal};
 use std::process::ExitCode;
 use std::{env, io};
 
+/// The words of the call. Where one of them is not UTF-8 they are none, and so they are refused.
+fn words_of(rt: &HostRuntime) -> io::Result<Vec<String>> {
+    match env::args(rt) {
+        Ok(words) => Ok(words.collect(rt.alloc())?),
+        Err(error) if error.kind() == ErrorKind::InvalidData => Ok(Vec::new(rt.alloc())),
+        Err(error) => Err(error),
+    }
+}
+
 fn main(rt: HostRuntime) -> ExitCode {
     let alloc = rt.alloc();
-    let Ok(args) = env::args(&rt) else {
+    let Ok(words) = words_of(&rt) else {
         return ExitCode::from(5);
     };
-    let Ok(words) = args.collect(alloc) else {
-        return ExitCode::from(5);
-    };
-    let words: Vec<String> = words;
     let mut files = HostFiles::new(&rt);
     let mut out = HostOut::new(io::writer(&rt));
     let is_shown = rt.stderr().is_terminal();
