@@ -7,6 +7,7 @@
 //! - `folder NAME PATH`: the same, with the bytes of a file of the folder that the program runs in
 //! - `long N`: all files have N bytes, which are more than memory takes; nothing is told of them, and none can be written
 //! - `room NAME N`: a file that is missing and takes up to N bytes
+//! - `hold NAME N`: a file that holds the lines that follow and takes up to N bytes in their place
 //! - `fail reads N`, `fail writes N`, `fail puts N`: the Nth call fails
 //! - `run WORD ..`: runs the presolver with these words
 //! - `meet WORD ..`: the same, where a gate holds the worker of the first task until the second one was answered; tells whether it was, and how
@@ -21,7 +22,8 @@
 //!   after each: `bounds J L U`, `sides I L U`, `entry I J A`, `row I` or `column J`, by ids, `-` for no end
 //! - `each NAME TAIL`: the last of these again for each line that follows, as if the line, and then the tail, stood behind the
 //!   text of that file
-//! - `begin NAME`: the last of these again for each proper beginning of the text of that file
+//! - `begin NAME`: the last of these again for each proper beginning of the text of that file, from the longest on; of a run the length, the
+//!   status and what is printed, in one line
 //! - `numbers`: reads each line that follows as a number, decimal and as a fraction, and writes it
 //!
 //! A line of text has `|` in front, or `>` where no line feed ends it. Lines that begin with `#`, and empty ones, are for the reader.

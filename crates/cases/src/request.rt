@@ -47,4 +47,17 @@ impl Request {
             Request::Rule(place, reduction) => rule::applied(rt, case.bytes_at(place)?, reduction),
         }
     }
+
+    /// Prints the answer, that of a run in one line.
+    pub fn answer_of_beginning<T: Threads + Wait + Sync>(
+        &self,
+        rt: &HostRuntime,
+        threads: &T,
+        case: &Case,
+    ) -> Result<()> {
+        match *self {
+            Request::Run => case.run_in_a_line(rt, threads),
+            _ => self.answer(rt, threads, case),
+        }
+    }
 }

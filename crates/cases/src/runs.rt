@@ -5,7 +5,7 @@ use anyhow::{Context, Result, ensure};
 use case_parts::long_files::LongFiles;
 use case_parts::shown;
 use explain_command::answer;
-use file_ports::{Held, MemFiles, MemSink, names_differ};
+use file_ports::{Files, Held, MemFiles, MemSink, names_differ};
 use papilo::presolve_rounds::NoOnlooker;
 use papilo::run::run;
 use std::alloc::{AllocError, Global};
@@ -99,6 +99,25 @@ impl Case {
         Ok(())
     }
 
+    /// The status of a run of the presolver over these files and this sink.
+    fn status_of_run<T: Threads + Wait + Sync, F: Files>(
+        &self,
+        rt: &HostRuntime,
+        threads: &T,
+        files: &mut F,
+        out: &mut MemSink,
+    ) -> u8 {
+        run(
+            threads,
+            rt.alloc(),
+            &self.words,
+            files,
+            out,
+            &OpenGate,
+            &mut NoOnlooker,
+        )
+    }
+
     /// Runs the presolver on files that are too long to hold, and prints its status and its text.
     fn run_long<T: Threads + Wait + Sync>(
         &self,
@@ -106,18 +125,9 @@ impl Case {
         threads: &T,
         length: u64,
     ) -> Result<()> {
-        let alloc = rt.alloc();
         let mut files = LongFiles::new(length);
-        let mut out = MemSink::new(alloc, PRINTED, &self.puts)?;
-        let status = run(
-            threads,
-            alloc,
-            &self.words,
-            &mut files,
-            &mut out,
-            &OpenGate,
-            &mut NoOnlooker,
-        );
+        let mut out = MemSink::new(rt.alloc(), PRINTED, &self.puts)?;
+        let status = self.status_of_run(rt, threads, &mut files, &mut out);
         println!(rt; "status {status}")?;
         shown::text(rt, out.taken())
     }
@@ -131,15 +141,7 @@ impl Case {
         ensure!(names_differ(&self.held), "a file named twice");
         let mut files = MemFiles::new(alloc, &self.held, &self.reads, &self.writes)?;
         let mut out = MemSink::new(alloc, PRINTED, &self.puts)?;
-        let status = run(
-            threads,
-            alloc,
-            &self.words,
-            &mut files,
-            &mut out,
-            &OpenGate,
-            &mut NoOnlooker,
-        );
+        let status = self.status_of_run(rt, threads, &mut files, &mut out);
         println!(rt; "status {status}")?;
         shown::text(rt, out.taken())?;
         for one in self.held.iter().filter(|one| one.room.is_some()) {
@@ -153,6 +155,21 @@ impl Case {
             }
         }
         Ok(())
+    }
+
+    /// Runs the presolver, and prints its status and its text in one line.
+    pub fn run_in_a_line<T: Threads + Wait + Sync>(
+        &self,
+        rt: &HostRuntime,
+        threads: &T,
+    ) -> Result<()> {
+        let alloc = rt.alloc();
+        ensure!(names_differ(&self.held), "a file named twice");
+        let mut files = MemFiles::new(alloc, &self.held, &self.reads, &self.writes)?;
+        let mut out = MemSink::new(alloc, PRINTED, &self.puts)?;
+        let status = self.status_of_run(rt, threads, &mut files, &mut out);
+        print!(rt; "status {status}")?;
+        shown::in_a_line(rt, out.taken())
     }
 
     /// Runs the presolver through a gate that holds a worker, and prints whether it met the other, how many proposals were answered in the first

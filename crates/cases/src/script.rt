@@ -67,7 +67,8 @@ impl<'a, T: Threads + Wait + Sync> Script<'a, T> {
         self.text = Text::Nothing;
         match verb {
             "case" => self.begin_case(rt, rest),
-            "file" => self.file(rest),
+            "file" => self.file(rest, None),
+            "hold" => self.hold(rest),
             "folder" => self.folder(rt, rest),
             "long" => self.long(rest),
             "room" => self.room(rest),
@@ -97,12 +98,17 @@ impl<'a, T: Threads + Wait + Sync> Script<'a, T> {
         Ok(())
     }
 
-    fn file(&mut self, name: &str) -> Result<()> {
+    fn file(&mut self, name: &str, room: Option<u64>) -> Result<()> {
         let place = self.case.held.len();
         let bytes = Vec::new(self.alloc);
-        self.case.put(self.alloc, name, Some(bytes), None)?;
+        self.case.put(self.alloc, name, Some(bytes), room)?;
         self.text = Text::Of(place);
         Ok(())
+    }
+
+    fn hold(&mut self, rest: &str) -> Result<()> {
+        let (name, room) = rest.split_once(' ').context("a name and a number")?;
+        self.file(name, Some(room.parse::<u64>()?))
     }
 
     fn folder(&mut self, rt: &HostRuntime, rest: &str) -> Result<()> {
@@ -165,7 +171,8 @@ impl<'a, T: Threads + Wait + Sync> Script<'a, T> {
             let left = length - less - 1;
             self.case.cut(place, left)?;
             print!(rt; "{left}: ")?;
-            self.request.answer(rt, self.threads, &self.case)?;
+            self.request
+                .answer_of_beginning(rt, self.threads, &self.case)?;
         }
         Ok(())
     }
