@@ -2,22 +2,24 @@
 // is outside of any proof.
 ghost use Rattle.std.specs.Prelude.{◌≡◌, None, IfOk, ◌≤◌, length};
 
+use crate::replacing::replace;
 use crate::{Failed, Files, ReadErr, Sink};
-use std::alloc::Global;
+use std::alloc::{AllocGlobal, Global};
 use std::fs;
 use std::io::{ErrorKind, Read, Write};
 use std::rt::Files as SystemFiles;
 
-/// The files of the system, with a count of each kind of fault for all names.
+/// The files of the system, with a count of each kind of fault for all names. A regular file is replaced whole: where a write of it
+/// fails, what it held is still there.
 #[derive(Drop)]
-pub struct HostFiles<'a, R: SystemFiles> {
+pub struct HostFiles<'a, R: SystemFiles + AllocGlobal> {
     rt: &'a R,
     reads: u64,
     writes: u64,
     overlong: u64,
 }
 
-impl<'a, R: SystemFiles> HostFiles<'a, R> {
+impl<'a, R: SystemFiles + AllocGlobal> HostFiles<'a, R> {
     /// The files that this runtime reaches, before any fault.
     pub fn new(rt: &'a R) -> Self {
         HostFiles {
@@ -42,7 +44,7 @@ fn read_some<R: SystemFiles>(
     Ok(bytes)
 }
 
-impl<'a, R: SystemFiles> Files for HostFiles<'a, R> {
+impl<'a, R: SystemFiles + AllocGlobal> Files for HostFiles<'a, R> {
     ghost moment = { λ files. record { told = λ _. None; reads = λ _. files.reads; writes = λ _. files.writes; overlong = λ _ _. files.overlong } };
 
     fn read(&mut self, alloc: Global, name: &str, limit: u64) -> Result<Vec<u8>, ReadErr> {
@@ -65,7 +67,7 @@ impl<'a, R: SystemFiles> Files for HostFiles<'a, R> {
     }
 
     fn write(&mut self, name: &str, bytes: &[u8]) -> Result<(), Failed> {
-        match fs::write(self.rt, name, bytes) {
+        match replace(self.rt, name, bytes) {
             Ok(()) => Ok(()),
             Err(_) => {
                 self.writes = self.writes.saturating_add(1);

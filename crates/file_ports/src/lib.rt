@@ -9,6 +9,7 @@ mod files;
 mod host;
 mod memory_files;
 mod memory_sink;
+mod replacing;
 mod sink;
 
 pub use entry::{Held, names_differ};

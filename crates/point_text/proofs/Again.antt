@@ -1,5 +1,5 @@
 -- What was written is read again.
-use Rattle.std.proofs.Common.{◌≡◌, ◌≢◌, ℕ, suc, ◌+◌, ◌==◌, ◌||◌, not, List, [], ◌∷◌, ◌++◌, length, get_or, Bool, true, false, cond, Option, Some, None, refl, sym, ap, ap₂, ◌∙◌, subst, arith, append_assoc}
+use Rattle.std.proofs.Common.{◌≡◌, ◌≢◌, ℕ, suc, ◌+◌, ◌==◌, not, List, [], ◌∷◌, ◌++◌, length, get_or, Bool, true, false, cond, Option, Some, None, refl, sym, ap, ap₂, ◌∙◌, subst, arith, append_assoc}
 use Rattle.std.specs.Prelude.{All, map, codes, is_some, unwrap_or}
 use Rattle.std.specs.Str.{bytes_eq}
 use Rattle.std.proofs.lemmas.List.Elements.{All-cons, All-head, All-tail, All-append}
@@ -57,7 +57,7 @@ no_fault a b c d e f g h = rw (e, f, g, h) refl
 sound : (names : List Text) (before : List Line) (name : Text) (value : Number) → Plain name → Fits value → is_some (place name names) ≡ true → value_named before name ≡ None
     → line_fault names before (Gives name (written value)) ≡ None
 sound names before name value plain fits known new =
-    no_fault _ _ _ _ (ap₂ (λ (a b : Bool). a || not b) (differ name (codes "=duals=") plain.no_duals) known) (ap is_some new)
+    no_fault _ _ _ _ (ap not known) (ap is_some new)
     (ap is_past (written_again value fits)) (ap is_bad (written_again value fits))
 
 -- the values that a written text gives, after lines that name none of its columns

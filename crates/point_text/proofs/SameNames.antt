@@ -1,7 +1,6 @@
 -- A table with the columns' names gives the faults and the values of the columns.
 use Rattle.std.proofs.Common.{◌≡◌, ℕ, ◌+◌, List, [], ◌∷◌, length, Option, None, refl, sym, ap, ap₂, ◌∙◌}
-use Rattle.std.specs.Prelude.{◌||◌, map, Err, not, is_some, Bool, codes, unwrap_or}
-use Rattle.std.specs.Str.{bytes_eq}
+use Rattle.std.specs.Prelude.{map, Err, not, is_some, Bool, unwrap_or}
 use Rattle.rational.specs.Number.{Number, zero_ℚ}
 use Rattle.fractions.specs.declared.Numbers.TheVariants.{Fractions}
 use Rattle.number_texts.specs.Read.{read_of}
@@ -22,7 +21,7 @@ use Rattle.point_text.specs.declared.faults.SolFaultKind.TheVariants.{UnknownNam
 same_line : (names table : List Text) → IsTableOf names table → (before : List Line) (line : Line) → line_fault table before line ≡ line_fault names before line
 same_line names table same before Silent = refl
 same_line names table same before (Gives name number) =
-    ap (λ (b : Bool). first_of ((bytes_eq name (codes "=duals=") || not b, UnknownName) ∷ (is_some (value_named before name), TwiceNamed)
+    ap (λ (b : Bool). first_of ((not b, UnknownName) ∷ (is_some (value_named before name), TwiceNamed)
     ∷ (is_past (read_of Fractions number), NumberPast) ∷ (is_bad (read_of Fractions number), BadNumber) ∷ [])) (same name)
 same_line names table same before Odd = refl
 

@@ -1,6 +1,5 @@
 -- The faults of lines, each by the lines before it, of which the nearest stands first.
-use Rattle.std.specs.Prelude.{ℕ, ◌||◌, Bool, true, false, List, [], ◌∷◌, Option, Some, None, Result, Ok, Err, codes, is_some, is_none, if◌then◌else◌}
-use Rattle.std.specs.Str.{bytes_eq}
+use Rattle.std.specs.Prelude.{ℕ, Bool, true, false, List, [], ◌∷◌, Option, Some, None, Result, Ok, Err, is_some, is_none, if◌then◌else◌}
 use Rattle.rational.specs.Number.{Number}
 use Rattle.fractions.specs.declared.Numbers.TheVariants.{Fractions}
 use Rattle.names.specs.Names.{place}
@@ -20,9 +19,9 @@ number_of_kind TwiceNamed = 3
 number_of_kind NumberPast = 4
 number_of_kind BadNumber = 5
 
--- no column has the name; the word of the duals names none
+-- nothing has the name
 abbrev pub is_unknown : List Text → Text → Bool
-is_unknown names name = bytes_eq name (codes "=duals=") || is_none (place name names)
+is_unknown names name = is_none (place name names)
 
 abbrev pub is_bad : Result Number ReadNumber → Bool
 is_bad (Ok value) = false

@@ -10,4 +10,3 @@ pub record Plain (name : Text) : Type 0 where
   pub filled : 0 < length name
   pub unbroken : All (λ b. is_break b ≡ false) name
   pub no_objective : name ≢ codes "=obj="
-  pub no_duals : name ≢ codes "=duals="

@@ -100,9 +100,6 @@ impl Values {
         ensures len { length self.new.numbers.items ≡ length self.new.table }
         ensures table { self.new.table ≡ self.old.table }
     {
-        if name == b"=duals=".as_slice() {
-            return Err(SolFaultKind::UnknownName);
-        }
         let Some(id) = self.table.find(name) else {
             return Err(SolFaultKind::UnknownName);
         };

@@ -105,6 +105,7 @@ fn files_of_the_system(rt: HostRuntime) -> Result<(), Fail> {
     let mut files = HostFiles::new(&rt);
     assert!(rt; files.write(PATH, b"one two").is_ok());
     assert!(rt; files.write(PATH, b"abc").is_ok());
+    assert!(rt; matches!(fs::exists(&rt, "file_ports_test.txt.new0"), Ok(false)));
     let bytes = files.read(alloc, PATH, 3);
     assert!(rt; matches!(&bytes, Ok(bytes) if bytes.as_slice() == b"abc".as_slice()));
     assert_eq!(rt; files.read(alloc, PATH, 2).err(), Some(ReadErr::TooLong));

@@ -23,7 +23,7 @@ filled [] e = absurd (let f = e in cc)
 filled (x ∷ xs) e = omega arith
 
 plain_name : (word : List ℕ) → IsWord word → IsUnmarked word → solutions.Plain word
-plain_name word w u = record { filled = filled word w.some; unbroken = unbroken word w.plain; no_objective = u.0; no_duals = u.1 }
+plain_name word w u = record { filled = filled word w.some; unbroken = unbroken word w.plain; no_objective = u }
 
 pub plain_names : (names : List (List ℕ)) → All IsWord names → All IsUnmarked names → All solutions.Plain names
 plain_names [] w u = All-nil solutions.Plain

@@ -44,9 +44,9 @@ pub record IsSolutionText (program : ProgramData) (text : List ℕ) (point : Lis
   pub same_duals : pair_duals (names_of_rows program.rows) text ≡ duals
 
 -- ---- what is written
--- not one of the words that a solution's text has for the objective's value and for duals
+-- not the word that a solution's text has for the objective's value
 abbrev pub IsUnmarked : List ℕ → Type 0
-IsUnmarked name = (name ≢ codes "=obj=") × (name ≢ codes "=duals=")
+IsUnmarked name = name ≢ codes "=obj="
 
 -- Presolve concluded with a reduced program and records, and wrote their texts, `out` and `undoing`. The program's names can be written,
 -- and its columns' names also in a solution's text; the records' ids and numbers have room, as all values of their type do.
