@@ -18,11 +18,12 @@ fn words_of(rt: &HostRuntime) -> io::Result<Vec<String>> {
 
 fn main(rt: HostRuntime) -> ExitCode {
     let alloc = rt.alloc();
+    let mut out = HostOut::new(io::writer(&rt));
     let Ok(words) = words_of(&rt) else {
+        let _ = out.put(b"no memory\n");
         return ExitCode::from(5);
     };
     let mut files = HostFiles::new(&rt);
-    let mut out = HostOut::new(io::writer(&rt));
     let is_shown = rt.stderr().is_terminal();
     let told = answer(&rt, alloc, &words, &mut files, is_shown);
     match out.put(&told.text) {

@@ -6,7 +6,7 @@ mod progress;
 
 use crate::counting::CountingGate;
 use crate::progress::Progress;
-use file_ports::{HostFiles, HostOut};
+use file_ports::{HostFiles, HostOut, Sink};
 use papilo::run::run;
 use std::io::{ErrorKind, IsTerminal};
 use std::process::ExitCode;
@@ -23,11 +23,12 @@ fn words_of(rt: &HostRuntime) -> io::Result<Vec<String>> {
 
 fn main(rt: HostRuntime) -> ExitCode {
     let alloc = rt.alloc();
+    let mut out = HostOut::new(io::writer(&rt));
     let Ok(words) = words_of(&rt) else {
+        let _ = out.put(b"no memory\n");
         return ExitCode::from(5);
     };
     let mut files = HostFiles::new(&rt);
-    let mut out = HostOut::new(io::writer(&rt));
     let is_shown = rt.stderr().is_terminal();
     let gate = CountingGate::new(&rt, is_shown);
     let mut progress = Progress::new(&rt, is_shown);
