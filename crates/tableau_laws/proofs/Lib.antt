@@ -1,0 +1,4 @@
+pub mod Joins
+pub mod Pivots
+pub mod Keeps
+pub mod Starts

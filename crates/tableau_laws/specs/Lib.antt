@@ -1,0 +1,4 @@
+pub mod Variables
+pub mod Tableaus
+pub mod Keeping
+pub mod Room
