@@ -1,0 +1,5 @@
+pub mod Choices
+pub mod LimitRoom
+pub mod Runs
+pub mod Solved
+pub mod Outcomes
