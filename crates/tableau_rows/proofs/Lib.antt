@@ -1,0 +1,4 @@
+pub mod Sweeps
+pub mod Zeros
+pub mod RowLaws
+pub mod TurnLaws
