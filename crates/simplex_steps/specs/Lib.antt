@@ -1,0 +1,3 @@
+pub mod Signs
+pub mod Best
+pub mod Steps
