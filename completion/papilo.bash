@@ -2,14 +2,15 @@
 _papilo() {
   local word=${COMP_WORDS[COMP_CWORD]} name=${COMP_WORDS[0]##*/} options=
   if [[ $name == papilo && $COMP_CWORD == 1 ]]; then
-    mapfile -t COMPREPLY < <(compgen -W 'presolve postsolve check migrate help build --version' -- "$word")
+    mapfile -t COMPREPLY < <(compgen -W 'presolve postsolve check migrate verify solve gen help build --version' -- "$word")
     return
   fi
   case $name:${COMP_WORDS[1]} in
     papilo-explain:*) options='--limit --fractions --fixed --all --column --row' ;;
-    papilo:presolve) options='--limit --dual --fractions --fixed' ;;
-    papilo:check) options='--fixed' ;;
-    papilo:help) options="status $(printf 'M%d ' {1..19})$(printf 'F%d ' {1..8})$(printf 'S%d ' {1..6})" ;;
+    papilo:presolve) options='--threads --limit --dual --fractions --ordered --fixed' ;;
+    papilo:check | papilo:verify) options='--fixed' ;;
+    papilo:solve) options='--pivots --fixed' ;;
+    papilo:help) options="status $(printf 'M%d ' {1..19})$(printf 'F%d ' {1..9})$(printf 'S%d ' {1..6})" ;;
   esac
   if [[ $word == -* || ${COMP_WORDS[1]} == help ]]; then
     mapfile -t COMPREPLY < <(compgen -W "$options" -- "$word")

@@ -3,9 +3,9 @@
 use crate::models::{name_of, number, problem_of, program_of};
 use fractions::Numbers;
 use fractions::ext::Ext;
-use instances::{Chunk, Proposal, Reading, scan};
+use instances::{Proposal, Reading, look};
 use lp_model::{ColumnDef, Program, RowDef, Term, Terms};
-use presolve_model::{Contents, Outcome, Part, Rule};
+use presolve_model::{Contents, Instance, Outcome, Part, Reduction};
 use std::alloc::{AllocError, Global};
 use std::process::Abort;
 use std::test::Fail;
@@ -111,17 +111,15 @@ fn opened(rt: &impl Abort, alloc: Global, program: &Program) -> Result<Book, All
     Book::open(alloc, problem, Numbers::Fractions, 9)
 }
 
-/// The last instance of a rule that is enabled on a program, as it is read there.
-fn last_of(
+/// What an instance reads of a program on which it is enabled.
+fn found_on(
     rt: &impl Abort,
     alloc: Global,
     program: &Program,
-    rule: Rule,
+    instance: Instance,
 ) -> Result<Proposal, AllocError> {
-    let book = opened(rt, alloc, program)?;
-    let version = book.freeze(alloc)?;
-    let mut found = scan(alloc, &version, rule, Chunk::new(0))?;
-    match found.pop() {
+    let problem = problem_of(rt, alloc, Numbers::Fractions, program)?;
+    match look(alloc, &problem, instance)? {
         Some(proposal) => Ok(proposal),
         None => Err(AllocError),
     }
@@ -179,15 +177,15 @@ fn differs(
     Ok(())
 }
 
-/// The last instance of a rule that is enabled on another program is stale on the book of x = 3.
+/// An instance that is enabled on another program is stale on the book of x = 3.
 fn is_stale(
     rt: &impl Abort,
     alloc: Global,
     other: &Program,
-    rule: Rule,
+    instance: Instance,
     wanted: &Stale,
 ) -> Result<(), Fail> {
-    let proposal = last_of(rt, alloc, other, rule)?;
+    let proposal = found_on(rt, alloc, other, instance)?;
     let Some(reading) = proposal.reading().share() else {
         assert!(rt; false);
         return Ok(());
@@ -196,6 +194,11 @@ fn is_stale(
     let mut world = World::new(alloc, opened(rt, alloc, &program)?);
     commit(rt, alloc, &mut world, proposal, wanted.place)?;
     differs(rt, alloc, &world, &reading, wanted)
+}
+
+/// K2 of a row.
+fn singleton(row: u32) -> Instance {
+    Instance::Reduction(Reduction::SingletonRow { row })
 }
 
 /// K2 of C1, found where C1 is x = 4: entries and numbers are the same, and the sides differ.
@@ -209,7 +212,7 @@ fn another_side(rt: HostRuntime) -> Result<(), Fail> {
         read: Held::Side(4),
         now: Held::Side(3),
     };
-    is_stale(&rt, alloc, &other, Rule::SingletonRow, &wanted)
+    is_stale(&rt, alloc, &other, singleton(0), &wanted)
 }
 
 /// K2 of C3: the book's program has neither this row nor its column.
@@ -223,5 +226,5 @@ fn ids_past_the_last(rt: HostRuntime) -> Result<(), Fail> {
         read: Held::Entry(2),
         now: Held::Nothing,
     };
-    is_stale(&rt, alloc, &other, Rule::SingletonRow, &wanted)
+    is_stale(&rt, alloc, &other, singleton(2), &wanted)
 }

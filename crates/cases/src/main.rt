@@ -22,6 +22,8 @@
 //!   after each: `bounds J L U`, `sides I L U`, `entry I J A`, `row I` or `column J`, by ids, `-` for no end
 //! - `each NAME TAIL`: the last of these again for each line that follows, as if the line, and then the tail, stood behind the
 //!   text of that file
+//! - `alter NAME`: the last of these again for each line `OLD => NEW` that follows, with NEW where OLD first stands in the text of that file, `|`
+//!   for the end of a line; of a run the status and what is printed, in one line
 //! - `begin NAME`: the last of these again for each proper beginning of the text of that file, from the longest on; of a run the length, the
 //!   status and what is printed, in one line
 //! - `numbers`: reads each line that follows as a number, decimal and as a fraction, and writes it

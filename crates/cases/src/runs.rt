@@ -28,6 +28,17 @@ pub struct Case {
     words: Vec<String>,
 }
 
+/// What stands before a text and after it, where it first stands in a whole one.
+fn around<'a>(whole: &'a [u8], text: &[u8]) -> Option<(&'a [u8], &'a [u8])> {
+    for place in 0..whole.len() {
+        let (before, rest) = whole.split_at(place);
+        if let Some(after) = rest.strip_prefix(text) {
+            return Some((before, after));
+        }
+    }
+    None
+}
+
 impl Case {
     pub fn new(alloc: Global) -> Case {
         Case {
@@ -87,6 +98,16 @@ impl Case {
         let text = one.bytes.as_mut().context("a file that is missing")?;
         text.truncate(length);
         Ok(())
+    }
+
+    /// Puts a new text where an old one first stands in a file.
+    pub fn alter(&mut self, alloc: Global, place: usize, old: &[u8], new: &[u8]) -> Result<()> {
+        let whole = Vec::from_slice(alloc, self.bytes_at(place)?)?;
+        let (before, after) = around(&whole, old).context("no such text")?;
+        self.cut(place, 0)?;
+        self.extend(place, before)?;
+        self.extend(place, new)?;
+        self.extend(place, after)
     }
 
     /// Takes the words of a run of a program.

@@ -17,6 +17,8 @@ enum Text {
     Of(usize),
     /// The last request, with the line behind the text of the file at this place.
     Each(usize),
+    /// The last request, with the line's change made in the file at this place.
+    Alter(usize),
     /// A number.
     Number,
     /// No text is expected.
@@ -77,6 +79,7 @@ impl<'a, T: Threads + Wait + Sync> Script<'a, T> {
             "meet" => self.run(rt, "papilo", rest, Request::Meet),
             "explain" => self.run(rt, "papilo-explain", rest, Request::Explain),
             "each" => self.each(rest),
+            "alter" => self.alter(rest),
             "begin" => self.beginnings(rt, rest),
             "program" => self.program(rt, rest),
             "look" => self.look(rt, rest),
@@ -163,6 +166,11 @@ impl<'a, T: Threads + Wait + Sync> Script<'a, T> {
         Ok(())
     }
 
+    fn alter(&mut self, name: &str) -> Result<()> {
+        self.text = Text::Alter(self.case.place(name)?);
+        Ok(())
+    }
+
     /// The last request, with each proper beginning of a text, from the longest on.
     fn beginnings(&mut self, rt: &HostRuntime, name: &str) -> Result<()> {
         let place = self.case.place(name)?;
@@ -222,6 +230,7 @@ impl<'a, T: Threads + Wait + Sync> Script<'a, T> {
                 self.case.extend(place, end.as_bytes())
             }
             Text::Each(place) => self.answer_with(rt, place, text, end),
+            Text::Alter(place) => self.answer_altered(rt, place, text),
             Text::Number => number(rt, text),
             Text::Nothing => Err(anyhow!("a text of no file")),
         }
@@ -237,6 +246,29 @@ impl<'a, T: Threads + Wait + Sync> Script<'a, T> {
         self.request.answer(rt, self.threads, &self.case)?;
         self.case.cut(place, length)
     }
+
+    /// The last request, with a new text where an old one first stands in a file, which stays as it was.
+    fn answer_altered(&mut self, rt: &HostRuntime, place: usize, text: &str) -> Result<()> {
+        let (old, new) = text.split_once(" => ").context("an old and a new text")?;
+        let kept = Vec::from_slice(self.alloc, self.case.bytes_at(place)?)?;
+        let old = folded(self.alloc, old)?;
+        let new = folded(self.alloc, new)?;
+        self.case.alter(self.alloc, place, &old, &new)?;
+        print!(rt; "{text}: ")?;
+        self.request
+            .answer_of_beginning(rt, self.threads, &self.case)?;
+        self.case.cut(place, 0)?;
+        self.case.extend(place, &kept)
+    }
+}
+
+/// A text in which `|` stands for the end of a line.
+fn folded(alloc: Global, text: &str) -> Result<Vec<u8>> {
+    let mut bytes = Vec::new(alloc);
+    for byte in text.as_bytes() {
+        bytes.push(if *byte == b'|' { b'\n' } else { *byte })?;
+    }
+    Ok(bytes)
 }
 
 /// Prints a word, and what it is as a decimal number and as a fraction.

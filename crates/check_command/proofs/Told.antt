@@ -13,7 +13,7 @@ use Rattle.lp_check.specs.DecidingPairs.{DecidesPair}
 use Rattle.endings.specs.Moments.{Reads}
 use Rattle.endings.specs.declared.reads.TheConstants.{SOLUTION_LIMIT}
 use Rattle.endings.specs.declared.ending.Ending.{Ending}
-use Rattle.endings.specs.declared.ending.Ending.TheVariants.{Done, Usage, Refused, ReadFault, WriteFault, NoMemory, NoRoom, RecordsRefused, SolutionRefused, Violated, Infeasible, UnboundedOrInfeasible}
+use Rattle.endings.specs.declared.ending.Ending.TheVariants.{Done, Usage, Refused, ReadFault, WriteFault, NoMemory, NoRoom, RecordsRefused, SolutionRefused, Violated, Spent, Infeasible, UnboundedOrInfeasible, Unbounded}
 use Rattle.endings.specs.SolutionTexts.{IsPairOf}
 use Rattle.check_command.specs.VerdictText.{status_of_verdict, verdict_text, status_of_pair_verdict, pair_verdict_text}
 use Rattle.check_command.specs.Checked.{IsPointJudged, IsPairJudged, SaysSolution, TellsVerdict, TellsPairVerdict}
@@ -41,6 +41,8 @@ point_told program point verdict (SolutionRefused line) name before now given de
 point_told program point verdict (Violated line) name before now given decides h = inl (point_judged program point verdict name before 9 line.items given decides h.0 h.1)
 point_told program point verdict Infeasible name before now given decides h = absurd h
 point_told program point verdict UnboundedOrInfeasible name before now given decides h = absurd h
+point_told program point verdict Spent name before now given decides h = absurd h
+point_told program point verdict Unbounded name before now given decides h = absurd h
 
 -- ---- of a point with duals
 pair_judged : (program : ProgramData) (point duals : List Number) (verdict : PairVerdict) (name : List ℕ) (before : Moment) (status : ℕ) (printed : List ℕ)
@@ -75,3 +77,5 @@ pair_told program point duals verdict (SolutionRefused line) name before now giv
 pair_told program point duals verdict (Violated line) name before now given continuous decides h = inr (pair_judged program point duals verdict name before 9 line.items given continuous decides h.0 h.1)
 pair_told program point duals verdict Infeasible name before now given continuous decides h = absurd h
 pair_told program point duals verdict UnboundedOrInfeasible name before now given continuous decides h = absurd h
+pair_told program point duals verdict Spent name before now given continuous decides h = absurd h
+pair_told program point duals verdict Unbounded name before now given continuous decides h = absurd h

@@ -4,7 +4,7 @@ use Rattle.std.specs.declared.alloc.Global.{Global}
 use Rattle.clap.specs.Words.{App, Row, Rule, Text, new_app, new_rule, subcommand_of, takes, fault_of, Kinds, with_rule, with_subcommand}
 use Rattle.clap.specs.declared.builder.value_parser.ValueParser.TheVariants.{Unsigned}
 use Rattle.clap.specs.declared.builder.ArgAction.TheVariants.{Set, SetTrue}
-use Rattle.command_words.specs.declared.words.TheConstants.{MOST_LINES, MOST_RECORDS, MOST_SEED, MOST_THREADS}
+use Rattle.command_words.specs.declared.words.TheConstants.{MOST_LINES, MOST_PIVOTS, MOST_RECORDS, MOST_SEED, MOST_THREADS}
 
 -- a required word
 abbrev pub word_rule : Text → Rule
@@ -70,13 +70,37 @@ gen_words = with_rule (with_rule (new_app (codes "gen")) (needed_rule (codes "se
 unfoldable pub gen_app : App
 gen_app = with_rule gen_words (needed_rule (codes "cols") 1 MOST_LINES)
 
+-- verify IN OUT REC
+unfoldable pub verify_words : App
+verify_words = with_rule (with_rule (with_rule (new_app (codes "verify")) (word_rule (codes "in"))) (word_rule (codes "out"))) (word_rule (codes "rec"))
+
+-- verify IN OUT REC [--fixed]
+unfoldable pub verify_app : App
+verify_app = with_rule verify_words (flag_rule (codes "fixed"))
+
+-- solve IN SOL [--pivots N]
+unfoldable pub solve_words : App
+solve_words = with_rule (with_rule (with_rule (new_app (codes "solve")) (word_rule (codes "in"))) (word_rule (codes "sol"))) (number_rule (codes "pivots") MOST_PIVOTS)
+
+-- solve IN SOL [--pivots N] [--fixed]
+unfoldable pub solve_app : App
+solve_app = with_rule solve_words (flag_rule (codes "fixed"))
+
 -- presolve and check
 unfoldable pub first_app : App
 first_app = with_subcommand (with_subcommand (new_app (codes "papilo")) presolve_app.top) check_app.top
 
+-- postsolve and migrate too
+unfoldable pub second_app : App
+second_app = with_subcommand (with_subcommand first_app postsolve_app.top) migrate_app.top
+
+-- verify and solve too
+unfoldable pub third_app : App
+third_app = with_subcommand (with_subcommand second_app verify_app.top) solve_app.top
+
 -- the whole: one subcommand for each command
 unfoldable pub line_app : App
-line_app = with_subcommand (with_subcommand (with_subcommand first_app postsolve_app.top) migrate_app.top) gen_app.top
+line_app = with_subcommand third_app gen_app.top
 
 abbrev pub texts : List (String Global) → List Text
 texts words = map (λ word. string_bytes word) words

@@ -2,12 +2,12 @@
 ghost use Rattle.std.specs.Prelude.{◌≡◌, ◌≢◌, [], Err, false, IfOk, OnOk, OnErr};
 ghost use Rattle.clap.specs.Words.{app_of, kind_of, rule_of, subcommand_rows_of};
 ghost use Rattle.clap.specs.declared.builder.command.Command.TheViews.{out-Command};
-ghost use Rattle.command_app.specs.Line.{check_app, dual_app, faults, first_app, flag_rule, found_in, gen_app, gen_words, is_taken, limited_app, line_app, migrate_app, needed_rule, number_rule, ordered_app, postsolve_app, postsolve_words, presolve_app, presolve_words, texts, threaded_app, word_rule};
+ghost use Rattle.command_app.specs.Line.{check_app, dual_app, faults, first_app, flag_rule, found_in, gen_app, gen_words, is_taken, limited_app, line_app, migrate_app, needed_rule, number_rule, ordered_app, postsolve_app, postsolve_words, presolve_app, presolve_words, second_app, solve_app, solve_words, texts, third_app, threaded_app, verify_app, verify_words, word_rule};
 
 use clap::builder::ValueParser;
 use clap::error::ErrorKind;
 use clap::{Arg, ArgAction, ArgMatches, Command, Error};
-use command_words::{MOST_LINES, MOST_RECORDS, MOST_SEED, MOST_THREADS, Refusal};
+use command_words::{MOST_LINES, MOST_PIVOTS, MOST_RECORDS, MOST_SEED, MOST_THREADS, Refusal};
 use std::alloc::{AllocError, Global};
 
 // A word that has to stand.
@@ -137,6 +137,44 @@ fn migrate<'a>(alloc: Global) -> Result<Command<'a>, AllocError>
         .arg(word(alloc, "new"))
 }
 
+#[tactic(auto, unfolding(crate::specs::Line::verify_words))]
+fn verify_words<'a>(alloc: Global) -> Result<Command<'a>, AllocError>
+    ensures app { IfOk result (λ command. app_of command ≡ verify_words) }
+    ensures local { IfOk result (λ command. (out-Command command).has_globals ≡ false) }
+{
+    Command::new(alloc, "verify")
+        .arg(word(alloc, "in"))?
+        .arg(word(alloc, "out"))?
+        .arg(word(alloc, "rec"))
+}
+
+#[tactic(auto, unfolding(crate::specs::Line::verify_app))]
+fn verify<'a>(alloc: Global) -> Result<Command<'a>, AllocError>
+    ensures app { IfOk result (λ command. app_of command ≡ verify_app) }
+    ensures local { IfOk result (λ command. (out-Command command).has_globals ≡ false) }
+{
+    verify_words(alloc)?.arg(flag(alloc, "fixed"))
+}
+
+#[tactic(auto, unfolding(crate::specs::Line::solve_words))]
+fn solve_words<'a>(alloc: Global) -> Result<Command<'a>, AllocError>
+    ensures app { IfOk result (λ command. app_of command ≡ solve_words) }
+    ensures local { IfOk result (λ command. (out-Command command).has_globals ≡ false) }
+{
+    Command::new(alloc, "solve")
+        .arg(word(alloc, "in"))?
+        .arg(word(alloc, "sol"))?
+        .arg(number(alloc, "pivots", MOST_PIVOTS))
+}
+
+#[tactic(auto, unfolding(crate::specs::Line::solve_app))]
+fn solve<'a>(alloc: Global) -> Result<Command<'a>, AllocError>
+    ensures app { IfOk result (λ command. app_of command ≡ solve_app) }
+    ensures local { IfOk result (λ command. (out-Command command).has_globals ≡ false) }
+{
+    solve_words(alloc)?.arg(flag(alloc, "fixed"))
+}
+
 #[tactic(auto, unfolding(crate::specs::Line::gen_words))]
 fn generator_words<'a>(alloc: Global) -> Result<Command<'a>, AllocError>
     ensures app { IfOk result (λ command. app_of command ≡ gen_words) }
@@ -167,17 +205,32 @@ fn first<'a>(alloc: Global) -> Result<Command<'a>, AllocError>
         .subcommand(check)
 }
 
+#[tactic(auto, unfolding(crate::specs::Line::second_app))]
+fn second<'a>(alloc: Global) -> Result<Command<'a>, AllocError>
+    ensures app { IfOk result (λ command. app_of command ≡ second_app) }
+    ensures local { IfOk result (λ command. (out-Command command).has_globals ≡ false) }
+{
+    let postsolve = postsolve(alloc)?;
+    let migrate = migrate(alloc)?;
+    first(alloc)?.subcommand(postsolve)?.subcommand(migrate)
+}
+
+#[tactic(auto, unfolding(crate::specs::Line::third_app))]
+fn third<'a>(alloc: Global) -> Result<Command<'a>, AllocError>
+    ensures app { IfOk result (λ command. app_of command ≡ third_app) }
+    ensures local { IfOk result (λ command. (out-Command command).has_globals ≡ false) }
+{
+    let verify = verify(alloc)?;
+    let solve = solve(alloc)?;
+    second(alloc)?.subcommand(verify)?.subcommand(solve)
+}
+
 #[tactic(auto, unfolding(crate::specs::Line::line_app))]
 fn line<'a>(alloc: Global) -> Result<Command<'a>, AllocError>
     ensures app { IfOk result (λ command. app_of command ≡ line_app) }
 {
-    let postsolve = postsolve(alloc)?;
-    let migrate = migrate(alloc)?;
     let generator = generator(alloc)?;
-    first(alloc)?
-        .subcommand(postsolve)?
-        .subcommand(migrate)?
-        .subcommand(generator)
+    third(alloc)?.subcommand(generator)
 }
 
 /// What `clap` makes of the words, of which the first is the program's own name.

@@ -4,10 +4,11 @@ use Rattle.clap.specs.Words.{Row, Text, first_of}
 use Rattle.command_app.specs.Line.{found_in, is_taken}
 use Rattle.command_line.specs.Line.{selected}
 
--- presolve with one name for OUT and REC, or migrate with one name for REC and NEW
+-- presolve with one name for OUT and REC, migrate with one for REC and NEW, or solve with one for IN and SOL
 abbrev pub HasOneName : Text → List Row → Type 0
 HasOneName name rows = ((name ≡ codes "presolve") × (first_of (codes "out") rows ≡ first_of (codes "rec") rows))
     ⊎ ((name ≡ codes "migrate") × (first_of (codes "rec") rows ≡ first_of (codes "new") rows))
+    ⊎ ((name ≡ codes "solve") × (first_of (codes "in") rows ≡ first_of (codes "sol") rows))
 
 -- where clap takes the words and finds a command in them, they ask for something, but where two names are one that have to differ
 abbrev pub TakenWordsAsk : Type 0

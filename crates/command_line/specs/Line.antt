@@ -6,10 +6,10 @@ use Rattle.std.specs.Str.Parse.{digits_value, without_leading_plus}
 use Rattle.clap.specs.Words.{Row, Text, first_of, Kinds}
 use Rattle.clap.specs.ValueTests.{accepts}
 use Rattle.clap.specs.declared.builder.value_parser.ValueParser.TheVariants.{Unsigned}
-use Rattle.command_words.specs.Names.{PresolveNames, CheckNames, PostsolveNames, MigrateNames, Request, Presolve, Check, Postsolve, Migrate, Gen}
+use Rattle.command_words.specs.Names.{PresolveNames, CheckNames, PostsolveNames, MigrateNames, VerifyNames, SolveNames, Request, Presolve, Check, Postsolve, Migrate, Verify, Solve, Gen}
 use Rattle.command_words.specs.declared.words.GenNumbers.{GenNumbers}
 use Rattle.command_words.specs.declared.words.PresolveOptions.{PresolveOptions}
-use Rattle.command_words.specs.declared.words.TheConstants.{MOST_LINES, MOST_RECORDS, MOST_SEED, MOST_THREADS}
+use Rattle.command_words.specs.declared.words.TheConstants.{MOST_LINES, MOST_PIVOTS, MOST_RECORDS, MOST_SEED, MOST_THREADS, USUAL_PIVOTS}
 use Rattle.command_app.specs.Line.{faults, found_in}
 
 -- an option is given where clap's value is `true`
@@ -87,6 +87,27 @@ migrate_names records written = None
 abbrev pub migrate_of : List Row → Option MigrateNames
 migrate_of rows = migrate_names (first_of (codes "rec") rows) (first_of (codes "new") rows)
 
+-- three names, and an option
+abbrev pub verify_names : Option Text → Option Text → Option Text → Bool → Option VerifyNames
+verify_names (Some input) (Some output) (Some records) fixed = Some (record { input = input; output = output; records = records; fixed = fixed })
+verify_names input output records fixed = None
+
+abbrev pub verify_of : List Row → Option VerifyNames
+verify_of rows = verify_names (first_of (codes "in") rows) (first_of (codes "out") rows) (first_of (codes "rec") rows) (is_on (first_of (codes "fixed") rows))
+
+-- the number of pivots that is given, or else the usual one
+abbrev pub pivots_of : List Row → Option ℕ
+pivots_of rows = number_of MOST_PIVOTS USUAL_PIVOTS (first_of (codes "pivots") rows)
+
+-- two names, which differ, a number and an option
+abbrev pub solve_names : Option Text → Option Text → Option ℕ → Bool → Option SolveNames
+solve_names (Some input) (Some solution) (Some pivots) fixed =
+    if bytes_eq input solution then None else Some (record { input = input; solution = solution; pivots = pivots; fixed = fixed })
+solve_names input solution pivots fixed = None
+
+abbrev pub solve_of : List Row → Option SolveNames
+solve_of rows = solve_names (first_of (codes "in") rows) (first_of (codes "sol") rows) (pivots_of rows) (is_on (first_of (codes "fixed") rows))
+
 -- three numbers
 abbrev pub gen_numbers : Option ℕ → Option ℕ → Option ℕ → Option GenNumbers
 gen_numbers (Some seed) (Some rows) (Some columns) = Some (record { seed = seed; rows = rows; columns = columns })
@@ -102,7 +123,9 @@ request_of name rows =
     else (if bytes_eq name (codes "check") then option_map Check (check_of rows)
     else (if bytes_eq name (codes "postsolve") then option_map Postsolve (postsolve_of rows)
     else (if bytes_eq name (codes "migrate") then option_map Migrate (migrate_of rows)
-    else (if bytes_eq name (codes "gen") then option_map Gen (gen_of rows) else None))))
+    else (if bytes_eq name (codes "verify") then option_map Verify (verify_of rows)
+    else (if bytes_eq name (codes "solve") then option_map Solve (solve_of rows)
+    else (if bytes_eq name (codes "gen") then option_map Gen (gen_of rows) else None))))))
 
 abbrev pub selected_in : Option (Text × List Row) → Option Request
 selected_in None = None

@@ -4,14 +4,15 @@ ghost use Rattle.std.specs.Str.Parse.{digits_value, without_leading_plus};
 ghost use Rattle.clap.specs.Words.{IsUnsignedIn, first_of, found_of, rows_of, subcommand_rows_of};
 ghost use Rattle.command_words.specs.Names.{AreInRange, HasRange, IsSize, NamesDiffer};
 ghost use Rattle.command_app.specs.Line.{faults, is_taken, texts};
-ghost use Rattle.command_line.specs.Line.{asked, check_of, gen_of, is_on, migrate_of, needed_of, number_in, number_of, options_of, postsolve_of, presolve_of, request_of, selected, selected_in, threads_of};
-ghost use Rattle.command_words.specs.Seen.{check_names_of, migrate_names_of, names_of, postsolve_names_of, seen};
+ghost use Rattle.command_line.specs.Line.{asked, check_of, gen_of, is_on, migrate_of, needed_of, number_in, number_of, options_of, postsolve_of, presolve_of, request_of, selected, selected_in, solve_of, threads_of, verify_of};
+ghost use Rattle.command_words.specs.Seen.{check_names_of, migrate_names_of, names_of, postsolve_names_of, seen, solve_names_of, verify_names_of};
 
 use clap::ArgMatches;
 use command_app::matches;
 use command_words::{
-    CheckWords, GenNumbers, MOST_LINES, MOST_RECORDS, MOST_SEED, MOST_THREADS, MigrateWords,
-    PostsolveWords, PresolveOptions, PresolveWords, Refusal, Request,
+    CheckWords, GenNumbers, MOST_LINES, MOST_PIVOTS, MOST_RECORDS, MOST_SEED, MOST_THREADS,
+    MigrateWords, PostsolveWords, PresolveOptions, PresolveWords, Refusal, Request, SolveWords,
+    USUAL_PIVOTS, VerifyWords,
 };
 use std::alloc::Global;
 
@@ -171,6 +172,42 @@ fn migrate<'a>(found: &ArgMatches<'a>) -> Option<MigrateWords<'a>>
     Some(MigrateWords { records, written })
 }
 
+// The names for `verify`.
+fn verify<'a>(found: &ArgMatches<'a>) -> Option<VerifyWords<'a>>
+    ensures { option_map verify_names_of result ≡ verify_of (rows_of (found_of found.now)) }
+{
+    let input = value(found, "in")?;
+    let output = value(found, "out")?;
+    let records = value(found, "rec")?;
+    let fixed = is_given(found, "fixed");
+    Some(VerifyWords {
+        input,
+        output,
+        records,
+        fixed,
+    })
+}
+
+// The names and the number of pivots for `solve`. IN and SOL may not be one name.
+fn solve<'a>(found: &ArgMatches<'a>) -> Option<SolveWords<'a>>
+    ensures names { option_map solve_names_of result ≡ solve_of (rows_of (found_of found.now)) }
+    ensures differ { IfSome result (λ words. words.input.now ≢ words.solution.now) }
+    ensures range { IfSome result (λ words. (1 ≤ words.pivots) × (words.pivots ≤ MOST_PIVOTS)) }
+{
+    let input = value(found, "in")?;
+    let solution = value(found, "sol")?;
+    let pivots = number(found, "pivots", MOST_PIVOTS, USUAL_PIVOTS)?;
+    if input == solution {
+        return None;
+    }
+    Some(SolveWords {
+        input,
+        solution,
+        pivots,
+        fixed: is_given(found, "fixed"),
+    })
+}
+
 // The numbers for `gen`.
 fn generator(found: &ArgMatches) -> Option<GenNumbers>
     ensures given { result ≡ gen_of (rows_of (found_of found.now)) }
@@ -204,6 +241,8 @@ fn named_request<'a>(name: &str, given: &ArgMatches<'a>) -> Option<Request<'a>>
         "check" => Some(Request::Check(check(given)?)),
         "postsolve" => Some(Request::Postsolve(postsolve(given)?)),
         "migrate" => Some(Request::Migrate(migrate(given)?)),
+        "verify" => Some(Request::Verify(verify(given)?)),
+        "solve" => Some(Request::Solve(solve(given)?)),
         "gen" => Some(Request::Gen(generator(given)?)),
         _ => None,
     }
@@ -223,7 +262,8 @@ fn selected_request<'a>(found: &ArgMatches<'a>) -> Option<Request<'a>>
 ///
 /// # Errors
 /// `Words` where `clap` names a fault in them, as at a limit that is no number from 1 to `MOST_RECORDS`, a number of threads that is
-/// none from 1 to `MOST_THREADS`, or a number for `gen` that is not in its range; or OUT and REC are equal words, or REC and NEW.
+/// none from 1 to `MOST_THREADS`, a number of pivots that is none from 1 to `MOST_PIVOTS`, or a number for `gen` that is not in its range;
+/// or OUT and REC are equal words, or REC and NEW, or IN and SOL of `solve`.
 /// `NoMemory`.
 pub fn read<'a>(alloc: Global, words: &'a [String]) -> Result<Request<'a>, Refusal>
     ensures asked { IfOk result (λ request. asked (texts words.entry.now) ≡ Some (seen request)) }

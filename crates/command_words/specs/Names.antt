@@ -2,7 +2,7 @@
 use Rattle.std.specs.Prelude.{◌≢◌, ◌≤◌, ℕ, List, Bool}
 use Rattle.command_words.specs.declared.words.PresolveOptions.{PresolveOptions}
 use Rattle.command_words.specs.declared.words.GenNumbers.{GenNumbers}
-use Rattle.command_words.specs.declared.words.TheConstants.{MOST_LINES, MOST_RECORDS, MOST_THREADS}
+use Rattle.command_words.specs.declared.words.TheConstants.{MOST_LINES, MOST_PIVOTS, MOST_RECORDS, MOST_THREADS}
 
 -- bytes
 abbrev pub Text : Type 0
@@ -33,20 +33,38 @@ pub record MigrateNames : Type 0 where
   pub records : Text
   pub written : Text
 
+-- the names that verify works on, and whether IN has the fixed format
+pub record VerifyNames : Type 0 where
+  pub input : Text
+  pub output : Text
+  pub records : Text
+  pub fixed : Bool
+
+-- the names that solve works on, how many pivots it may make, and whether IN has the fixed format
+pub record SolveNames : Type 0 where
+  pub input : Text
+  pub solution : Text
+  pub pivots : ℕ
+  pub fixed : Bool
+
 -- a command with its names
 pub data Request : Type 0 where
   Presolve : PresolveNames → Request
   Check : CheckNames → Request
   Postsolve : PostsolveNames → Request
   Migrate : MigrateNames → Request
+  Verify : VerifyNames → Request
+  Solve : SolveNames → Request
   Gen : GenNumbers → Request
 
--- OUT and REC of presolve differ, and so do REC and NEW of migrate
+-- OUT and REC of presolve differ, and so do REC and NEW of migrate, and IN and SOL of solve
 abbrev pub NamesDiffer : Request → Type 0
 NamesDiffer (Presolve names) = names.output ≢ names.records
 NamesDiffer (Check names) = Unit {0}
 NamesDiffer (Postsolve names) = Unit {0}
 NamesDiffer (Migrate names) = names.records ≢ names.written
+NamesDiffer (Verify names) = Unit {0}
+NamesDiffer (Solve names) = names.input ≢ names.solution
 NamesDiffer (Gen numbers) = Unit {0}
 
 -- presolve may make at least one record and has at least one thread, and no more than the most of each
@@ -69,4 +87,6 @@ HasRange (Presolve names) = AreInRange names.options
 HasRange (Check names) = Unit {0}
 HasRange (Postsolve names) = Unit {0}
 HasRange (Migrate names) = Unit {0}
+HasRange (Verify names) = Unit {0}
+HasRange (Solve names) = (1 ≤ names.pivots) × (names.pivots ≤ MOST_PIVOTS)
 HasRange (Gen numbers) = IsSize numbers

@@ -11,6 +11,12 @@ pub const MOST_SEED: u64 = 18_446_744_073_709_551_615;
 /// The most rows, and the most columns, that a program may be made with.
 pub const MOST_LINES: u64 = 100_000;
 
+/// The most pivots that a run may be allowed to make.
+pub const MOST_PIVOTS: u64 = 1_000_000;
+
+/// So many pivots are allowed where no number is given.
+pub const USUAL_PIVOTS: u64 = 100_000;
+
 /// The options of `presolve`.
 #[derive(Clone, Copy, Debug, PartialEq, Eq)]
 pub struct PresolveOptions {
@@ -63,6 +69,28 @@ pub struct MigrateWords<'a> {
     pub written: &'a str,
 }
 
+/// The names that `verify IN OUT REC` works on, and its option.
+#[derive(Clone, Copy, Debug)]
+pub struct VerifyWords<'a> {
+    pub input: &'a str,
+    pub output: &'a str,
+    pub records: &'a str,
+    /// IN has the fixed format.
+    pub fixed: bool,
+}
+
+/// The names that `solve IN SOL` works on, which differ, and its options.
+#[derive(Clone, Copy, Debug)]
+pub struct SolveWords<'a> {
+    pub input: &'a str,
+    /// SOL, which is written.
+    pub solution: &'a str,
+    /// How many pivots may be made: from 1 to `MOST_PIVOTS`.
+    pub pivots: u64,
+    /// IN has the fixed format.
+    pub fixed: bool,
+}
+
 /// The numbers of `gen SEED ROWS COLS`.
 #[derive(Clone, Copy, Debug, PartialEq, Eq)]
 pub struct GenNumbers {
@@ -81,13 +109,15 @@ pub enum Request<'a> {
     Check(CheckWords<'a>),
     Postsolve(PostsolveWords<'a>),
     Migrate(MigrateWords<'a>),
+    Verify(VerifyWords<'a>),
+    Solve(SolveWords<'a>),
     Gen(GenNumbers),
 }
 
 /// Why there is no request.
 #[derive(Clone, Copy, Debug, PartialEq, Eq)]
 pub enum Refusal {
-    /// `clap` does not take the words, or OUT and REC are equal, or REC and NEW.
+    /// `clap` does not take the words, or OUT and REC are equal, or REC and NEW, or IN and SOL of `solve`.
     Words,
     /// There is no memory to read them.
     NoMemory,

@@ -25,10 +25,14 @@ pub enum Ending {
     SolutionRefused(Vec<u8>),
     /// The point does not meet the program; the line that says where.
     Violated(Vec<u8>),
+    /// As many pivots were made as are allowed, and one more is asked for.
+    Spent,
     /// The program has no feasible point.
     Infeasible,
     /// The program has no feasible point, or none of least cost: each feasible point gives others of any cost.
     UnboundedOrInfeasible,
+    /// The program has feasible points, and for each number one of a better cost.
+    Unbounded,
 }
 
 impl Ending {
@@ -49,8 +53,10 @@ impl Ending {
             Ending::RecordsRefused(_) => 7,
             Ending::SolutionRefused(_) => 8,
             Ending::Violated(_) => 9,
+            Ending::Spent => 10,
             Ending::Infeasible => 20,
             Ending::UnboundedOrInfeasible => 21,
+            Ending::Unbounded => 22,
         }
     }
 
@@ -60,7 +66,9 @@ impl Ending {
     {
         match self {
             Ending::Done(text) => text.as_slice(),
-            Ending::Usage => b"usage: presolve, postsolve, check, gen or migrate\n",
+            Ending::Usage => {
+                b"usage: presolve, postsolve, check, gen, migrate, verify or solve\n"
+            }
             Ending::Refused(line) => line.as_slice(),
             Ending::ReadFault => b"read fault\n",
             Ending::WriteFault => b"write fault\n",
@@ -69,8 +77,10 @@ impl Ending {
             Ending::RecordsRefused(line) => line.as_slice(),
             Ending::SolutionRefused(line) => line.as_slice(),
             Ending::Violated(line) => line.as_slice(),
+            Ending::Spent => b"pivots spent\n",
             Ending::Infeasible => b"infeasible\n",
             Ending::UnboundedOrInfeasible => b"unbounded or infeasible\n",
+            Ending::Unbounded => b"unbounded\n",
         }
     }
 }

@@ -58,16 +58,17 @@ fn create_beside<R: Files>(rt: &R, alloc: Global, path: &str) -> Result<(String,
     Err(Error::from(ErrorKind::AlreadyExists))
 }
 
-// All bytes, on the disk, with the permissions of the file that was there.
+// All bytes. Where a file was there, they get its permissions, and are on the disk before they take its place.
 fn fill<F: Write + OpenFile + Drop>(
     mut file: F,
     bytes: &[u8],
     permissions: Option<Permissions>,
 ) -> Result<()> {
     file.write_all(bytes)?;
-    if let Some(permissions) = permissions {
-        file.set_permissions(permissions)?;
-    }
+    let Some(permissions) = permissions else {
+        return Ok(());
+    };
+    file.set_permissions(permissions)?;
     file.sync_all()
 }
 
@@ -96,8 +97,9 @@ fn put_over<R: Files>(rt: &R, alloc: Global, place: Place, bytes: &[u8]) -> Resu
 
 /// Puts these bytes in the place of what a name holds.
 ///
-/// A regular file is replaced whole: the bytes go to a new file in its folder, which is synced, gets the old one's permissions and is
-/// renamed over it. A link is followed. What is no regular file, or has a folder that takes no new file, is written in place.
+/// A regular file is replaced whole: the bytes go to a new file in its folder, which gets the old one's permissions, is synced and is
+/// renamed over it. Where there was none, the new file is not synced: nothing could be lost. A link is followed. What is no regular file, or
+/// has a folder that takes no new file, is written in place.
 ///
 /// # Errors
 /// Where the system refuses a step. A regular file that was not written in place then holds what it held.

@@ -4,6 +4,7 @@
 
 mod chunk;
 mod finding;
+mod looking;
 mod proposal;
 mod reading;
 mod reads;
@@ -14,6 +15,7 @@ mod version;
 pub use chunk::Chunk;
 pub use finding::{add_enabled, instance_beside, lines_beside};
 pub use line_groups;
+pub use looking::look;
 pub use proposal::Proposal;
 pub use reading::{Differs, Reading};
 pub use reads::{numbers_for, reading_for};

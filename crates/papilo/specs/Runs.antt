@@ -1,7 +1,7 @@
 -- How a run ends, by what its words ask for: its status, what it prints, and what it does to files.
 use Rattle.std.specs.Prelude.{◌≡◌, ◌⊎◌, ◌==◌, ℕ, false, List, Option, Some, None}
 use Rattle.file_ports.specs.Ports.{Moment, Rose, Grown, GrownInPart, KeepsOthers}
-use Rattle.command_words.specs.Names.{Request, Presolve, Check, Postsolve, Migrate, Gen}
+use Rattle.command_words.specs.Names.{Request, Presolve, Check, Postsolve, Migrate, Verify, Solve, Gen}
 use Rattle.command_app.specs.Line.{is_taken}
 use Rattle.command_line.specs.Line.{selected}
 use Rattle.endings.specs.Ending.{When, no_memory_line, usage_line}
@@ -10,6 +10,8 @@ use Rattle.presolve_command.specs.Presolved as presolve
 use Rattle.check_command.specs.Checked as check
 use Rattle.postsolve_command.specs.Postsolved as postsolve
 use Rattle.migrate_command.specs.Migrated as migrate
+use Rattle.verify_command.specs.Verifying as verify
+use Rattle.solve_command.specs.Solving as solve
 use Rattle.gen_command.specs.Generating as gen
 
 -- what a run says at a status, with what it prints; the words that ask for nothing are refused
@@ -22,6 +24,8 @@ Ends (Some (Presolve names)) status printed before now = presolve.EndsPresolve n
 Ends (Some (Check names)) status printed before now = check.EndsCheck names status printed before now
 Ends (Some (Postsolve names)) status printed before now = postsolve.EndsPostsolve names status printed before now
 Ends (Some (Migrate names)) status printed before now = migrate.EndsMigrate names status printed before now
+Ends (Some (Verify names)) status printed before now = verify.EndsVerify names status printed before now
+Ends (Some (Solve names)) status printed before now = solve.EndsSolve names status printed before now
 Ends (Some (Gen numbers)) status printed before now = gen.EndsGen numbers status printed before now
 
 -- The sink took all that is printed, and the run answers the status; or the sink failed, having taken a prefix, and the run answers 4.
@@ -36,6 +40,8 @@ IsUnwritten (Some (Presolve names)) before now = presolve.IsUnwritten names befo
 IsUnwritten (Some (Check names)) before now = ⊥
 IsUnwritten (Some (Postsolve names)) before now = postsolve.IsUnwritten names before now
 IsUnwritten (Some (Migrate names)) before now = migrate.IsUnwritten names before now
+IsUnwritten (Some (Verify names)) before now = ⊥
+IsUnwritten (Some (Solve names)) before now = solve.IsUnwritten names before now
 IsUnwritten (Some (Gen numbers)) before now = ⊥
 
 -- all names tell what they told but those that the words ask to write
@@ -45,6 +51,8 @@ KeepsUnasked (Some (Presolve names)) before now = KeepsAllBut before.told now.to
 KeepsUnasked (Some (Check names)) before now = IsQuiet before now
 KeepsUnasked (Some (Postsolve names)) before now = KeepsOthers before.told now.told names.result
 KeepsUnasked (Some (Migrate names)) before now = KeepsOthers before.told now.told names.written
+KeepsUnasked (Some (Verify names)) before now = IsQuiet before now
+KeepsUnasked (Some (Solve names)) before now = KeepsOthers before.told now.told names.solution
 KeepsUnasked (Some (Gen numbers)) before now = IsQuiet before now
 
 -- no name that the words ask to read is told as missing
@@ -54,6 +62,8 @@ AreThere (Some (Presolve names)) before = IsThere (before.told names.input)
 AreThere (Some (Check names)) before = IsThere (before.told names.input) × IsThere (before.told names.solution)
 AreThere (Some (Postsolve names)) before = IsThere (before.told names.program) × IsThere (before.told names.records) × IsThere (before.told names.solution)
 AreThere (Some (Migrate names)) before = IsThere (before.told names.records)
+AreThere (Some (Verify names)) before = IsThere (before.told names.input) × IsThere (before.told names.output) × IsThere (before.told names.records)
+AreThere (Some (Solve names)) before = IsThere (before.told names.input)
 AreThere (Some (Gen numbers)) before = Unit {0}
 
 -- clap does not take the words, or there is no command with its names in what it finds in them, or two names are one that have to differ

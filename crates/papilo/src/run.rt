@@ -17,9 +17,11 @@ use migrate_command::migrate;
 use postsolve_command::postsolve;
 use presolve_command::presolve;
 use presolve_command::presolve_rounds::Onlooker;
+use solve_command::solve;
 use std::alloc::Global;
 use std::sync::Wait;
 use std::thread::Threads;
+use verify_command::verify;
 use worker_gate::Gate;
 
 // Does what the words ask for.
@@ -43,6 +45,8 @@ fn ending_of<R: Threads + Wait + Sync, F: Files, G: Gate, O: Onlooker>(
             postsolve(alloc, &words, files).unwrap_or(Ending::NoMemory)
         }
         Ok(Request::Migrate(words)) => migrate(alloc, &words, files).unwrap_or(Ending::NoMemory),
+        Ok(Request::Verify(words)) => verify(alloc, &words, files).unwrap_or(Ending::NoMemory),
+        Ok(Request::Solve(words)) => solve(alloc, &words, files).unwrap_or(Ending::NoMemory),
         Ok(Request::Gen(numbers)) => {
             generate(rt, alloc, numbers, onlooker).unwrap_or(Ending::NoMemory)
         }
@@ -70,7 +74,7 @@ pub fn run<R: Threads + Wait + Sync, F: Files, S: Sink, G: Gate, O: Onlooker>(
         × Grown (S.taken out.old) (S.taken out.new) printed }
     ensures unwritten { result ≡ 4 → IsUnwritten (asked (texts words.now)) (F.moment files.old) (F.moment files.new) ⊎ Rose (S.faults out.old) (S.faults out.new) }
     ensures refused { result ≡ 1 → AreRefused (texts words.now) }
-    ensures known { (result ≤ 9) ⊎ (result ≡ 20) ⊎ (result ≡ 21) }
+    ensures known { (result ≤ 10) ⊎ (result ≡ 20) ⊎ (result ≡ 21) ⊎ (result ≡ 22) }
 
     // And of the files.
     ensures quiet { result ≢ 0 → result ≢ 4 → IsQuiet (F.moment files.old) (F.moment files.new) }

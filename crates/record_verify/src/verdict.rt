@@ -9,7 +9,7 @@ use crate::steps::follow_all;
 use fractions::frac::Frac;
 use lp_model::Program;
 use problem_data::in_sense;
-use same_data::same_program;
+use same_written::is_written_of;
 use sparse_problem::Problem;
 use std::alloc::{AllocError, Global};
 use undo_records::Records;
@@ -48,7 +48,7 @@ pub fn verify(
     if let Some(why) = follow_all(alloc, &mut problem, records)? {
         return Ok(Verified::No { why });
     }
-    if !same_program(reduced, &problem.to_program(alloc, program)?) {
+    if !is_written_of(alloc, &problem, program, reduced)? {
         return Ok(Verified::No { why: Flaw::Program });
     }
     let offset = records.offset();

@@ -1,9 +1,9 @@
-mod Joined
-mod Back
+pub mod Joined
+pub mod Back
 mod OneLifting
-mod Layers
-mod OneCheck
-mod OnePostsolve
+pub mod Layers
+pub mod OneCheck
+pub mod OnePostsolve
 mod OneMigrate
 mod OneGen
 mod OnePresolve

@@ -1,4 +1,4 @@
 pub mod Naming
 pub mod Reducing
 pub mod Running
-mod OneFlaw
+pub mod OneFlaw

@@ -1,0 +1,2 @@
+mod OneVerify
+mod Verified

@@ -1,0 +1,3 @@
+pub mod Given
+pub mod VerdictText
+pub mod Verifying
