@@ -195,6 +195,9 @@ fn sole_row(alloc: Global, problem: &Problem, column: u32) -> Result<Option<u32>
     if problem.live_column_entries(column) != 1 {
         return Ok(None);
     }
+    if let Some(terms) = problem.whole_column(column) {
+        return Ok(only_row(terms));
+    }
     let terms = problem.column_terms(alloc, column)?;
     Ok(only_row(terms.as_slice()))
 }

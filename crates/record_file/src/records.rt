@@ -18,7 +18,8 @@ fn push_read(out: &mut Vec<u8>, read: &PartRead) -> Result<(), AllocError>
     out.extend_from_slice(b"part")?;
     push_part(out, read.part)?;
     push_number(out, read.changes)?;
-    out.extend_from_slice(b"\n")
+    out.push(b'\n')?;
+    Ok(())
 }
 
 /// Appends the line of a transaction at a place.

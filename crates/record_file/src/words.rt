@@ -13,8 +13,8 @@ use problem_model::Part;
 use std::alloc::AllocError;
 use undo_records::{RowFate, Side};
 
-/// Appends a natural number.
-fn push_natural(out: &mut Vec<u8>, number: u128) -> Result<(), AllocError>
+/// Appends the digits of a natural number.
+fn push_digits(out: &mut Vec<u8>, number: u128) -> Result<(), AllocError>
     ensures { OnOk result (out.new.items ≡ out.old.items ++ decimal number) }
 {
     let mut buffer = Buffer::new();
@@ -23,6 +23,18 @@ fn push_natural(out: &mut Vec<u8>, number: u128) -> Result<(), AllocError>
     } else {
         out.extend_from_slice(buffer.format(number).as_bytes())
     }
+}
+
+/// Appends a natural number. Most of them have one digit.
+#[tactic(auto, using(std::proofs::lemmas::Fmt::decimal_digit))]
+fn push_natural(out: &mut Vec<u8>, number: u128) -> Result<(), AllocError>
+    ensures { OnOk result (out.new.items ≡ out.old.items ++ decimal number) }
+{
+    if number < 10 {
+        out.push(b'0' + number as u8)?;
+        return Ok(());
+    }
+    push_digits(out, number)
 }
 
 /// Appends a count.
