@@ -1,0 +1,5 @@
+pub mod Ray
+pub mod RayData
+pub mod Handing
+pub mod Starts
+pub mod Steps
