@@ -1,4 +1,5 @@
 pub mod Weights
+pub mod Netting
 pub mod Weighing
 pub mod Handing
 pub mod Moving

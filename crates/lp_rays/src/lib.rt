@@ -6,6 +6,8 @@
 #![tactic(auto)]
 
 pub mod laws;
+mod nets;
 mod ray;
 
+pub use nets::net;
 pub use ray::Ray;
