@@ -1,0 +1,3 @@
+pub mod StepBack
+pub mod Shifts
+pub mod RayRoom

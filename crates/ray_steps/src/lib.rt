@@ -1,0 +1,11 @@
+//! Rays by records: what one undone record makes of the weights of a ray, and when the numbers that it computes have room.
+//!
+//! `specs/` says both. [`laws`] states that each undoing steps back over its reduction, and that lifts join.
+#![tactic(auto)]
+
+pub mod laws;
+mod shift;
+mod step;
+
+pub use shift::Shift;
+pub use step::RayStep;
