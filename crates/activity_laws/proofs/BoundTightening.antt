@@ -1,5 +1,5 @@
 -- K8.
-use Rattle.std.proofs.Common.{◌≡◌, ◌≢◌, ◌⊎◌, inl, inr, ℕ, suc, ◌<◌, arith, length, Bool, true, false, not, ◌&&◌, List, [], ◌∷◌, map, Option, Some, None, Result, Ok, Err, refl, sym, ap, ap₂, ◌∙◌, subst}
+use Rattle.std.proofs.Common.{◌≡◌, ◌≢◌, ◌⊎◌, inl, inr, ℕ, suc, ◌<◌, arith, length, Bool, true, false, not, List, [], ◌∷◌, map, Option, Some, None, Result, Ok, Err, refl, sym, ap, ap₂, ◌∙◌, subst}
 use Rattle.std.specs.Prelude.{if◌then◌else◌}
 use Rattle.std.specs.List.{All, Contains}
 use Rattle.std.proofs.lemmas.Bool.{and_parts, cases_eq, eq-eqb, ne_eqb}
@@ -54,6 +54,10 @@ use Rattle.rule_words.proofs.Coefficients.{coefficient_in_row, end_live}
 use Rattle.rule_words.proofs.EndTestsSay.{not_true}
 use Rattle.rule_words.proofs.Named.{ids_on, lives, nothing, one_on, one_sided}
 use Rattle.edit_laws.proofs.Reducing.{by_edits, pairs_by_edits}
+use Rattle.ray_steps.proofs.Records as ray
+use Rattle.rule_words.proofs.RaysBack.{rays_by_edits}
+use Rattle.lp_rays.specs.Ray.{StepsBack}
+use Rattle.ray_steps.specs.StepBack.{weighed_in}
 use Rattle.row_spans.specs.declared.span.Extreme.TheVariants.{Least, Greatest}
 use Rattle.row_spans.specs.declared.span.Span.{Span}
 use Rattle.row_spans.specs.Exact.{fits, if_room, sum_fits}
@@ -237,6 +241,10 @@ module _ (p : Sparse) (i j : ℕ) (s : IsSparse p) (live : (row_at p i).live ≡
   lower_pairs b = pairs_by_edits p (edits p i j Lower) (lower_bound_tightened M i j) (undone_pair (record_of p i j Lower)) s ((column_on, solid), tt) (lower_set b)
       (subst (λ o. ReducesPairs Min M (lower_bound_tightened M i j) (undone_pair (kept Lower o))) low_shown (tightened_lower_pair M i j (row_entries p i) (is_tighter_lower b) (row_dense p i live)))
 
+  lower_rays : IsMadeBetter Lower (bounds_at p j).lower (new_bound p i j Lower) → StepsBack M (shown (committed p (edits p i j Lower))) (weighed_in (record_of p i j Lower) (shown (committed p (edits p i j Lower))))
+  lower_rays b = rays_by_edits p (edits p i j Lower) (lower_bound_tightened M i j) (record_of p i j Lower) s ((column_on, solid), tt) (lower_set b)
+      (ray.lower_bound_tightening false false M i j (row_entries p i) (record { row = row_inside p i live; column = column_inside p j column_on; entry = entry; number = b.bound; implied = lower_is b.bound b.made }) (row_dense p i live))
+
   is_tighter_upper : IsMadeBetter Upper (bounds_at p j).upper (new_bound p i j Upper) → IsUpperBoundTightening M i j
   is_tighter_upper b = record {
     row = row_inside p i live;
@@ -252,12 +260,17 @@ module _ (p : Sparse) (i j : ℕ) (s : IsSparse p) (live : (row_at p i).live ≡
   upper_pairs b = pairs_by_edits p (edits p i j Upper) (upper_bound_tightened M i j) (undone_pair (record_of p i j Upper)) s ((column_on, solid), tt) (upper_set b)
       (subst (λ o. ReducesPairs Min M (upper_bound_tightened M i j) (undone_pair (kept Upper o))) high_shown (tightened_upper_pair M i j (row_entries p i) (is_tighter_upper b) (row_dense p i live)))
 
+  upper_rays : IsMadeBetter Upper (bounds_at p j).upper (new_bound p i j Upper) → StepsBack M (shown (committed p (edits p i j Upper))) (weighed_in (record_of p i j Upper) (shown (committed p (edits p i j Upper))))
+  upper_rays b = rays_by_edits p (edits p i j Upper) (upper_bound_tightened M i j) (record_of p i j Upper) s ((column_on, solid), tt) (upper_set b)
+      (ray.upper_bound_tightening false false M i j (row_entries p i) (record { row = row_inside p i live; column = column_inside p j column_on; entry = entry; number = b.bound; implied = upper_is b.bound b.made }) (row_dense p i live))
+
   owes_by : (side : Side) → is_better side (old_bound side (bounds_at p j).lower (bounds_at p j).upper) (new_bound p i j side) ≡ true → Owes p (edits p i j side) (record_of p i j side)
   owes_by Lower e = let b = better_is Lower (bounds_at p j).lower (new_bound p i j Lower) e in record {
     allowed = ((column_on, solid), tt);
     ordered = tt;
     reduces = by_edits p (edits p i j Lower) (lower_bound_tightened M i j) (λ x. x) zero_ℚ s ((column_on, solid), tt) (lower_set b) nothing (lower_bound_implied Min M i j (is_tighter_lower b));
     pairs = λ continuous. lower_pairs b;
+    rays = λ continuous. lower_rays b;
     sided = λ numbers h. one_sided (SetBounds j (new_bound p i j Lower) (bounds_at p j).upper) tt;
     sound = (row_inside p i live, column_inside p j column_on, row_entries-ascend p i s, named);
     names = (one_on p.matrix.rows i live, named_on);
@@ -268,6 +281,7 @@ module _ (p : Sparse) (i j : ℕ) (s : IsSparse p) (live : (row_at p i).live ≡
     ordered = tt;
     reduces = by_edits p (edits p i j Upper) (upper_bound_tightened M i j) (λ x. x) zero_ℚ s ((column_on, solid), tt) (upper_set b) nothing (upper_bound_implied Min M i j (is_tighter_upper b));
     pairs = λ continuous. upper_pairs b;
+    rays = λ continuous. upper_rays b;
     sided = λ numbers h. one_sided (SetBounds j (bounds_at p j).lower (new_bound p i j Upper)) tt;
     sound = (row_inside p i live, column_inside p j column_on, row_entries-ascend p i s, named);
     names = (one_on p.matrix.rows i live, named_on);

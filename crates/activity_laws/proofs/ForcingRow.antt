@@ -45,6 +45,8 @@ use Rattle.rule_words.proofs.Coefficients.{coefficient_in_row, end_live}
 use Rattle.rule_words.proofs.EndTestsSay.{not_true}
 use Rattle.rule_words.proofs.Named.{ids_on, nothing, one_on, one_sided}
 use Rattle.edit_laws.proofs.Reducing.{by_edits, pairs_by_edits}
+use Rattle.ray_steps.proofs.Records as ray
+use Rattle.rule_words.proofs.RaysBack.{rays_by_edits}
 use Rattle.row_spans.specs.declared.span.Extreme.{Extreme}
 use Rattle.row_spans.specs.declared.span.Extreme.TheVariants.{Least, Greatest}
 use Rattle.row_spans.specs.Spans.{span_of, spans_of}
@@ -311,6 +313,8 @@ module _ (p : Sparse) (i : ℕ) (s : IsSparse p) (live : (row_at p i).live ≡ t
         (program_greatest p i s live) (adds_on Greatest p i ls) (forced_at_lower_side_keeps (shown p) i (at_lower_side e) Min);
     pairs = λ continuous. pairs_by_edits p (edits_by Greatest p i) (forced_at_lower_side (shown p) i) (undone_pair (record_by Lower p i)) s (allowed_on Greatest p i p ls (row_entries-live p i) (solid_says p ls solid) live)
         (program_greatest p i s live) (forced_lower_pair (shown p) i ls (at_lower_side e) (row_entries-ascend p i s) (row_dense p i live));
+    rays = λ continuous. rays_by_edits p (edits_by Greatest p i) (forced_at_lower_side (shown p) i) (record_by Lower p i) s (allowed_on Greatest p i p ls (row_entries-live p i) (solid_says p ls solid) live)
+        (program_greatest p i s live) (ray.forcing_lower false false (shown p) i ls (at_lower_side e) (row_entries-ascend p i s) (row_dense p i live));
     sided = λ numbers w. sided_on Greatest p i ls;
     sound = (row_inside p i live, row_entries-ascend p i s);
     names = (one_on p.matrix.rows i live, ids_on p.matrix.columns (row_at p i).entries);
@@ -323,6 +327,8 @@ module _ (p : Sparse) (i : ℕ) (s : IsSparse p) (live : (row_at p i).live ≡ t
         (program_least p i s live) (adds_on Least p i ls) (forced_at_upper_side_keeps (shown p) i f Min);
     pairs = λ continuous. pairs_by_edits p (edits_by Least p i) (forced_at_upper_side (shown p) i) (undone_pair (record_by Upper p i)) s (allowed_on Least p i p ls (row_entries-live p i) (solid_says p ls solid) live)
         (program_least p i s live) (forced_upper_pair (shown p) i ls f (row_entries-ascend p i s) (row_dense p i live));
+    rays = λ continuous. rays_by_edits p (edits_by Least p i) (forced_at_upper_side (shown p) i) (record_by Upper p i) s (allowed_on Least p i p ls (row_entries-live p i) (solid_says p ls solid) live)
+        (program_least p i s live) (ray.forcing_upper false false (shown p) i ls f (row_entries-ascend p i s) (row_dense p i live));
     sided = λ numbers w. sided_on Least p i ls;
     sound = (row_inside p i live, row_entries-ascend p i s);
     names = (one_on p.matrix.rows i live, ids_on p.matrix.columns (row_at p i).entries);

@@ -1,5 +1,5 @@
 -- K5.
-use Rattle.std.proofs.Common.{ℕ, Option, refl, sym, subst, ◌&&◌}
+use Rattle.std.proofs.Common.{ℕ, false, Option, refl, sym, subst, ◌&&◌}
 use Rattle.std.proofs.lemmas.Bool.{and_parts}
 use Rattle.rational.specs.Number.{Number, zero_ℚ}
 use Rattle.rational.specs.Ends.{LowBelow, HighAbove}
@@ -19,6 +19,8 @@ use Rattle.rule_words.specs.Owed.{RuleOwes}
 use Rattle.rule_words.proofs.Coefficients.{end_live}
 use Rattle.rule_words.proofs.Named.{none_on, nothing, one_on, one_sided}
 use Rattle.edit_laws.proofs.Reducing.{by_edits, pairs_by_edits}
+use Rattle.ray_steps.proofs.Records as ray
+use Rattle.rule_words.proofs.RaysBack.{rays_by_edits}
 use Rattle.row_spans.specs.Spans.{spans_of}
 use Rattle.activity_laws.specs.Rows.{has_some, keeps_lower, keeps_upper, on_activities}
 use Rattle.activity_laws.specs.RedundantRow.{edits, enabled, is_redundant_row, record_of}
@@ -45,6 +47,7 @@ owes p i s e = let r = said is_redundant_row p i e in record {
   ordered = tt;
   reduces = by_edits p (edits p i) (without_row (shown p) i) (λ x. x) zero_ℚ s (r.live, tt) refl nothing (row_kept Min (shown p) i (shows p i s r));
   pairs = λ continuous. pairs_by_edits p (edits p i) (without_row (shown p) i) (undone_pair (record_of p i)) s (r.live, tt) refl (redundant_row_pair (shown p) i (shows p i s r));
+  rays = λ continuous. rays_by_edits p (edits p i) (without_row (shown p) i) (record_of p i) s (r.live, tt) refl (ray.redundant_row false false (shown p) i (row_inside p i r.live));
   sided = λ numbers h. one_sided (DeleteRow i) tt;
   sound = row_inside p i r.live;
   names = (one_on p.matrix.rows i r.live, none_on p.matrix.columns);

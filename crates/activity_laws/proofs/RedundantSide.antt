@@ -22,6 +22,8 @@ use Rattle.rule_words.proofs.Coefficients.{end_live}
 use Rattle.rule_words.proofs.EndTestsSay.{not_true}
 use Rattle.rule_words.proofs.Named.{none_on, nothing, one_on, one_sided}
 use Rattle.edit_laws.proofs.Reducing.{by_edits, pairs_by_edits}
+use Rattle.ray_steps.proofs.Records as ray
+use Rattle.rule_words.proofs.RaysBack.{rays_by_edits}
 use Rattle.row_spans.specs.Spans.{spans_of}
 use Rattle.activity_laws.specs.Rows.{has_some, keeps_lower, keeps_upper, on_activities}
 use Rattle.activity_laws.specs.RedundantSide.{differ, edits, enabled, has_redundant_side, lower_is_kept, record_of, side_dropped}
@@ -72,6 +74,7 @@ module _ (p : Sparse) (i : ℕ) (s : IsSparse p) (live : (row_at p i).live ≡ t
     ordered = tt;
     reduces = by_edits p (SetSides i None u ∷ []) (lower_side_dropped (shown p) i) (λ x. x) zero_ℚ s (live, tt) lower_goes nothing (lower_side_kept Min (shown p) i (shows_lower e));
     pairs = λ continuous. pairs_by_edits p (SetSides i None u ∷ []) (lower_side_dropped (shown p) i) (undone_pair (record_of p i)) s (live, tt) lower_goes (lower_side_pair (shown p) i (shows_lower e));
+    rays = λ continuous. rays_by_edits p (SetSides i None u ∷ []) (lower_side_dropped (shown p) i) (record_of p i) s (live, tt) lower_goes (ray.redundant_lower false false (shown p) i (row_inside p i live));
     sided = λ numbers h. one_sided (SetSides i None u) (sided_above u g);
     sound = row_inside p i live;
     names = (one_on p.matrix.rows i live, none_on p.matrix.columns);
@@ -82,6 +85,7 @@ module _ (p : Sparse) (i : ℕ) (s : IsSparse p) (live : (row_at p i).live ≡ t
     ordered = tt;
     reduces = by_edits p (SetSides i l None ∷ []) (upper_side_dropped (shown p) i) (λ x. x) zero_ℚ s (live, tt) upper_goes nothing (upper_side_kept Min (shown p) i (shows_upper k));
     pairs = λ continuous. pairs_by_edits p (SetSides i l None ∷ []) (upper_side_dropped (shown p) i) (undone_pair (record_of p i)) s (live, tt) upper_goes (upper_side_pair (shown p) i (shows_upper k));
+    rays = λ continuous. rays_by_edits p (SetSides i l None ∷ []) (upper_side_dropped (shown p) i) (record_of p i) s (live, tt) upper_goes (ray.redundant_upper false false (shown p) i (row_inside p i live));
     sided = λ numbers h. one_sided (SetSides i l None) (sided_below l f);
     sound = row_inside p i live;
     names = (one_on p.matrix.rows i live, none_on p.matrix.columns);

@@ -55,6 +55,10 @@ use Rattle.problem_laws.proofs.Entries.{column_entries-ascend, column_entries-li
 use Rattle.problem_laws.proofs.Terms.{ascends-filter, dense-absent, dense-cons_other, dense-cons_same, dense-without, has-without, terms_tell}
 use Rattle.edit_laws.proofs.Lists.{allowed_more}
 use Rattle.edit_laws.proofs.Reducing.{by_edits, pairs_by_edits}
+use Rattle.ray_steps.proofs.Records as ray
+use Rattle.rule_words.proofs.RaysBack.{rays_by_edits}
+use Rattle.lp_rays.specs.Ray.{StepsBack}
+use Rattle.ray_steps.specs.StepBack.{weighed_in}
 use Rattle.edit_laws.proofs.Sweeps.{sweep, sweep_bounds, programs_more, added_more, sweep_matrix, sweep_allowed, sweep_added, sweep_flags, sweep_no_entries, sweep_sided, sweep_only, sweep_lower, sweep_upper}
 use Rattle.row_spans.specs.Exact.{exact_quotient, if_room}
 use Rattle.rule_words.specs.Owed.{Owes}
@@ -395,6 +399,10 @@ module _ (p : Sparse) (s : IsSparse p) (i j k : ℕ) (f : SaidOf p i j k) where
   pairs = pairs_by_edits p (edits p i j k) (doubleton_equation_substituted M i j k r) (undone_pair (record_of p i j k)) s allowed shows
       (subst (λ (u : Undo). ReducesPairs Min M (doubleton_equation_substituted M i j k r) (undone_pair u)) record_is (equation_pair M i j k r ts shows_doubleton_equation terms_ascend terms_have))
 
+  rays : StepsBack M (shown (committed p (edits p i j k))) (weighed_in (record_of p i j k) (shown (committed p (edits p i j k))))
+  rays = rays_by_edits p (edits p i j k) (doubleton_equation_substituted M i j k r) (record_of p i j k) s allowed shows
+      (subst (λ (u : Undo). StepsBack M (doubleton_equation_substituted M i j k r) (weighed_in u (doubleton_equation_substituted M i j k r))) record_is (ray.doubleton_equation M i j k r ts shows_doubleton_equation terms_ascend terms_have))
+
   -- ---- the rest of what is owed
   joined_sided : (c : Number) (l u : Option Number) (o : Number) → All EditIsSided (column_joined i j k c l u o)
   joined_sided c l u o = All-cons EditIsSided (SetCost k c) (SetBounds k l u ∷ AddOffset o ∷ DeleteRow i ∷ DeleteColumn j ∷ []) tt
@@ -422,6 +430,7 @@ module _ (p : Sparse) (s : IsSparse p) (i j k : ℕ) (f : SaidOf p i j k) where
     ordered = set_first k (new_entry p k (factor p i j k)) ts (sides ++ joined) (sweep_no_entries low high ts joined tt);
     reduces = reduces;
     pairs = λ continuous. pairs;
+    rays = λ continuous. rays;
     sided = sided;
     sound = ((row_inside p i f.row_on, column_inside p j f.first_on, pair.first), (column_inside p j f.first_on, column_inside p k f.second_on, pair.apart), pair.second, (terms_ascend, has-without i (column_entries p j)));
     names = (rows_on, columns_on);

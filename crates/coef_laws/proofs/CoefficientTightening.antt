@@ -1,5 +1,5 @@
 -- K9.
-use Rattle.std.proofs.Common.{◌≡◌, ◌≢◌, T, not, ℕ, Bool, true, false, ◌&&◌, pos, List, [], ◌∷◌, Option, Some, None, is_some, Result, Ok, Err, refl, sym, ap, ap₂, ◌∙◌, subst}
+use Rattle.std.proofs.Common.{◌≡◌, ◌≢◌, T, not, ℕ, Bool, true, false, true≢false, ◌&&◌, pos, List, [], ◌∷◌, Option, Some, None, is_some, Result, Ok, Err, refl, sym, ap, ap₂, ◌∙◌, subst}
 use Rattle.std.specs.Prelude.{if◌then◌else◌}
 use Rattle.std.proofs.lemmas.Bool.{and_parts}
 use Rattle.rational.specs.Number.{Number, rational, zero_ℚ, one_ℚ, neg_ℚ, ◌+ℚ◌, ◌-ℚ◌, ◌*ℚ◌}
@@ -338,6 +338,7 @@ module _ (p : Sparse) (i j : ℕ) (s : IsSparse p) (live : (row_at p i).live ≡
     ordered = tt;
     reduces = by_edits p (edits_with c e) (theory.coefficient_tightened M i j f numbers_there) (λ y. y) zero_ℚ s (allowed c e) refl nothing_twice (coefficient_tightening M i j f numbers_there enabled_there Min);
     pairs = λ continuous. pairs_by_edits p (edits_with c e) (theory.coefficient_tightened M i j f numbers_there) (undone_pair (record_of p i j)) s (allowed c e) refl (coefficient_pair M i j f numbers_there enabled_there);
+    rays = λ continuous. absurd (true≢false (sym enabled_there.whole ∙ (continuous j (column_inside p j column_on)).0));
     sided = λ numbers h. two_sided (SetEntry i j c) (SetSides i (theory.lower_alone f e) (theory.upper_alone f e)) tt (one_sided_ends f e);
     sound = (row_inside p i live, column_inside p j column_on);
     names = (one_on p.matrix.rows i live, one_on p.matrix.columns j column_on);

@@ -33,6 +33,9 @@ use Rattle.problem_model.specs.Problems.{row_at, column_at, sides_at, bounds_at,
 use Rattle.problem_model.specs.Showing.{shown}
 use Rattle.problem_model.specs.Sparse.{Sparse}
 use Rattle.rule_words.specs.Owed.{Owes}
+use Rattle.lp_rays.specs.Ray.{StepsBack}
+use Rattle.ray_steps.specs.StepBack.{weighed_in}
+use Rattle.ray_steps.proofs.Records as ray
 use Rattle.rule_words.proofs.Coefficients.{end_live}
 use Rattle.rule_words.proofs.EndTestsSay.{not_true}
 use Rattle.rule_words.proofs.Named.{nothing_twice, one_on, two_sided}
@@ -213,6 +216,10 @@ module _ (p : Sparse) (s : IsSparse p) (j i : ℕ) (f : Said p j i) where
   pairs = subst (λ (u : Undo). ReducesPairs Min M (free_column_singleton_deleted M j i) (undone_pair u)) record_is
       (free_pair M j i w (others_of p j i) free (others_sound p s j i there).0 (others_have p s j i there))
 
+  rays : StepsBack M (free_column_singleton_deleted M j i) (weighed_in (record_of p j i) (free_column_singleton_deleted M j i))
+  rays = subst (λ (u : Undo). StepsBack M (free_column_singleton_deleted M j i) (weighed_in u (free_column_singleton_deleted M j i))) record_is
+      (ray.free_column_singleton false false M j i w (others_of p j i) free.singleton)
+
   owes_free : Owes p (with_costs p s j i there (gain_of p j i) (DeleteColumn j ∷ DeleteRow i ∷ [])) (record_of p j i)
   owes_free = owes_with p s j i there (gain_of p j i) (DeleteColumn j ∷ DeleteRow i ∷ []) (free_column_singleton_deleted M j i) (record_of p j i) (record {
     allowed = out_allowed p s j i there;
@@ -223,6 +230,7 @@ module _ (p : Sparse) (s : IsSparse p) (j i : ℕ) (f : Said p j i) where
     reduces = subst (λ (k : Number). Reduces Min M (free_column_singleton_deleted M j i) (undone (record_of p j i)) k) offset_is
         (subst (λ (undo : Vector → Vector). Reduces Min M (free_column_singleton_deleted M j i) undo (free_column_singleton_offset M j i w)) undone_is (free_column_singleton_reduces M j i w free));
     pairs = pairs;
+    rays = rays;
     sound = (entry_sound p s j i there, others_sound p s j i there);
     names = (one_on p.matrix.rows i f.row_live, named_on p s j i there);
     deletes = refl;

@@ -40,6 +40,9 @@ use Rattle.problem_model.specs.Problems.{row_at, column_at, sides_at, bounds_at,
 use Rattle.problem_model.specs.Showing.{shown}
 use Rattle.problem_model.specs.Sparse.{Sparse}
 use Rattle.rule_words.specs.Owed.{Owes}
+use Rattle.lp_rays.specs.Ray.{StepsBack}
+use Rattle.ray_steps.specs.StepBack.{weighed_in}
+use Rattle.ray_steps.proofs.Records as ray
 use Rattle.rule_words.proofs.Coefficients.{end_live}
 use Rattle.rule_words.proofs.EndTestsSay.{fixed_ends, not_true}
 use Rattle.rule_words.proofs.Named.{nothing_twice, one_on, two_sided}
@@ -243,6 +246,12 @@ module _ (p : Sparse) (s : IsSparse p) (j i : ℕ) (f : SaidAt p j i) where
   dropped_pairs free = subst (λ (w : Undo). ReducesPairs Min M (slack_row_deleted M j i) (undone_pair w)) (record_is Dropped)
       (slack_dropped M j i others free (others_sound p s j i there).0 (others_have p s j i there))
 
+  kept_rays : StepsBack M (slack_column_singleton_deleted M j i) (weighed_in (record_by p j i Kept) (slack_column_singleton_deleted M j i))
+  kept_rays = subst (λ (w : Undo). StepsBack M (slack_column_singleton_deleted M j i) (weighed_in w (slack_column_singleton_deleted M j i))) (record_is Kept) (ray.slack_kept false false M j i others slack.singleton)
+
+  dropped_rays : StepsBack M (slack_row_deleted M j i) (weighed_in (record_by p j i Dropped) (slack_row_deleted M j i))
+  dropped_rays = subst (λ (w : Undo). StepsBack M (slack_row_deleted M j i) (weighed_in w (slack_row_deleted M j i))) (record_is Dropped) (ray.slack_dropped false false M j i others slack.singleton)
+
   left_free : new_lower p j i ≡ None → new_upper p j i ≡ None → IsRowLeftFree M j i
   left_free e g = record { slack = slack; lower = sym moved_lower_is ∙ e; upper = sym moved_upper_is ∙ g }
 
@@ -255,6 +264,7 @@ module _ (p : Sparse) (s : IsSparse p) (j i : ℕ) (f : SaidAt p j i) where
     program = ap₂ (λ (x y : Option Number). programs_edited (costs_moved p s j i there) (SetSides i x y ∷ DeleteColumn j ∷ [])) (sym e) (sym g) ∙ kept_is;
     reduces = in_words (slack_column_singleton_deleted M j i) Kept (slack_kept_reduces M j i slack Min);
     pairs = kept_pairs;
+    rays = kept_rays;
     sound = (entry_sound p s j i there, others_sound p s j i there);
     names = (one_on p.matrix.rows i f.row_live, named_on p s j i there);
     deletes = refl;
@@ -269,6 +279,7 @@ module _ (p : Sparse) (s : IsSparse p) (j i : ℕ) (f : SaidAt p j i) where
     program = dropped_is;
     reduces = in_words (slack_row_deleted M j i) Dropped (slack_dropped_reduces M j i (left_free e g) Min);
     pairs = dropped_pairs (left_free e g);
+    rays = dropped_rays;
     sound = (entry_sound p s j i there, others_sound p s j i there);
     names = (one_on p.matrix.rows i f.row_live, named_on p s j i there);
     deletes = refl;

@@ -51,6 +51,9 @@ use Rattle.rule_words.proofs.EndTestsSay.{not_true}
 use Rattle.rule_words.proofs.Named.{lives, one_on}
 use Rattle.edit_laws.proofs.Lists.{allowed_more, entries_first_none}
 use Rattle.edit_laws.proofs.Reducing.{by_edits, pairs_by_edits}
+use Rattle.rule_words.proofs.RaysBack.{rays_by_edits}
+use Rattle.lp_rays.specs.Ray.{StepsBack}
+use Rattle.ray_steps.specs.StepBack.{weighed_in}
 use Rattle.edit_laws.proofs.Sweeps.{added_more, programs_more}
 use Rattle.column_laws.specs.SoleEntry.{cost_less, costs_less, entry_of, is_sole_at, others_of, price_of}
 use Rattle.rule_words.proofs.Solid.{gap_solid}
@@ -278,6 +281,7 @@ module _ (p : Sparse) (s : IsSparse p) (j i : ℕ) (f : IsSoleEntry p j i) where
     pub program : programs_edited costs_moved es ≡ R
     pub reduces : Reduces Min M R (undone u) gain
     pub pairs : ReducesPairs Min M R (undone_pair u)
+    pub rays : StepsBack M R (weighed_in u R)
     pub sound : IsSound (length p.matrix.rows) n u
     pub names : NamesLive (flags_of p) u
     pub deletes : all_flags_edited (flags_of p) es ≡ after u (flags_of p)
@@ -288,6 +292,7 @@ module _ (p : Sparse) (s : IsSparse p) (j i : ℕ) (f : IsSoleEntry p j i) where
     ordered = entries_first_none (with_costs gain es) (less_no_entries p t others (AddOffset gain ∷ es) h.no_entries);
     reduces = by_edits p (with_costs gain es) R (undone u) gain s (allowed_with gain es h.allowed) (program_is gain es ∙ h.program) (adds gain es h.nothing_added) h.reduces;
     pairs = λ continuous. pairs_by_edits p (with_costs gain es) R (undone_pair u) s (allowed_with gain es h.allowed) (program_is gain es ∙ h.program) h.pairs;
+    rays = λ continuous. rays_by_edits p (with_costs gain es) R u s (allowed_with gain es h.allowed) (program_is gain es ∙ h.program) h.rays;
     sided = λ numbers w. less_sided p t others (AddOffset gain ∷ es) (All-cons EditIsSided (AddOffset gain) es tt h.sided);
     sound = h.sound;
     names = h.names;

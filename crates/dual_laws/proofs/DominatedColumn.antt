@@ -37,6 +37,8 @@ use Rattle.rule_words.proofs.Coefficients.{end_live}
 use Rattle.rule_words.proofs.EndTestsSay.{not_true, apart_ends, Finite, finite_end}
 use Rattle.rule_words.proofs.Named.{lives, one_on, one_sided, nothing}
 use Rattle.edit_laws.proofs.Reducing.{by_edits, pairs_by_edits}
+use Rattle.ray_steps.proofs.Records as ray
+use Rattle.rule_words.proofs.RaysBack.{rays_by_edits}
 use Rattle.dual_laws.specs.DominatedColumn.{all_take_over, enabled, edits, is_dominated_column, record_of, rows_of_both, share, takes_over}
 use Rattle.dual_laws.specs.Locks.{are_uncrossed}
 use Rattle.dual_laws.proofs.Locks.{column_has, cost_live, none_is}
@@ -255,6 +257,8 @@ owes p i j k s e = let r = said p i j k e in let w : Number = unwrap_or (bounds_
       (ap (λ (o : Option Number). with_bounds (shown p) k o o) r.place.value) nothing (dominated_column (shown p) j k w (shows p s i j k r));
   pairs = λ continuous. pairs_by_edits p (edits p k) (with_bounds (shown p) k (Some w) (Some w)) (undone_pair (record_of i j k)) s ((r.second_live, r.second_solid), tt)
       (ap (λ (o : Option Number). with_bounds (shown p) k o o) r.place.value) (dominated_column_pair (shown p) i j k w (shows p s i j k r));
+  rays = λ continuous. rays_by_edits p (edits p k) (with_bounds (shown p) k (Some w) (Some w)) (record_of i j k) s ((r.second_live, r.second_solid), tt)
+      (ap (λ (o : Option Number). with_bounds (shown p) k o o) r.place.value) (ray.dominated false false (shown p) i j k w (shows p s i j k r));
   sided = λ numbers h. one_sided (SetBounds k (bounds_at p k).lower (bounds_at p k).lower) tt;
   sound = (row_inside p i r.row_live, (column_inside p j r.first_live, column_inside p k r.second_live, r.differ));
   names = (one_on p.matrix.rows i r.row_live, two_on p.matrix.columns j k r.first_live r.second_live);

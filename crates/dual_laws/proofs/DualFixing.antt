@@ -28,6 +28,8 @@ use Rattle.rule_words.proofs.Coefficients.{end_live}
 use Rattle.rule_words.proofs.EndTestsSay.{not_true, apart_ends, Finite, finite_end}
 use Rattle.rule_words.proofs.Named.{one_on, none_on, one_sided, nothing}
 use Rattle.edit_laws.proofs.Reducing.{by_edits, pairs_by_edits}
+use Rattle.ray_steps.proofs.Records as ray
+use Rattle.rule_words.proofs.RaysBack.{rays_by_edits}
 use Rattle.dual_laws.specs.DualFixing.{goes_down, goes_up, is_dual_fixing, enabled, end_kept, place_of, edits, record_of}
 use Rattle.dual_laws.specs.Locks.{all_take, are_uncrossed, sides_on, takes_down, takes_up}
 use Rattle.dual_laws.proofs.Locks.{cost_live, no_down_lock, no_up_lock}
@@ -134,6 +136,8 @@ owes p j s e = let r = said p j e in let w : Number = unwrap_or (place_of p j) z
       (ap (λ (o : Option Number). with_bounds (shown p) j o o) r.place) nothing (dual_fixing (shown p) j w (shows p j s r));
   pairs = λ continuous. pairs_by_edits p (edits p j) (with_bounds (shown p) j (Some w) (Some w)) (undone_pair (record_of p j)) s ((r.live, r.solid), tt)
       (ap (λ (o : Option Number). with_bounds (shown p) j o o) r.place) (cost_pair (shown p) j w (shows p j s r));
+  rays = λ continuous. rays_by_edits p (edits p j) (with_bounds (shown p) j (Some w) (Some w)) (record_of p j) s ((r.live, r.solid), tt)
+      (ap (λ (o : Option Number). with_bounds (shown p) j o o) r.place) (ray.dual_fixing false false (shown p) j w (shows p j s r));
   sided = λ numbers h. one_sided (SetBounds j (place_of p j) (place_of p j)) tt;
   sound = column_inside p j r.live;
   names = (none_on p.matrix.rows, one_on p.matrix.columns j r.live);

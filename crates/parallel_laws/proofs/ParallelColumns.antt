@@ -1,5 +1,5 @@
 -- K16.
-use Rattle.std.proofs.Common.{◌≡◌, ◌≢◌, ◌⊎◌, inl, inr, ℕ, Bool, true, false, not, ◌&&◌, ◌||◌, nat_eq, List, [], ◌∷◌, Option, Some, None, refl, sym, ap, ap₂, ◌∙◌, subst}
+use Rattle.std.proofs.Common.{◌≡◌, ◌≢◌, ◌⊎◌, inl, inr, ℕ, Bool, true, false, not, ◌&&◌, ◌||◌, nat_eq, List, [], ◌∷◌, Option, Some, None, refl, sym, ap, ◌∙◌, subst}
 use Rattle.std.specs.Prelude.{IfSome, if◌then◌else◌}
 use Rattle.std.specs.List.{All}
 use Rattle.std.proofs.lemmas.Bool.{and_parts, eq-eqb}
@@ -41,14 +41,18 @@ use Rattle.problem_model.specs.EditedPrograms.{programs_edited}
 use Rattle.problem_model.specs.Offsets.{added_by}
 use Rattle.problem_model.specs.Problems.{IsSparse, bounds_at, column_at, column_entries, cost_at}
 use Rattle.problem_model.specs.Raised.{committed}
-use Rattle.problem_model.specs.Showing.{coefficient_of, end_if, shown}
+use Rattle.problem_model.specs.Showing.{coefficient_of, shown}
 use Rattle.problem_model.specs.Sparse.{Sparse}
 use Rattle.problem_laws.proofs.AtIds.{column_inside}
 use Rattle.problem_laws.proofs.Entries.{column_entries-ascend}
 use Rattle.edit_laws.proofs.Reducing.{by_edits, pairs_by_edits}
+use Rattle.ray_steps.proofs.Records as ray
+use Rattle.rule_words.proofs.RaysBack.{rays_by_edits}
+use Rattle.lp_rays.specs.Ray.{StepsBack}
+use Rattle.ray_steps.specs.StepBack.{weighed_in}
 use Rattle.rule_words.specs.Entries.{has_none}
 use Rattle.rule_words.specs.Owed.{Owes}
-use Rattle.rule_words.proofs.Coefficients.{coefficient_in_column, end_live}
+use Rattle.rule_words.proofs.Coefficients.{coefficient_in_column}
 use Rattle.rule_words.proofs.EndTestsSay.{not_true}
 use Rattle.rule_words.specs.Multiples.{are_times, factor_of}
 use Rattle.rule_words.proofs.Multiples.{times_at, times_some}
@@ -313,6 +317,10 @@ module _ (p : Sparse) (sp : IsSparse p) (j k : ℕ) (f : SaidAt p j k) where
   pairs = pairs_by_edits p (edits p j k) (parallel_columns_joined M j k q) (undone_pair (record_of p j k)) sp ((f.second_live, f.second_solid), (f.first_live, tt)) shows
       (subst (λ (u : Undo). ReducesPairs Min M (parallel_columns_joined M j k q) (undone_pair u)) record_is (parallel_columns_pair M j k q are_parallel))
 
+  rays : StepsBack M (shown (committed p (edits p j k))) (weighed_in (record_of p j k) (shown (committed p (edits p j k))))
+  rays = rays_by_edits p (edits p j k) (parallel_columns_joined M j k q) (record_of p j k) sp ((f.second_live, f.second_solid), (f.first_live, tt)) shows
+      (subst (λ (u : Undo). StepsBack M (parallel_columns_joined M j k q) (weighed_in u (parallel_columns_joined M j k q))) record_is (ray.parallel_columns false false M j k q are_parallel))
+
   columns_on : All (λ c. is_on (lives p.matrix.columns) c ≡ true) (j ∷ k ∷ [])
   columns_on = All-cons (λ c. is_on (lives p.matrix.columns) c ≡ true) j (k ∷ [])
       (All-head (λ c. is_on (lives p.matrix.columns) c ≡ true) j [] (one_on p.matrix.columns j f.first_live)) (one_on p.matrix.columns k f.second_live)
@@ -323,6 +331,7 @@ module _ (p : Sparse) (sp : IsSparse p) (j k : ℕ) (f : SaidAt p j k) where
     ordered = tt;
     reduces = reduces;
     pairs = λ continuous. pairs;
+    rays = λ continuous. rays;
     sided = λ numbers h. two_sided (SetBounds k (joined_lower p j k) (joined_upper p j k)) (DeleteColumn j) tt tt;
     sound = ((column_inside p j f.first_live, column_inside p k f.second_live, f.differ), factor_some);
     names = (none_on p.matrix.rows, columns_on);

@@ -37,6 +37,10 @@ use Rattle.problem_model.specs.Writing.{KeptSides}
 use Rattle.problem_laws.proofs.AtIds.{row_inside}
 use Rattle.problem_laws.proofs.Entries.{row_entries-ascend}
 use Rattle.edit_laws.proofs.Reducing.{by_edits, pairs_by_edits}
+use Rattle.ray_steps.proofs.Records as ray
+use Rattle.rule_words.proofs.RaysBack.{rays_by_edits}
+use Rattle.lp_rays.specs.Ray.{StepsBack}
+use Rattle.ray_steps.specs.StepBack.{weighed_in}
 use Rattle.rule_words.specs.Entries.{has_none}
 use Rattle.rule_words.specs.Owed.{Owes}
 use Rattle.rule_words.proofs.Coefficients.{coefficient_in_row, end_live}
@@ -161,6 +165,10 @@ module _ (p : Sparse) (sp : IsSparse p) (i k : ℕ) (f : SaidAt p i k) where
       (subst (λ (u : Undo). ReducesPairs Min M (parallel_rows_joined M i k q) (undone_pair u)) record_is
       (parallel_rows_pair M i k q us are_parallel (row_entries-ascend p k sp) (λ z j. sym (in_row k j f.second_live) z)))
 
+  rays : StepsBack M (shown (committed p (edits p i k))) (weighed_in (record_of p i k) (shown (committed p (edits p i k))))
+  rays = rays_by_edits p (edits p i k) (parallel_rows_joined M i k q) (record_of p i k) sp allowed joined
+      (subst (λ (u : Undo). StepsBack M (parallel_rows_joined M i k q) (weighed_in u (parallel_rows_joined M i k q))) record_is (ray.parallel_rows M i k q us are_parallel))
+
   -- ---- what the record names
   rows_on : All (λ r. is_on (lives p.matrix.rows) r ≡ true) (i ∷ k ∷ [])
   rows_on = All-cons (λ r. is_on (lives p.matrix.rows) r ≡ true) i (k ∷ [])
@@ -172,6 +180,7 @@ module _ (p : Sparse) (sp : IsSparse p) (i k : ℕ) (f : SaidAt p i k) where
     ordered = tt;
     reduces = reduces;
     pairs = λ continuous. pairs;
+    rays = λ continuous. rays;
     sided = λ numbers h. two_sided (SetSides k (joined_lower p i k) (joined_upper p i k)) (DeleteRow i)
         (met_sided numbers (sides_at p k).lower (sides_at p k).upper (lower_over q (sides_at p i).lower (sides_at p i).upper) (upper_over q (sides_at p i).lower (sides_at p i).upper) (h.rows k f.second_live)) tt;
     sound = ((row_inside p i f.first_live, row_inside p k f.second_live, f.differ), factor_some, row_entries-ascend p k sp);

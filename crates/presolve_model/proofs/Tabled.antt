@@ -27,6 +27,8 @@ use Rattle.edit_laws.proofs.Raising.{committed_sparse, counted_committed}
 use Rattle.edit_laws.proofs.Reducing.{continuous_committed}
 use Rattle.rule_words.specs.Owed.{Owes}
 use Rattle.presolve_model.specs.declared.instance.Reduction.{Reduction}
+use Rattle.lp_rays.specs.Ray.{StepsBack}
+use Rattle.ray_steps.specs.StepBack.{weighed_in}
 use Rattle.presolve_model.specs.declared.instance.Instance.{Instance}
 use Rattle.presolve_model.specs.declared.instance.Instance.TheVariants as at
 use Rattle.presolve_model.specs.Tables.{heads, more, holds, edits, record_of}
@@ -54,6 +56,9 @@ module _ (p : Sparse) (r : Reduction) where
 
     pub pairs_changed : Continuous (shown p) → ReducesPairs Min (shown p) (shown (changed r p)) (undone_pair (record_of r p))
     pairs_changed = owed.pairs
+
+    pub rays_changed : Continuous (shown p) → StepsBack (shown p) (shown (changed r p)) (weighed_in (record_of r p) (shown (changed r p)))
+    rays_changed = owed.rays
 
     pub continuous_changed : Continuous (shown p) → Continuous (shown (changed r p))
     continuous_changed = continuous_committed p (edits r p) s owed.allowed

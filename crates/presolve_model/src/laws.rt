@@ -8,6 +8,8 @@ ghost use Rattle.lp_model.specs.declared.program.Sense.{Sense};
 ghost use Rattle.lp_model.specs.declared.program.Sense.TheVariants.{Min};
 ghost use Rattle.lp_model.specs.LinearProgram.{LinearProgram};
 ghost use Rattle.lp_model.specs.Optimality.{Continuous};
+ghost use Rattle.lp_rays.specs.Ray.{StepsBack};
+ghost use Rattle.ray_steps.specs.StepBack.{weighed_in};
 ghost use Rattle.lp_model.specs.Reductions.{Reduces, ReducesPairs};
 ghost use Rattle.lp_model.specs.Vectors.{Vector};
 ghost use Rattle.lp_model.specs.Turning.{minimizing};
@@ -57,6 +59,12 @@ pub fn reductions_reduce()
 pub fn reductions_keep_pairs()
     ensures pairs { (p : Sparse) (r : Reduction) → IsSparse p → enabled_on p (at.Reduction r) ≡ true → Continuous (shown p) → ReducesPairs Min (shown p) (shown (changed r p)) (undone_pair (record_of r p)) }
     ensures continuous { (p : Sparse) (r : Reduction) → IsSparse p → enabled_on p (at.Reduction r) ≡ true → Continuous (shown p) → Continuous (shown (changed r p)) }
+{}
+
+/// Where no column is whole, what undoing the record of a reduction that is enabled makes of the weights of a ray has their total, and is one of
+/// the problem before.
+pub fn reductions_take_rays_back()
+    ensures { (p : Sparse) (r : Reduction) → IsSparse p → enabled_on p (at.Reduction r) ≡ true → Continuous (shown p) → StepsBack (shown p) (shown (changed r p)) (weighed_in (record_of r p) (shown (changed r p))) }
 {}
 
 /// Each reduction that is enabled keeps what is asked of a problem; and that it can be written, where its numbers have room and can be.

@@ -5,11 +5,13 @@ use Rattle.lp_model.specs.declared.program.Sense.TheVariants.{Min}
 use Rattle.lp_model.specs.LinearProgram.{LinearProgram}
 use Rattle.lp_model.specs.Optimality.{Continuous}
 use Rattle.lp_model.specs.Reductions.{Reduces, ReducesPairs}
+use Rattle.lp_rays.specs.Ray.{StepsBack}
 use Rattle.undo_pairs.specs.Undo.{Undo}
 use Rattle.undo_pairs.specs.Lift.{undone}
 use Rattle.undo_pairs.specs.Sound.{IsSound}
 use Rattle.undo_pairs.specs.Walk.{NamesLive, after}
 use Rattle.undo_pairs.specs.LiftPair.{undone_pair}
+use Rattle.ray_steps.specs.StepBack.{weighed_in}
 use Rattle.problem_model.specs.Flags.{flags_of}
 use Rattle.problem_model.specs.Problems.{IsSparse}
 use Rattle.problem_model.specs.Showing.{shown}
@@ -29,6 +31,7 @@ pub record Owes (p : Sparse) (es : List Edit) (u : Undo) : Type 0 where
   pub reduces : Reduces Min (shown p) (shown (committed p es)) (undone u) (added_by es)
   -- where no column is whole
   pub pairs : Continuous (shown p) → ReducesPairs Min (shown p) (shown (committed p es)) (undone_pair u)
+  pub rays : Continuous (shown p) → StepsBack (shown p) (shown (committed p es)) (weighed_in u (shown (committed p es)))
   pub sided : (numbers : Numbers) → IsWritable numbers p → All EditIsSided es
   pub sound : IsSound (length p.matrix.rows) (length p.matrix.columns) u
   pub names : NamesLive (flags_of p) u

@@ -22,6 +22,8 @@ use Rattle.rule_words.proofs.Coefficients.{zero_either, end_live, coefficient_in
 use Rattle.rule_words.proofs.EndTestsSay.{not_true, apart_ends, Finite, finite_end}
 use Rattle.rule_words.proofs.Named.{one_on, none_on, one_sided, nothing}
 use Rattle.edit_laws.proofs.Reducing.{by_edits, pairs_by_edits}
+use Rattle.ray_steps.proofs.Records as ray
+use Rattle.rule_words.proofs.RaysBack.{rays_by_edits}
 use Rattle.singleton_laws.specs.EmptyColumn.{is_empty_column, enabled, place_of, edits, record_of}
 use Rattle.problem_model.specs.Parts.{bounds_held}
 use Rattle.rule_words.proofs.Solid.{gap_solid, low_shown, high_shown}
@@ -69,6 +71,8 @@ owes p j s e = let r = said p j e in let v : Number = unwrap_or (place_of p j) z
       (ap (λ (o : Option Number). with_bounds (shown p) j o o) r.place.value) nothing (empty_column (shown p) j v (shows p j s r));
   pairs = λ continuous. pairs_by_edits p (edits p j) (with_bounds (shown p) j (Some v) (Some v)) (undone_pair (record_of p j)) s ((r.live, r.solid), tt)
       (ap (λ (o : Option Number). with_bounds (shown p) j o o) r.place.value) (empty_column_pair (shown p) j v (shows p j s r));
+  rays = λ continuous. rays_by_edits p (edits p j) (with_bounds (shown p) j (Some v) (Some v)) (record_of p j) s ((r.live, r.solid), tt)
+      (ap (λ (o : Option Number). with_bounds (shown p) j o o) r.place.value) (ray.empty_column false false (shown p) j v (shows p j s r));
   sided = λ numbers w. one_sided (SetBounds j (place_of p j) (place_of p j)) tt;
   sound = column_inside p j r.live;
   names = (none_on p.matrix.rows, one_on p.matrix.columns j r.live);

@@ -22,6 +22,8 @@ use Rattle.rule_words.proofs.Coefficients.{zero_either, coefficient_in_row}
 use Rattle.rule_words.proofs.EndTestsSay.{not_true, zero_held}
 use Rattle.rule_words.proofs.Named.{one_on, none_on, one_sided, nothing}
 use Rattle.edit_laws.proofs.Reducing.{by_edits, pairs_by_edits}
+use Rattle.ray_steps.proofs.Records as ray
+use Rattle.rule_words.proofs.RaysBack.{rays_by_edits}
 use Rattle.singleton_laws.specs.EmptyRow.{is_empty_row, enabled, edits, record_of}
 
 -- what the condition says: a live row without live entries, whose sides hold 0
@@ -52,6 +54,7 @@ owes p i s e = let h = said p i e in record {
   ordered = tt;
   reduces = by_edits p (edits p i) (without_row (shown p) i) (λ x. x) zero_ℚ s (h.live, tt) refl nothing (empty_row Min (shown p) i (shows p i h));
   pairs = λ continuous. pairs_by_edits p (edits p i) (without_row (shown p) i) (undone_pair (record_of p i)) s (h.live, tt) refl (empty_row_pair (shown p) i (shows p i h));
+  rays = λ continuous. rays_by_edits p (edits p i) (without_row (shown p) i) (record_of p i) s (h.live, tt) refl (ray.empty_row false false (shown p) i (row_inside p i h.live));
   sided = λ numbers w. one_sided (DeleteRow i) tt;
   sound = row_inside p i h.live;
   names = (one_on p.matrix.rows i h.live, none_on p.matrix.columns);

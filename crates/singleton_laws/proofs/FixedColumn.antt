@@ -47,6 +47,10 @@ use Rattle.edit_laws.proofs.Sweeps.{sweep, programs_more, added_more, sweep_matr
 use Rattle.rule_words.specs.Owed.{RuleOwes}
 use Rattle.singleton_laws.specs.FixedColumn.{is_fixed_column, enabled, value_of, column_out, edits, record_of}
 use Rattle.edit_laws.proofs.Reducing.{by_edits, pairs_by_edits}
+use Rattle.ray_steps.proofs.Records as ray
+use Rattle.rule_words.proofs.RaysBack.{rays_by_edits}
+use Rattle.lp_rays.specs.Ray.{StepsBack}
+use Rattle.ray_steps.specs.StepBack.{weighed_in}
 use Rattle.rule_words.proofs.Named.{one_on, ids_on, two_sided}
 use Rattle.problem_model.specs.Parts.{bounds_held}
 use Rattle.rule_words.proofs.Solid.{low_solid, high_solid, gap_solid}
@@ -150,6 +154,10 @@ module _ (p : Sparse) (s : IsSparse p) (j : ℕ) (w : Number) (f : Said (column_
       (subst (λ (c : Number). ReducesPairs Min (shown p) (without_column (shown p) j w) (undone_pair (kept c))) cost_live
       (fixed_column_pair (shown p) j w ts continuous shows_fixed_column (column_entries-ascend p j s) (λ t i. column_has i t)))
 
+  rays : StepsBack (shown p) (shown (committed p all)) (weighed_in (kept (cost_at p j)) (shown (committed p all)))
+  rays = rays_by_edits p all (without_column (shown p) j w) (kept (cost_at p j)) s allowed shows
+      (ray.fixed_column false false (shown p) j w ts shows_fixed_column (column_entries-ascend p j s) (λ t i. column_has i t))
+
   sided : (numbers : Numbers) → IsWritable numbers p → All EditIsSided all
   sided numbers h = All-append EditIsSided (sweep low high ts) (column_out j (cost_at p j *ℚ w))
       (sweep_sided low high ts (λ k d l. let t = get_or ts k d in sided_less numbers (sides_at p t.id).lower (sides_at p t.id).upper (t.value *ℚ w) (h.rows t.id (column_entries-live p j k d l))))
@@ -161,6 +169,7 @@ owes p j s e = let f = said p j e in let w = value_of p j in record {
   ordered = entries_first_none (edits p j) (sweep_no_entries (low p s j w f) (high p s j w f) (column_entries p j) (column_out j (cost_at p j *ℚ w)) tt);
   reduces = reduces p s j w f;
   pairs = pairs p s j w f;
+  rays = λ continuous. rays p s j w f;
   sided = sided p s j w f;
   sound = (column_inside p j f.live, column_entries-ascend p j s);
   names = (ids_on p.matrix.rows (column_at p j).entries, one_on p.matrix.columns j f.live);

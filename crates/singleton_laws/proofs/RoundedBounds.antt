@@ -1,5 +1,5 @@
 -- K4.
-use Rattle.std.proofs.Common.{◌≡◌, ℕ, Bool, true, false, ◌&&◌, List, [], ◌∷◌, Option, refl, sym, ap, ap₂, ◌∙◌}
+use Rattle.std.proofs.Common.{◌≡◌, ℕ, Bool, true, false, ◌&&◌, List, [], ◌∷◌, Option, refl, sym, ap, ap₂, ◌∙◌, true≢false}
 use Rattle.std.specs.Prelude.{if◌then◌else◌}
 use Rattle.rational.specs.Number.{Number, zero_ℚ}
 use Rattle.lp_model.specs.declared.program.Sense.TheVariants.{Min}
@@ -54,6 +54,7 @@ owes p j s e = let b = said p j e in record {
   ordered = tt;
   reduces = by_edits p (edits p j) (bounds_rounded (shown p) j) (λ x. x) zero_ℚ s ((b.live, b.solid), tt) (rounded p j b.live b.solid) nothing (bounds_rounded_reduce Min (shown p) j (shows p j b));
   pairs = λ continuous. pairs_by_edits p (edits p j) (bounds_rounded (shown p) j) (undone_pair (record_of p j)) s ((b.live, b.solid), tt) (rounded p j b.live b.solid) (rounded_bounds_pair (shown p) j (shows p j b));
+  rays = λ continuous. absurd (true≢false (sym (shows p j b).whole ∙ (continuous j (column_inside p j b.live)).0));
   sided = λ numbers w. one_sided (SetBounds j (rounded_up (bounds_at p j).lower) (rounded_down (bounds_at p j).upper)) tt;
   sound = column_inside p j b.live;
   names = (none_on p.matrix.rows, one_on p.matrix.columns j b.live);

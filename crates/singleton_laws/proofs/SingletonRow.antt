@@ -36,6 +36,10 @@ use Rattle.rule_words.proofs.Coefficients.{coefficient_in_row}
 use Rattle.rule_words.proofs.EndTestsSay.{not_true}
 use Rattle.rule_words.proofs.Named.{one_on, nothing_twice, two_sided}
 use Rattle.edit_laws.proofs.Reducing.{by_edits, pairs_by_edits}
+use Rattle.ray_steps.proofs.Records as ray
+use Rattle.rule_words.proofs.RaysBack.{rays_by_edits}
+use Rattle.lp_rays.specs.Ray.{StepsBack}
+use Rattle.ray_steps.specs.StepBack.{weighed_in}
 use Rattle.singleton_laws.specs.SingletonRow.{are_open, is_singleton_row, enabled, sole_entry, met_lower, met_upper, edits, record_of}
 use Rattle.problem_model.specs.Parts.{bounds_held, contents_of}
 use Rattle.lp_model.specs.EndTests.{is_in_order}
@@ -122,12 +126,17 @@ module _ (p : Sparse) (s : IsSparse p) (i : ℕ) (o : Said p (row_at p i).live (
   pairs = pairs_by_edits p (edits p i) (singleton_row_met (shown p) i j) (undone_pair (record_of p i)) s allowed met
       (subst (λ (u : Undo). ReducesPairs Min (shown p) (singleton_row_met (shown p) i j) (undone_pair u)) same_record (singleton_row_pair (shown p) i j shows))
 
+  rays : StepsBack (shown p) (shown (committed p (edits p i))) (weighed_in (record_of p i) (shown (committed p (edits p i))))
+  rays = rays_by_edits p (edits p i) (singleton_row_met (shown p) i j) (record_of p i) s allowed met
+      (subst (λ (u : Undo). StepsBack (shown p) (singleton_row_met (shown p) i j) (weighed_in u (singleton_row_met (shown p) i j))) same_record (ray.singleton_row (shown p) i j shows))
+
 pub owes : RuleOwes enabled edits record_of
 owes p i s e = let o = said p i e in let t : Term = sole_entry p i in let a = sole_ascends p i s o in record {
   allowed = allowed p s i o;
   ordered = tt;
   reduces = by_edits p (edits p i) (singleton_row_met (shown p) i t.id) (λ x. x) zero_ℚ s (allowed p s i o) (met p s i o) nothing_twice (singleton_row (shown p) i t.id (shows p s i o) Min);
   pairs = λ continuous. pairs p s i o;
+  rays = λ continuous. rays p s i o;
   sided = λ numbers w. two_sided (SetBounds t.id (met_lower p i t) (met_upper p i t)) (DeleteRow i) tt tt;
   sound = (row_inside p i o.live, a.1, a.2);
   names = (one_on p.matrix.rows i o.live, one_on p.matrix.columns t.id (sole_live p i o));
