@@ -35,6 +35,10 @@ abbrev pub forcing : Side → Shift
 forcing Lower = ForceLower
 forcing Upper = ForceUpper
 
+-- K7: the sum of the ratios, and what the columns make of it
+abbrev pub ForcingFits : Side → List Term → Weights → Type 0
+ForcingFits side ts w = RatiosFit side zero_ℚ ts w × ShiftsFit (forcing side) None ts (ratios side ts w) w
+
 -- d = the weight over the size of the entry a, and what the row and the others take of it
 abbrev pub PushedFits : ℕ → ℕ → List Term → Number → Weights → Type 0
 PushedFits i j ts d w = Fits d × SumFits (w.s i) d × ShiftsFit Push (Some j) ts d w
@@ -58,7 +62,7 @@ SidesFit Dropped i a w = ⊤
 abbrev pub WeighedFits : Undo → Bool → Bool → Weights → Type 0
 WeighedFits (SingletonRow r) low high w = BothFit (lower_share r.value (handed_of low (w.p r.column)) (handed_of high (w.q r.column))) (upper_share r.value (handed_of low (w.p r.column)) (handed_of high (w.q r.column)))
 WeighedFits (FixedColumn r) low high w = NetFits zero_ℚ r.entries w
-WeighedFits (ForcingRow r) low high w = RatiosFit r.side zero_ℚ r.entries w × ShiftsFit (forcing r.side) None r.entries (ratios r.side r.entries w) w
+WeighedFits (ForcingRow r) low high w = ForcingFits r.side r.entries w
 WeighedFits (BoundTightening r) low high w = BoundFits r.side r.row r.column r.entries w
 WeighedFits (DualFixing r) low high w = SumFits (w.p r.column) (neg_ℚ (w.q r.column))
 WeighedFits (DominatedColumn r) low high w = SumFits (w.p r.column) (neg_ℚ (w.q r.column))

@@ -1,0 +1,4 @@
+pub mod Factors
+pub mod Shiftings
+pub mod Ratios
+pub mod Lifts
