@@ -1,0 +1,2 @@
+pub mod EndWeights
+pub mod Starts
