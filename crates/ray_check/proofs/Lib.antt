@@ -1,0 +1,4 @@
+pub mod Worthing
+pub mod LoopReads
+pub mod SumSteps
+pub mod OneVerdict
