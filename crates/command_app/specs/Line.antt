@@ -10,6 +10,10 @@ use Rattle.command_words.specs.declared.words.TheConstants.{MOST_LINES, MOST_PIV
 abbrev pub word_rule : Text → Rule
 word_rule id = record (new_rule id) { action = Some Set; required = true }
 
+-- a name, after `--id`
+abbrev pub name_rule : Text → Rule
+name_rule id = record (new_rule id) { long = Some id; action = Some Set }
+
 -- a required number, from the least to the most
 abbrev pub needed_rule : Text → ℕ → ℕ → Rule
 needed_rule id least most = record (new_rule id) { action = Some Set; parser = Some (Unsigned least most); required = true }
@@ -42,9 +46,13 @@ dual_app = with_rule limited_app (flag_rule (codes "dual"))
 unfoldable pub ordered_app : App
 ordered_app = with_rule dual_app (flag_rule (codes "ordered"))
 
--- presolve IN OUT REC [--threads T] [--limit N] [--dual] [--ordered] [--fractions] [--fixed]
+-- presolve IN OUT REC [--threads T] [--limit N] [--dual] [--ordered] [--ray RAY]
+unfoldable pub ray_app : App
+ray_app = with_rule ordered_app (name_rule (codes "ray"))
+
+-- presolve IN OUT REC [--threads T] [--limit N] [--dual] [--ordered] [--ray RAY] [--fractions] [--fixed]
 unfoldable pub presolve_app : App
-presolve_app = with_rule (with_rule ordered_app (flag_rule (codes "fractions"))) (flag_rule (codes "fixed"))
+presolve_app = with_rule (with_rule ray_app (flag_rule (codes "fractions"))) (flag_rule (codes "fixed"))
 
 -- check IN SOL [--fixed]
 unfoldable pub check_app : App

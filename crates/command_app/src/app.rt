@@ -2,7 +2,7 @@
 ghost use Rattle.std.specs.Prelude.{◌≡◌, ◌≢◌, [], Err, false, IfOk, OnOk, OnErr};
 ghost use Rattle.clap.specs.Words.{app_of, kind_of, rule_of, subcommand_rows_of};
 ghost use Rattle.clap.specs.declared.builder.command.Command.TheViews.{out-Command};
-ghost use Rattle.command_app.specs.Line.{check_app, dual_app, faults, first_app, flag_rule, found_in, gen_app, gen_words, is_taken, limited_app, line_app, migrate_app, needed_rule, number_rule, ordered_app, postsolve_app, postsolve_words, presolve_app, presolve_words, second_app, solve_app, solve_words, texts, third_app, threaded_app, verify_app, verify_words, word_rule};
+ghost use Rattle.command_app.specs.Line.{check_app, dual_app, faults, first_app, flag_rule, found_in, gen_app, gen_words, is_taken, limited_app, line_app, migrate_app, needed_rule, name_rule, number_rule, ordered_app, postsolve_app, postsolve_words, presolve_app, presolve_words, ray_app, second_app, solve_app, solve_words, texts, third_app, threaded_app, verify_app, verify_words, word_rule};
 
 use clap::builder::ValueParser;
 use clap::error::ErrorKind;
@@ -16,6 +16,14 @@ fn word<'a>(alloc: Global, id: &'a str) -> Arg<'a>
     ensures local { result.global ≡ false }
 {
     Arg::new(alloc, id).action(ArgAction::Set).required(true)
+}
+
+// A name, behind the option's own.
+fn name<'a>(alloc: Global, id: &'a str) -> Arg<'a>
+    ensures rule { rule_of result ≡ name_rule id.entry.now }
+    ensures local { result.global ≡ false }
+{
+    Arg::new(alloc, id).long(id).action(ArgAction::Set)
 }
 
 // A number from `least` to `most` that has to stand.
@@ -87,12 +95,20 @@ fn with_ordered<'a>(alloc: Global) -> Result<Command<'a>, AllocError>
     with_dual(alloc)?.arg(flag(alloc, "ordered"))
 }
 
+#[tactic(auto, unfolding(crate::specs::Line::ray_app))]
+fn with_ray<'a>(alloc: Global) -> Result<Command<'a>, AllocError>
+    ensures app { IfOk result (λ command. app_of command ≡ ray_app) }
+    ensures local { IfOk result (λ command. (out-Command command).has_globals ≡ false) }
+{
+    with_ordered(alloc)?.arg(name(alloc, "ray"))
+}
+
 #[tactic(auto, unfolding(crate::specs::Line::presolve_app))]
 fn presolve<'a>(alloc: Global) -> Result<Command<'a>, AllocError>
     ensures app { IfOk result (λ command. app_of command ≡ presolve_app) }
     ensures local { IfOk result (λ command. (out-Command command).has_globals ≡ false) }
 {
-    with_ordered(alloc)?
+    with_ray(alloc)?
         .arg(flag(alloc, "fractions"))?
         .arg(flag(alloc, "fixed"))
 }

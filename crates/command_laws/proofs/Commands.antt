@@ -10,16 +10,16 @@ use Rattle.clap.specs.Simple.{Shape, built, built_leaf, help_shape, inherited, l
 use Rattle.clap.specs.Takes.{is_given, value_passes}
 use Rattle.clap.specs.Walk.{Row, Rule, Text, answers_to, arg_by_id, first_of}
 use Rattle.clap.specs.declared.builder.value_parser.ValueParser.TheVariants.{Unsigned}
-use Rattle.command_app.specs.Line.{check_app, dual_app, first_app, gen_app, gen_words, limited_app, line_app, migrate_app, ordered_app, postsolve_app, postsolve_words, presolve_app, presolve_words, second_app, solve_app, solve_words, third_app, threaded_app, verify_app, verify_words}
-use Rattle.command_line.specs.Line.{needed_of, number_in, number_of, request_of}
+use Rattle.command_app.specs.Line.{check_app, dual_app, first_app, gen_app, gen_words, limited_app, line_app, migrate_app, ordered_app, postsolve_app, postsolve_words, presolve_app, presolve_words, ray_app, second_app, solve_app, solve_words, third_app, threaded_app, verify_app, verify_words}
+use Rattle.command_line.specs.Line.{is_on, needed_of, number_in, number_of, request_of}
 use Rattle.command_words.specs.declared.words.TheConstants.{MOST_LINES, MOST_PIVOTS, MOST_RECORDS, MOST_SEED, MOST_THREADS, USUAL_PIVOTS}
 use Rattle.command_laws.proofs.Rows.{Each, HasFirst, either, first_passes, given_first}
 use Rattle.command_laws.proofs.Uses.{IsKnown}
-use Rattle.command_laws.specs.Asking.{HasOneName}
+use Rattle.command_laws.specs.Asking.{HasNoPlaceForRay, HasOneName}
 
--- the command of this name asks for something, but where two names are one that have to differ
+-- the command of this name asks for something, but where two names are one that have to differ, or RAY has no place
 abbrev pub Asks : Text → List Row → Type 0
-Asks name rows = (request_of name rows ≢ None) ⊎ HasOneName name rows
+Asks name rows = (request_of name rows ≢ None) ⊎ HasOneName name rows ⊎ HasNoPlaceForRay name rows
 
 -- the arguments of a command that is not the one for help are known, and their names, where they are given, ask for something
 abbrev pub AsksWhereGiven : Shape → Type 0
@@ -80,12 +80,22 @@ module _ (rules : List Rule) (rows : List Row) (each : Each (HasFirst rules) row
       let input = given_first rules (codes "in") rows each has_input in
       let output = given_first rules (codes "out") rows each has_output in
       let records = given_first rules (codes "rec") rows each has_records in
-      by input output records (bytes_eq output.0 records.0) refl
+      by input output records (first_of (codes "ray") rows) (bytes_eq output.0 records.0) refl refl
     where
+      placed : (input : (v : Text) × (first_of (codes "in") rows ≡ Some v)) (output : (v : Text) × (first_of (codes "out") rows ≡ Some v))
+          (records : (v : Text) × (first_of (codes "rec") rows ≡ Some v)) (ray : Text) (d b c : Bool) → first_of (codes "ray") rows ≡ Some ray → bytes_eq output.0 records.0 ≡ false
+          → is_on (first_of (codes "dual") rows) ≡ d → bytes_eq ray output.0 ≡ b → bytes_eq ray records.0 ≡ c → Asks (codes "presolve") rows
+      placed input output records ray false b c is differ dual out rec = inr (inr (refl, (ray, is, inl dual)))
+      placed input output records ray true true c is differ dual out rec = inr (inr (refl, (ray, is, inr (inl (output.1 ∙ ap Some (sym ((bytes_eq-Decides ray output.0).0 out)))))))
+      placed input output records ray true false true is differ dual out rec = inr (inr (refl, (ray, is, inr (inr (records.1 ∙ ap Some (sym ((bytes_eq-Decides ray records.0).0 rec)))))))
+      placed input output records ray true false false is differ dual out rec = inl (λ none. none-some _ (sym (rw (input.1, output.1, records.1, is, limit, threads, differ, dual, out, rec) at none)))
+
       by : (input : (v : Text) × (first_of (codes "in") rows ≡ Some v)) (output : (v : Text) × (first_of (codes "out") rows ≡ Some v))
-          (records : (v : Text) × (first_of (codes "rec") rows ≡ Some v)) (b : Bool) → bytes_eq output.0 records.0 ≡ b → Asks (codes "presolve") rows
-      by input output records true same = inr (inl (refl, output.1 ∙ ap Some ((bytes_eq-Decides output.0 records.0).0 same) ∙ sym records.1))
-      by input output records false differ = inl (λ none. none-some _ (sym (rw (input.1, output.1, records.1, limit, threads, differ) at none)))
+          (records : (v : Text) × (first_of (codes "rec") rows ≡ Some v)) (ray : Option Text) (b : Bool) → first_of (codes "ray") rows ≡ ray → bytes_eq output.0 records.0 ≡ b → Asks (codes "presolve") rows
+      by input output records ray true is same = inr (inl (inl (refl, output.1 ∙ ap Some ((bytes_eq-Decides output.0 records.0).0 same) ∙ sym records.1)))
+      by input output records None false is differ = inl (λ none. none-some _ (sym (rw (input.1, output.1, records.1, is, limit, threads, differ) at none)))
+      by input output records (Some ray) false is differ =
+          placed input output records ray (is_on (first_of (codes "dual") rows)) (bytes_eq ray output.0) (bytes_eq ray records.0) is differ refl refl refl
 
   check_given : is_given (codes "in") rows ≡ true → is_given (codes "sol") rows ≡ true → Asks (codes "check") rows
   check_given has_input has_solution =
@@ -110,7 +120,7 @@ module _ (rules : List Rule) (rows : List Row) (each : Each (HasFirst rules) row
     where
       by : (records : (v : Text) × (first_of (codes "rec") rows ≡ Some v)) (written : (v : Text) × (first_of (codes "new") rows ≡ Some v)) (b : Bool)
           → bytes_eq records.0 written.0 ≡ b → Asks (codes "migrate") rows
-      by records written true same = inr (inr (inl (refl, records.1 ∙ ap Some ((bytes_eq-Decides records.0 written.0).0 same) ∙ sym written.1)))
+      by records written true same = inr (inl (inr (inl (refl, records.1 ∙ ap Some ((bytes_eq-Decides records.0 written.0).0 same) ∙ sym written.1))))
       by records written false differ = inl (λ none. none-some _ (sym (rw (records.1, written.1, differ) at none)))
 
   verify_given : is_given (codes "in") rows ≡ true → is_given (codes "out") rows ≡ true → is_given (codes "rec") rows ≡ true → Asks (codes "verify") rows
@@ -128,7 +138,7 @@ module _ (rules : List Rule) (rows : List Row) (each : Each (HasFirst rules) row
     where
       by : (input : (v : Text) × (first_of (codes "in") rows ≡ Some v)) (solution : (v : Text) × (first_of (codes "sol") rows ≡ Some v)) (b : Bool)
           → bytes_eq input.0 solution.0 ≡ b → Asks (codes "solve") rows
-      by input solution true same = inr (inr (inr (refl, input.1 ∙ ap Some ((bytes_eq-Decides input.0 solution.0).0 same) ∙ sym solution.1)))
+      by input solution true same = inr (inl (inr (inr (refl, input.1 ∙ ap Some ((bytes_eq-Decides input.0 solution.0).0 same) ∙ sym solution.1))))
       by input solution false differ = inl (λ none. none-some _ (sym (rw (input.1, solution.1, pivots, differ) at none)))
 
   gen_given : (n r k : ℕ) → needed_of 0 MOST_SEED (first_of (codes "seed") rows) ≡ Some n → needed_of 1 MOST_LINES (first_of (codes "rows") rows) ≡ Some r
@@ -136,11 +146,11 @@ module _ (rules : List Rule) (rows : List Row) (each : Each (HasFirst rules) row
   gen_given n r k seed lines columns = inl (λ none. none-some _ (sym (rw (seed, lines, columns) at none)))
 
 presolve_known : Each (IsKnown presolve_command.rules) presolve_command.rules
-unfolding presolve_command line_app third_app second_app first_app check_app presolve_app ordered_app dual_app limited_app threaded_app presolve_words postsolve_app postsolve_words migrate_app verify_words verify_app solve_words solve_app gen_words gen_app
-presolve_known = ((refl, refl), ((refl, refl), ((refl, refl), ((refl, refl), ((refl, refl), ((refl, refl), ((refl, refl), ((refl, refl), ((refl, refl), ((refl, refl), tt))))))))))
+unfolding presolve_command line_app third_app second_app first_app check_app presolve_app ray_app ordered_app dual_app limited_app threaded_app presolve_words postsolve_app postsolve_words migrate_app verify_words verify_app solve_words solve_app gen_words gen_app
+presolve_known = ((refl, refl), ((refl, refl), ((refl, refl), ((refl, refl), ((refl, refl), ((refl, refl), ((refl, refl), ((refl, refl), ((refl, refl), ((refl, refl), ((refl, refl), tt)))))))))))
 
 presolve_asks : AsksWhereGiven presolve_command
-unfolding presolve_command line_app third_app second_app first_app check_app presolve_app ordered_app dual_app limited_app threaded_app presolve_words postsolve_app postsolve_words migrate_app verify_words verify_app solve_words solve_app gen_words gen_app
+unfolding presolve_command line_app third_app second_app first_app check_app presolve_app ray_app ordered_app dual_app limited_app threaded_app presolve_words postsolve_app postsolve_words migrate_app verify_words verify_app solve_words solve_app gen_words gen_app
 presolve_asks word answers differs = (
   presolve_known,
   λ rows each given.
@@ -155,11 +165,11 @@ presolve_asks word answers differs = (
 )
 
 check_known : Each (IsKnown check_command.rules) check_command.rules
-unfolding check_command line_app third_app second_app first_app check_app presolve_app ordered_app dual_app limited_app threaded_app presolve_words postsolve_app postsolve_words migrate_app verify_words verify_app solve_words solve_app gen_words gen_app
+unfolding check_command line_app third_app second_app first_app check_app presolve_app ray_app ordered_app dual_app limited_app threaded_app presolve_words postsolve_app postsolve_words migrate_app verify_words verify_app solve_words solve_app gen_words gen_app
 check_known = ((refl, refl), ((refl, refl), ((refl, refl), ((refl, refl), tt))))
 
 check_asks : AsksWhereGiven check_command
-unfolding check_command line_app third_app second_app first_app check_app presolve_app ordered_app dual_app limited_app threaded_app presolve_words postsolve_app postsolve_words migrate_app verify_words verify_app solve_words solve_app gen_words gen_app
+unfolding check_command line_app third_app second_app first_app check_app presolve_app ray_app ordered_app dual_app limited_app threaded_app presolve_words postsolve_app postsolve_words migrate_app verify_words verify_app solve_words solve_app gen_words gen_app
 check_asks word answers differs = (
   check_known,
   λ rows each given.
@@ -169,11 +179,11 @@ check_asks word answers differs = (
 )
 
 postsolve_known : Each (IsKnown postsolve_command.rules) postsolve_command.rules
-unfolding postsolve_command line_app third_app second_app first_app check_app presolve_app ordered_app dual_app limited_app threaded_app presolve_words postsolve_app postsolve_words migrate_app verify_words verify_app solve_words solve_app gen_words gen_app
+unfolding postsolve_command line_app third_app second_app first_app check_app presolve_app ray_app ordered_app dual_app limited_app threaded_app presolve_words postsolve_app postsolve_words migrate_app verify_words verify_app solve_words solve_app gen_words gen_app
 postsolve_known = ((refl, refl), ((refl, refl), ((refl, refl), ((refl, refl), ((refl, refl), tt)))))
 
 postsolve_asks : AsksWhereGiven postsolve_command
-unfolding postsolve_command line_app third_app second_app first_app check_app presolve_app ordered_app dual_app limited_app threaded_app presolve_words postsolve_app postsolve_words migrate_app verify_words verify_app solve_words solve_app gen_words gen_app
+unfolding postsolve_command line_app third_app second_app first_app check_app presolve_app ray_app ordered_app dual_app limited_app threaded_app presolve_words postsolve_app postsolve_words migrate_app verify_words verify_app solve_words solve_app gen_words gen_app
 postsolve_asks word answers differs = (
   postsolve_known,
   λ rows each given.
@@ -185,11 +195,11 @@ postsolve_asks word answers differs = (
 )
 
 migrate_known : Each (IsKnown migrate_command.rules) migrate_command.rules
-unfolding migrate_command line_app third_app second_app first_app check_app presolve_app ordered_app dual_app limited_app threaded_app presolve_words postsolve_app postsolve_words migrate_app verify_words verify_app solve_words solve_app gen_words gen_app
+unfolding migrate_command line_app third_app second_app first_app check_app presolve_app ray_app ordered_app dual_app limited_app threaded_app presolve_words postsolve_app postsolve_words migrate_app verify_words verify_app solve_words solve_app gen_words gen_app
 migrate_known = ((refl, refl), ((refl, refl), ((refl, refl), tt)))
 
 migrate_asks : AsksWhereGiven migrate_command
-unfolding migrate_command line_app third_app second_app first_app check_app presolve_app ordered_app dual_app limited_app threaded_app presolve_words postsolve_app postsolve_words migrate_app verify_words verify_app solve_words solve_app gen_words gen_app
+unfolding migrate_command line_app third_app second_app first_app check_app presolve_app ray_app ordered_app dual_app limited_app threaded_app presolve_words postsolve_app postsolve_words migrate_app verify_words verify_app solve_words solve_app gen_words gen_app
 migrate_asks word answers differs = (
   migrate_known,
   λ rows each given.
@@ -199,11 +209,11 @@ migrate_asks word answers differs = (
 )
 
 verify_known : Each (IsKnown verify_command.rules) verify_command.rules
-unfolding verify_command line_app third_app second_app first_app check_app presolve_app ordered_app dual_app limited_app threaded_app presolve_words postsolve_app postsolve_words migrate_app verify_words verify_app solve_words solve_app gen_words gen_app
+unfolding verify_command line_app third_app second_app first_app check_app presolve_app ray_app ordered_app dual_app limited_app threaded_app presolve_words postsolve_app postsolve_words migrate_app verify_words verify_app solve_words solve_app gen_words gen_app
 verify_known = ((refl, refl), ((refl, refl), ((refl, refl), ((refl, refl), ((refl, refl), tt)))))
 
 verify_asks : AsksWhereGiven verify_command
-unfolding verify_command line_app third_app second_app first_app check_app presolve_app ordered_app dual_app limited_app threaded_app presolve_words postsolve_app postsolve_words migrate_app verify_words verify_app solve_words solve_app gen_words gen_app
+unfolding verify_command line_app third_app second_app first_app check_app presolve_app ray_app ordered_app dual_app limited_app threaded_app presolve_words postsolve_app postsolve_words migrate_app verify_words verify_app solve_words solve_app gen_words gen_app
 verify_asks word answers differs = (
   verify_known,
   λ rows each given.
@@ -214,11 +224,11 @@ verify_asks word answers differs = (
 )
 
 solve_known : Each (IsKnown solve_command.rules) solve_command.rules
-unfolding solve_command line_app third_app second_app first_app check_app presolve_app ordered_app dual_app limited_app threaded_app presolve_words postsolve_app postsolve_words migrate_app verify_words verify_app solve_words solve_app gen_words gen_app
+unfolding solve_command line_app third_app second_app first_app check_app presolve_app ray_app ordered_app dual_app limited_app threaded_app presolve_words postsolve_app postsolve_words migrate_app verify_words verify_app solve_words solve_app gen_words gen_app
 solve_known = ((refl, refl), ((refl, refl), ((refl, refl), ((refl, refl), ((refl, refl), tt)))))
 
 solve_asks : AsksWhereGiven solve_command
-unfolding solve_command line_app third_app second_app first_app check_app presolve_app ordered_app dual_app limited_app threaded_app presolve_words postsolve_app postsolve_words migrate_app verify_words verify_app solve_words solve_app gen_words gen_app
+unfolding solve_command line_app third_app second_app first_app check_app presolve_app ray_app ordered_app dual_app limited_app threaded_app presolve_words postsolve_app postsolve_words migrate_app verify_words verify_app solve_words solve_app gen_words gen_app
 solve_asks word answers differs = (
   solve_known,
   λ rows each given.
@@ -230,11 +240,11 @@ solve_asks word answers differs = (
 )
 
 gen_known : Each (IsKnown gen_command.rules) gen_command.rules
-unfolding gen_command line_app third_app second_app first_app check_app presolve_app ordered_app dual_app limited_app threaded_app presolve_words postsolve_app postsolve_words migrate_app verify_words verify_app solve_words solve_app gen_words gen_app
+unfolding gen_command line_app third_app second_app first_app check_app presolve_app ray_app ordered_app dual_app limited_app threaded_app presolve_words postsolve_app postsolve_words migrate_app verify_words verify_app solve_words solve_app gen_words gen_app
 gen_known = ((refl, refl), ((refl, refl), ((refl, refl), ((refl, refl), tt))))
 
 gen_asks : AsksWhereGiven gen_command
-unfolding gen_command line_app third_app second_app first_app check_app presolve_app ordered_app dual_app limited_app threaded_app presolve_words postsolve_app postsolve_words migrate_app verify_words verify_app solve_words solve_app gen_words gen_app
+unfolding gen_command line_app third_app second_app first_app check_app presolve_app ray_app ordered_app dual_app limited_app threaded_app presolve_words postsolve_app postsolve_words migrate_app verify_words verify_app solve_words solve_app gen_words gen_app
 gen_asks word answers differs = (
   gen_known,
   λ rows each given.
@@ -263,10 +273,10 @@ help_asks s label word answers differs =
 
 -- each command of the line asks for something
 pub commands_ask : Each AsksWhereGiven (built line_app).subs
-unfolding presolve_command check_command postsolve_command migrate_command verify_command solve_command gen_command line_app third_app second_app first_app check_app presolve_app ordered_app dual_app limited_app threaded_app presolve_words postsolve_app postsolve_words migrate_app verify_words verify_app solve_words solve_app gen_words gen_app
+unfolding presolve_command check_command postsolve_command migrate_command verify_command solve_command gen_command line_app third_app second_app first_app check_app presolve_app ray_app ordered_app dual_app limited_app threaded_app presolve_words postsolve_app postsolve_words migrate_app verify_words verify_app solve_words solve_app gen_words gen_app
 commands_ask = (presolve_asks, (check_asks, (postsolve_asks, (migrate_asks, (verify_asks, (solve_asks, (gen_asks, (help_asks (built_leaf help_shape) refl, tt))))))))
 
 -- the line has the command for help
 pub line_has_help : (built line_app).top.disable_help_subcommand ≡ false
-unfolding line_app third_app second_app first_app check_app presolve_app ordered_app dual_app limited_app threaded_app presolve_words postsolve_app postsolve_words migrate_app verify_words verify_app solve_words solve_app gen_words gen_app
+unfolding line_app third_app second_app first_app check_app presolve_app ray_app ordered_app dual_app limited_app threaded_app presolve_words postsolve_app postsolve_words migrate_app verify_words verify_app solve_words solve_app gen_words gen_app
 line_has_help = refl

@@ -1,5 +1,5 @@
 -- What words ask for.
-use Rattle.std.specs.Prelude.{ℕ, List, [], ◌∷◌, codes, false, Bool, if◌then◌else◌, Option, Some, None}
+use Rattle.std.specs.Prelude.{ℕ, List, [], ◌∷◌, codes, false, Bool, not, ◌||◌, if◌then◌else◌, Option, Some, None, is_some}
 use Rattle.std.specs.Option.{option_map}
 use Rattle.std.specs.Str.{bytes_eq}
 use Rattle.std.specs.Str.Parse.{digits_value, without_leading_plus}
@@ -46,21 +46,27 @@ options_with rows (Some limit) (Some threads) = Some (record {
   fixed = is_on (first_of (codes "fixed") rows);
   limit = limit;
   threads = threads;
-  ordered = is_on (first_of (codes "ordered") rows);
+  ordered = is_on (first_of (codes "ordered") rows) || is_some (first_of (codes "ray") rows);
 })
 options_with rows limit threads = None
 
 abbrev pub options_of : List Row → Option PresolveOptions
 options_of rows = options_with rows (limit_of rows) (threads_of rows)
 
--- three names, of which OUT and REC differ, and the options
-abbrev pub presolve_names : Option Text → Option Text → Option Text → Option PresolveOptions → Option PresolveNames
-presolve_names (Some input) (Some output) (Some records) (Some options) =
-    if bytes_eq output records then None else Some (record { input = input; output = output; records = records; options = options })
-presolve_names input output records options = None
+-- RAY has no place: duals aren't asked for, or it is OUT or REC
+abbrev pub has_no_place : PresolveOptions → Text → Text → Option Text → Bool
+has_no_place options output records None = false
+has_no_place options output records (Some ray) = not options.dual || (bytes_eq ray output || bytes_eq ray records)
+
+-- three names, of which OUT and REC differ, RAY if it is asked for, and the options
+abbrev pub presolve_names : Option Text → Option Text → Option Text → Option Text → Option PresolveOptions → Option PresolveNames
+presolve_names (Some input) (Some output) (Some records) ray (Some options) =
+    if bytes_eq output records || has_no_place options output records ray then None
+    else Some (record { input = input; output = output; records = records; ray = ray; options = options })
+presolve_names input output records ray options = None
 
 abbrev pub presolve_of : List Row → Option PresolveNames
-presolve_of rows = presolve_names (first_of (codes "in") rows) (first_of (codes "out") rows) (first_of (codes "rec") rows) (options_of rows)
+presolve_of rows = presolve_names (first_of (codes "in") rows) (first_of (codes "out") rows) (first_of (codes "rec") rows) (first_of (codes "ray") rows) (options_of rows)
 
 -- two names, and an option
 abbrev pub check_names : Option Text → Option Text → Bool → Option CheckNames

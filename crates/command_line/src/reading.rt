@@ -1,10 +1,10 @@
 // What the words ask for.
-ghost use Rattle.std.specs.Prelude.{◌≡◌, ◌≢◌, ◌≤◌, ◌⊎◌, codes, IfSome, None, [], Some, Err, false, option_map, IfOk, OnOk};
+ghost use Rattle.std.specs.Prelude.{◌≡◌, ◌≢◌, ◌≤◌, ◌⊎◌, ◌||◌, codes, is_some, IfSome, None, [], Some, Err, false, option_map, IfOk, OnOk};
 ghost use Rattle.std.specs.Str.Parse.{digits_value, without_leading_plus};
 ghost use Rattle.clap.specs.Words.{IsUnsignedIn, first_of, found_of, rows_of, subcommand_rows_of};
-ghost use Rattle.command_words.specs.Names.{AreInRange, HasRange, IsSize, NamesDiffer};
+ghost use Rattle.command_words.specs.Names.{AreInRange, HasPlaceForRay, HasRange, IsSize, NamesDiffer};
 ghost use Rattle.command_app.specs.Line.{faults, is_taken, texts};
-ghost use Rattle.command_line.specs.Line.{asked, check_of, gen_of, is_on, migrate_of, needed_of, number_in, number_of, options_of, postsolve_of, presolve_of, request_of, selected, selected_in, solve_of, threads_of, verify_of};
+ghost use Rattle.command_line.specs.Line.{asked, check_of, gen_of, has_no_place as no_place, is_on, migrate_of, needed_of, number_in, number_of, options_of, postsolve_of, presolve_of, request_of, selected, selected_in, solve_of, threads_of, verify_of};
 ghost use Rattle.command_words.specs.Seen.{check_names_of, migrate_names_of, names_of, postsolve_names_of, seen, solve_names_of, verify_names_of};
 
 use clap::ArgMatches;
@@ -89,6 +89,13 @@ fn threads(found: &ArgMatches) -> Option<u32>
     Some(threads as u32)
 }
 
+// Whether a run has to be in order: that is asked for, or RAY is.
+fn is_in_order(found: &ArgMatches) -> bool
+    ensures { result ≡ (is_on (first_of (codes "ordered") (rows_of (found_of found.now))) || is_some (first_of (codes "ray") (rows_of (found_of found.now)))) }
+{
+    is_given(found, "ordered") || value(found, "ray").is_some()
+}
+
 // The options for `presolve`.
 fn options(found: &ArgMatches) -> Option<PresolveOptions>
     ensures given { result ≡ options_of (rows_of (found_of found.now)) }
@@ -102,31 +109,47 @@ fn options(found: &ArgMatches) -> Option<PresolveOptions>
         fixed: is_given(found, "fixed"),
         limit,
         threads,
-        ordered: is_given(found, "ordered"),
+        ordered: is_in_order(found),
     })
 }
 
-// The names for `presolve`. OUT and REC may not be one name.
+// Whether RAY has no place: duals aren't asked for, or it is OUT or REC.
+fn has_no_place(
+    options: &PresolveOptions,
+    output: &str,
+    records: &str,
+    ray: Option<&str>,
+) -> bool
+    ensures { result ≡ no_place options.now output.now records.now (option_map (λ name. name.now) ray.entry) }
+{
+    match ray {
+        None => false,
+        Some(ray) => !options.dual || ray == output || ray == records,
+    }
+}
+
+// The names for `presolve`. OUT and REC may not be one name, and RAY needs a place of its own.
 fn presolve<'a>(found: &ArgMatches<'a>) -> Option<PresolveWords<'a>>
     ensures names { option_map names_of result ≡ presolve_of (rows_of (found_of found.now)) }
     ensures differ { IfSome result (λ words. words.output.now ≢ words.records.now) }
+    ensures place { IfSome result (λ words. IfSome words.ray (λ ray. HasPlaceForRay words.options words.output.now words.records.now ray.now)) }
     ensures range { IfSome result (λ words. AreInRange words.options) }
 {
-    let input = value(found, "in");
-    let output = value(found, "out");
-    let records = value(found, "rec");
-    let options = options(found);
-    match (input, output, records, options) {
-        (Some(input), Some(output), Some(records), Some(options)) if output != records => {
-            Some(PresolveWords {
-                input,
-                output,
-                records,
-                options,
-            })
-        }
-        _ => None,
+    let input = value(found, "in")?;
+    let output = value(found, "out")?;
+    let records = value(found, "rec")?;
+    let ray = value(found, "ray");
+    let options = options(found)?;
+    if output == records || has_no_place(&options, output, records, ray) {
+        return None;
     }
+    Some(PresolveWords {
+        input,
+        output,
+        records,
+        ray,
+        options,
+    })
 }
 
 // The names for `check`.
@@ -263,7 +286,7 @@ fn selected_request<'a>(found: &ArgMatches<'a>) -> Option<Request<'a>>
 /// # Errors
 /// `Words` where `clap` names a fault in them, as at a limit that is no number from 1 to `MOST_RECORDS`, a number of threads that is
 /// none from 1 to `MOST_THREADS`, a number of pivots that is none from 1 to `MOST_PIVOTS`, or a number for `gen` that is not in its range;
-/// or OUT and REC are equal words, or REC and NEW, or IN and SOL of `solve`.
+/// or OUT and REC are equal words, or REC and NEW, or IN and SOL of `solve`; or RAY is asked for without `--dual`, or is OUT or REC.
 /// `NoMemory`.
 pub fn read<'a>(alloc: Global, words: &'a [String]) -> Result<Request<'a>, Refusal>
     ensures asked { IfOk result (λ request. asked (texts words.entry.now) ≡ Some (seen request)) }

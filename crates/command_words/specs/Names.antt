@@ -1,5 +1,5 @@
 -- The commands of the program, with the names, options and numbers that they are given.
-use Rattle.std.specs.Prelude.{◌≢◌, ◌≤◌, ℕ, List, Bool}
+use Rattle.std.specs.Prelude.{◌≡◌, ◌≢◌, ◌≤◌, ℕ, List, Bool, true, Option, IfSome}
 use Rattle.command_words.specs.declared.words.PresolveOptions.{PresolveOptions}
 use Rattle.command_words.specs.declared.words.GenNumbers.{GenNumbers}
 use Rattle.command_words.specs.declared.words.TheConstants.{MOST_LINES, MOST_PIVOTS, MOST_RECORDS, MOST_THREADS}
@@ -13,6 +13,7 @@ pub record PresolveNames : Type 0 where
   pub input : Text
   pub output : Text
   pub records : Text
+  pub ray : Option Text
   pub options : PresolveOptions
 
 -- the names that check works on, and whether IN has the fixed format
@@ -57,9 +58,16 @@ pub data Request : Type 0 where
   Solve : SolveNames → Request
   Gen : GenNumbers → Request
 
--- OUT and REC of presolve differ, and so do REC and NEW of migrate, and IN and SOL of solve
+-- RAY is asked for with duals and of a run in order, and is neither OUT nor REC
+pub record HasPlaceForRay (options : PresolveOptions) (output records ray : Text) : Type 0 where
+  pub dual : options.dual ≡ true
+  pub ordered : options.ordered ≡ true
+  pub off_output : ray ≢ output
+  pub off_records : ray ≢ records
+
+-- OUT and REC of presolve differ, and RAY from both; and so do REC and NEW of migrate, and IN and SOL of solve
 abbrev pub NamesDiffer : Request → Type 0
-NamesDiffer (Presolve names) = names.output ≢ names.records
+NamesDiffer (Presolve names) = (names.output ≢ names.records) × IfSome names.ray (HasPlaceForRay names.options names.output names.records)
 NamesDiffer (Check names) = Unit {0}
 NamesDiffer (Postsolve names) = Unit {0}
 NamesDiffer (Migrate names) = names.records ≢ names.written

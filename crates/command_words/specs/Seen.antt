@@ -1,4 +1,5 @@
 -- A request as its names.
+use Rattle.std.specs.Option.{option_map}
 use Rattle.command_words.specs.Names.{PresolveNames, CheckNames, PostsolveNames, MigrateNames, VerifyNames, SolveNames, Request, Presolve, Check, Postsolve, Migrate, Verify, Solve, Gen}
 use Rattle.command_words.specs.declared.words.PresolveWords.{PresolveWords}
 use Rattle.command_words.specs.declared.words.CheckWords.{CheckWords}
@@ -10,7 +11,7 @@ use Rattle.command_words.specs.declared.words.Request.TheVariants as words
 use Rattle.command_words.specs.declared.words.Request as declared
 
 abbrev pub names_of : PresolveWords → PresolveNames
-names_of words = record { input = words.input.now; output = words.output.now; records = words.records.now; options = words.options }
+names_of words = record { input = words.input.now; output = words.output.now; records = words.records.now; ray = option_map (λ name. name.now) words.ray; options = words.options }
 
 abbrev pub check_names_of : CheckWords → CheckNames
 check_names_of words = record { input = words.input.now; solution = words.solution.now; fixed = words.fixed }

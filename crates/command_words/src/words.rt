@@ -40,6 +40,9 @@ pub struct PresolveWords<'a> {
     pub input: &'a str,
     pub output: &'a str,
     pub records: &'a str,
+    /// RAY, which is written where IN has no feasible point: none, or a name other than `output` and `records`; then `dual` and `ordered`
+    /// are given.
+    pub ray: Option<&'a str>,
     pub options: PresolveOptions,
 }
 
@@ -117,7 +120,8 @@ pub enum Request<'a> {
 /// Why there is no request.
 #[derive(Clone, Copy, Debug, PartialEq, Eq)]
 pub enum Refusal {
-    /// `clap` does not take the words, or OUT and REC are equal, or REC and NEW, or IN and SOL of `solve`.
+    /// `clap` does not take the words, or OUT and REC are equal, or REC and NEW, or IN and SOL of `solve`; or RAY is asked for without
+    /// `--dual`, or has the name of OUT or REC.
     Words,
     /// There is no memory to read them.
     NoMemory,

@@ -1,7 +1,7 @@
 -- The status of an ending, and what is printed at it.
 use Rattle.std.specs.Prelude.{ℕ, Bool, true, false, List, [], ◌∷◌, ◌++◌, codes}
 use Rattle.endings.specs.declared.ending.Ending.{Ending}
-use Rattle.endings.specs.declared.ending.Ending.TheVariants.{Done, Usage, Refused, ReadFault, WriteFault, NoMemory, NoRoom, RecordsRefused, SolutionRefused, Violated, Spent, Infeasible, UnboundedOrInfeasible, Unbounded}
+use Rattle.endings.specs.declared.ending.Ending.TheVariants.{Done, Usage, Refused, ReadFault, WriteFault, NoMemory, NoRoom, RecordsRefused, SolutionRefused, Violated, Spent, Infeasible, RayPast, UnboundedOrInfeasible, Unbounded}
 
 abbrev pub status_of : Ending → ℕ
 status_of (Done text) = 0
@@ -16,6 +16,7 @@ status_of (SolutionRefused line) = 8
 status_of (Violated line) = 9
 status_of Spent = 10
 status_of Infeasible = 20
+status_of (RayPast lines) = 20
 status_of UnboundedOrInfeasible = 21
 status_of Unbounded = 22
 
@@ -57,6 +58,7 @@ text_of (SolutionRefused line) = line.items
 text_of (Violated line) = line.items
 text_of Spent = spent_line
 text_of Infeasible = infeasible_line
+text_of (RayPast lines) = lines.items
 text_of UnboundedOrInfeasible = unbounded_line
 text_of Unbounded = endless_line
 

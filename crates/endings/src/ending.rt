@@ -29,6 +29,8 @@ pub enum Ending {
     Spent,
     /// The program has no feasible point.
     Infeasible,
+    /// The program has no feasible point, and its ray has a number without room; the lines that say so.
+    RayPast(Vec<u8>),
     /// The program has no feasible point, or none of least cost: each feasible point gives others of any cost.
     UnboundedOrInfeasible,
     /// The program has feasible points, and for each number one of a better cost.
@@ -55,6 +57,7 @@ impl Ending {
             Ending::Violated(_) => 9,
             Ending::Spent => 10,
             Ending::Infeasible => 20,
+            Ending::RayPast(_) => 20,
             Ending::UnboundedOrInfeasible => 21,
             Ending::Unbounded => 22,
         }
@@ -79,6 +82,7 @@ impl Ending {
             Ending::Violated(line) => line.as_slice(),
             Ending::Spent => b"pivots spent\n",
             Ending::Infeasible => b"infeasible\n",
+            Ending::RayPast(lines) => lines.as_slice(),
             Ending::UnboundedOrInfeasible => b"unbounded or infeasible\n",
             Ending::Unbounded => b"unbounded\n",
         }

@@ -6,4 +6,4 @@ use Rattle.command_app.proofs.app.presolve.Goals as goal
 
 pub returns-clause-app : goal.returns-clause-app
 unfolding presolve_app
-returns-clause-app c = IfOk-weaker c.arg-2.result _ _ (λ r h. h.shape c.flag-2.ensures.local ∙ ap₂ with_rule (c.in_ok-arg.ensures.shape c.flag.ensures.local ∙ ap₂ with_rule c.in_ok-with_ordered.ensures.app c.flag.ensures.rule) c.flag-2.ensures.rule) c.arg-2.ensures
+returns-clause-app c = IfOk-weaker c.arg-2.result _ _ (λ r h. h.shape c.flag-2.ensures.local ∙ ap₂ with_rule (c.in_ok-arg.ensures.shape c.flag.ensures.local ∙ ap₂ with_rule c.in_ok-with_ray.ensures.app c.flag.ensures.rule) c.flag-2.ensures.rule) c.arg-2.ensures
