@@ -1,0 +1,7 @@
+use Rattle.std.proofs.Common.{◌≡◌, take}
+use Rattle.lp_model.specs.Names.{names_of_rows}
+use Rattle.ray_text.proofs.weights.row_table.Given as goal
+
+-- the names so far
+abbrev pub invariant-loop-id : goal.invariant-loop-id
+invariant-loop-id l = l.table ≡ take l.id (names_of_rows l.rows)
