@@ -5,7 +5,7 @@ use Rattle.command_words.specs.Names.{MigrateNames, PostsolveNames, PresolveName
 use Rattle.endings.specs.Ending.{status_of, text_of}
 use Rattle.endings.specs.Moments.{IsQuiet, KeepsAllBut}
 use Rattle.endings.specs.declared.ending.Ending.{Ending}
-use Rattle.endings.specs.declared.ending.Ending.TheVariants.{Done, Usage, Refused, ReadFault, WriteFault, NoMemory, NoRoom, RecordsRefused, SolutionRefused, Violated, Spent, Infeasible, UnboundedOrInfeasible, Unbounded}
+use Rattle.endings.specs.declared.ending.Ending.TheVariants.{Done, Usage, Refused, ReadFault, WriteFault, NoMemory, NoRoom, RecordsRefused, SolutionRefused, Violated, Spent, Infeasible, RayPast, UnboundedOrInfeasible, Unbounded}
 use Rattle.presolve_command.specs.Presolved.{EndsPresolve, FailsBetween}
 use Rattle.postsolve_command.specs.Postsolved.{EndsPostsolve}
 use Rattle.migrate_command.specs.Migrated.{EndsMigrate}
@@ -25,6 +25,7 @@ quiet_refused (RecordsRefused line) before now ends = absurd ends
 quiet_refused (SolutionRefused line) before now ends = absurd ends
 quiet_refused (Violated line) before now ends = absurd ends
 quiet_refused Infeasible before now ends = absurd ends
+quiet_refused (RayPast lines) before now ends = absurd ends
 quiet_refused UnboundedOrInfeasible before now ends = absurd ends
 quiet_refused Spent before now ends = absurd ends
 quiet_refused Unbounded before now ends = absurd ends
@@ -59,6 +60,7 @@ quiet_postsolve names (RecordsRefused line) before now ends done unwritten = end
 quiet_postsolve names (SolutionRefused line) before now ends done unwritten = ends.says.1
 quiet_postsolve names (Violated line) before now ends done unwritten = absurd ends.says
 quiet_postsolve names Infeasible before now ends done unwritten = absurd ends.says
+quiet_postsolve names (RayPast lines) before now ends done unwritten = absurd ends.says
 quiet_postsolve names UnboundedOrInfeasible before now ends done unwritten = absurd ends.says
 quiet_postsolve names Spent before now ends done unwritten = absurd ends.says
 quiet_postsolve names Unbounded before now ends done unwritten = absurd ends.says
@@ -76,6 +78,7 @@ quiet_migrate names (RecordsRefused line) before now ends done unwritten = ends.
 quiet_migrate names (SolutionRefused line) before now ends done unwritten = absurd ends.says
 quiet_migrate names (Violated line) before now ends done unwritten = absurd ends.says
 quiet_migrate names Infeasible before now ends done unwritten = absurd ends.says
+quiet_migrate names (RayPast lines) before now ends done unwritten = absurd ends.says
 quiet_migrate names UnboundedOrInfeasible before now ends done unwritten = absurd ends.says
 quiet_migrate names Spent before now ends done unwritten = absurd ends.says
 quiet_migrate names Unbounded before now ends done unwritten = absurd ends.says
@@ -94,6 +97,7 @@ quiet_solve names (SolutionRefused line) before now ends done unwritten = absurd
 quiet_solve names (Violated line) before now ends done unwritten = absurd ends.says
 quiet_solve names Spent before now ends done unwritten = ends.says.1
 quiet_solve names Infeasible before now ends done unwritten = ends.says.1
+quiet_solve names (RayPast lines) before now ends done unwritten = absurd ends.says
 quiet_solve names UnboundedOrInfeasible before now ends done unwritten = absurd ends.says
 quiet_solve names Unbounded before now ends done unwritten = ends.says.1
 
@@ -158,6 +162,7 @@ kept_postsolve names (RecordsRefused line) before now ends = λ other a. told_st
 kept_postsolve names (SolutionRefused line) before now ends = λ other a. told_still before now ends.says.1 other
 kept_postsolve names (Violated line) before now ends = absurd ends.says
 kept_postsolve names Infeasible before now ends = absurd ends.says
+kept_postsolve names (RayPast lines) before now ends = absurd ends.says
 kept_postsolve names UnboundedOrInfeasible before now ends = absurd ends.says
 kept_postsolve names Spent before now ends = absurd ends.says
 kept_postsolve names Unbounded before now ends = absurd ends.says
@@ -175,6 +180,7 @@ kept_migrate names (RecordsRefused line) before now ends = λ other a. told_stil
 kept_migrate names (SolutionRefused line) before now ends = absurd ends.says
 kept_migrate names (Violated line) before now ends = absurd ends.says
 kept_migrate names Infeasible before now ends = absurd ends.says
+kept_migrate names (RayPast lines) before now ends = absurd ends.says
 kept_migrate names UnboundedOrInfeasible before now ends = absurd ends.says
 kept_migrate names Spent before now ends = absurd ends.says
 kept_migrate names Unbounded before now ends = absurd ends.says
@@ -192,6 +198,7 @@ kept_solve names (SolutionRefused line) before now ends = absurd ends.says
 kept_solve names (Violated line) before now ends = absurd ends.says
 kept_solve names Spent before now ends = λ other a. told_still before now ends.says.1 other
 kept_solve names Infeasible before now ends = λ other a. told_still before now ends.says.1 other
+kept_solve names (RayPast lines) before now ends = absurd ends.says
 kept_solve names UnboundedOrInfeasible before now ends = absurd ends.says
 kept_solve names Unbounded before now ends = λ other a. told_still before now ends.says.1 other
 

@@ -4,7 +4,7 @@ use Rattle.file_ports.specs.Ports.{Moment}
 use Rattle.command_words.specs.Names.{Request, Presolve, Check, Postsolve, Migrate, Verify, Solve, Gen}
 use Rattle.endings.specs.Ending.{status_of}
 use Rattle.endings.specs.declared.ending.Ending.{Ending}
-use Rattle.endings.specs.declared.ending.Ending.TheVariants.{Done, Usage, Refused, ReadFault, WriteFault, NoMemory, NoRoom, RecordsRefused, SolutionRefused, Violated, Spent, Infeasible, UnboundedOrInfeasible, Unbounded}
+use Rattle.endings.specs.declared.ending.Ending.TheVariants.{Done, Usage, Refused, ReadFault, WriteFault, NoMemory, NoRoom, RecordsRefused, SolutionRefused, Violated, Spent, Infeasible, RayPast, UnboundedOrInfeasible, Unbounded}
 use Rattle.papilo.specs.Runs.{AreThere, Ends, IsUnwritten}
 
 -- the same at an equal status
@@ -61,5 +61,6 @@ status_known (SolutionRefused line) status is = inl (omega arith)
 status_known (Violated line) status is = inl (omega arith)
 status_known Spent status is = inl (omega arith)
 status_known Infeasible status is = inr (inl is)
+status_known (RayPast lines) status is = inr (inl is)
 status_known UnboundedOrInfeasible status is = inr (inr (inl is))
 status_known Unbounded status is = inr (inr (inr is))

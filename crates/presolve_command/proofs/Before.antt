@@ -5,7 +5,7 @@ use Rattle.endings.specs.Moments.{KeepsAllBut}
 use Rattle.endings.proofs.Earlier.{rose_earlier}
 use Rattle.presolve_command.specs.Presolved.{FailsAt, FailsBetween}
 
-fails_at_earlier : (name : List ℕ) (before between now : Moment) → between.told ≡ before.told → NeverFall before.writes between.writes
+pub fails_at_earlier : (name : List ℕ) (before between now : Moment) → between.told ≡ before.told → NeverFall before.writes between.writes
     → FailsAt name between now → FailsAt name before now
 fails_at_earlier name before between now same stays f =
     (rose_earlier _ _ _ (stays name) f.0, subst (λ (t : List ℕ → Told). Unsettled (t name) (now.told name)) same f.1)
@@ -28,3 +28,6 @@ written_earlier name text before between now same h = subst (λ (t : List ℕ �
 pub others_earlier : (first second : List ℕ) (before between now : Moment) → between.told ≡ before.told
     → KeepsAllBut between.told now.told first second → KeepsAllBut before.told now.told first second
 others_earlier first second before between now same h = subst (λ t. KeepsAllBut t now.told first second) same h
+
+pub only_earlier : (name : List ℕ) (before between now : Moment) → between.told ≡ before.told → KeepsOthers between.told now.told name → KeepsOthers before.told now.told name
+only_earlier name before between now same h = subst (λ t. KeepsOthers t now.told name) same h

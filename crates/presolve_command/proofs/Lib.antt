@@ -1,3 +1,4 @@
 mod Before
 mod Made
 mod PlainKept
+mod Proved

@@ -1,5 +1,5 @@
 -- What is made of a text's program is made of the text.
-use Rattle.std.proofs.Common.{◌≡◌, ◌≤◌, ℕ, List, length, Result, Ok, Err, Vec, Global, ◌∙◌, sym, subst}
+use Rattle.std.proofs.Common.{◌≡◌, ◌≤◌, ℕ, List, length, Result, Ok, Err, Vec, Global, ◌∙◌, refl, sym, subst}
 use Rattle.file_ports.specs.Ports.{Told, Gives}
 use Rattle.lp_model.specs.ProgramData.{ProgramData}
 use Rattle.command_words.specs.declared.words.PresolveOptions.{PresolveOptions}
@@ -22,7 +22,7 @@ use Rattle.presolve_report.specs.ReducedProgram.{ReducedProgram}
 use Rattle.presolve_command.specs.declared.reduce.Texts.{Texts}
 use Rattle.presolve_command.specs.declared.reduce.NotReduced.{NotReduced}
 use Rattle.presolve_command.specs.declared.reduce.NotReduced.TheVariants.{Fault, NotContinuous, Infeasible, UnboundedOrInfeasible, NoMemory}
-use Rattle.presolve_command.specs.Texts.{IsMade, IsNotTaken, IsReduced, IsTaken, options_for, ProgramIsInfeasible, ProgramIsUnboundedOrInfeasible, TextIsInfeasible, TextIsNotTaken, TextIsUnboundedOrInfeasible, workers_for}
+use Rattle.presolve_command.specs.Texts.{IsMade, IsNotTaken, IsReduced, IsTaken, options_for, ProgramIsInfeasibleBy, ProgramIsUnboundedOrInfeasible, TextIsInfeasibleBy, TextIsNotTaken, TextIsUnboundedOrInfeasible, workers_for}
 
 reduced_so : (options : PresolveOptions) (text : List ℕ) (program : ProgramData) (r : Result Texts NotReduced)
     → IsProgramOf (form_of options) text program → IsMade (options_for options) (workers_for options) program r → IsReduced options text r
@@ -30,7 +30,7 @@ reduced_so options text program (Ok texts) read made = (made.0, (read.0, made.1 
 reduced_so options text program (Err (Fault fault)) read made = absurd made
 reduced_so options text program (Err (NotContinuous line)) read made =
     (read.0, subst (λ (x : ProgramData). IsNotTaken (options_for options) x line.items) read.1 made)
-reduced_so options text program (Err Infeasible) read made = (read.0, subst (ProgramIsInfeasible (options_for options) (workers_for options)) read.1 made)
+reduced_so options text program (Err (Infeasible found)) read made = (read.0, subst (λ (x : ProgramData). ProgramIsInfeasibleBy (options_for options) (workers_for options) x found.history.items found.verdict) read.1 made)
 reduced_so options text program (Err UnboundedOrInfeasible) read made = (read.0, subst (ProgramIsUnboundedOrInfeasible (options_for options) (workers_for options)) read.1 made)
 reduced_so options text program (Err NoMemory) read made = tt
 
@@ -56,8 +56,9 @@ pub not_taken_said : (options : PresolveOptions) (text : List ℕ) (n : NotReduc
 not_taken_said options text n line is h = subst (λ (x : NotReduced). IsReduced options text (Err x)) is h
 
 -- the same for want of a feasible point
-pub infeasible_said : (options : PresolveOptions) (text : List ℕ) (n : NotReduced) → n ≡ Infeasible → IsReduced options text (Err n) → TextIsInfeasible options text
-infeasible_said options text n is h = subst (λ (x : NotReduced). IsReduced options text (Err x)) is h
+pub infeasible_said : (options : PresolveOptions) (text : List ℕ) (n : NotReduced) (found : DecidedProgram) → n ≡ Infeasible found → IsReduced options text (Err n)
+    → TextIsInfeasibleBy options text found.history.items found.verdict
+infeasible_said options text n found is h = subst (λ (x : NotReduced). IsReduced options text (Err x)) is h
 
 -- the same for want of a feasible point, or of one of least cost
 pub unbounded_said : (options : PresolveOptions) (text : List ℕ) (n : NotReduced) → n ≡ UnboundedOrInfeasible → IsReduced options text (Err n) → TextIsUnboundedOrInfeasible options text
@@ -75,9 +76,9 @@ concluded_with options workers program made ended same h = subst (λ (x : End). 
 
 -- what presolve says where it gives a decided program
 pub infeasible_of : (options : Options) (workers : Workers) (program : ProgramData) (p : Presolved) (made : DecidedProgram) → p ≡ presolved.Infeasible made → IsTaken options program
-    → Concludes options workers program p → ProgramIsInfeasible options workers program
+    → Concludes options workers program p → ProgramIsInfeasibleBy options workers program made.history.items made.verdict
 infeasible_of options workers program p made is taken h = let k = subst (λ (x : Presolved). Concludes options workers program x) is h in
-    record { taken = taken; history = made.history.items; verdict = made.verdict; decided = k.0; says = k.1; no_point = k.2 }
+    (record { taken = taken; history = made.history.items; verdict = made.verdict; decided = k.0; says = k.1; no_point = k.2 }, refl, refl)
 
 pub unbounded_of : (options : Options) (workers : Workers) (program : ProgramData) (p : Presolved) (made : DecidedProgram) → p ≡ presolved.UnboundedOrInfeasible made → IsTaken options program
     → Concludes options workers program p → ProgramIsUnboundedOrInfeasible options workers program

@@ -1,5 +1,5 @@
 -- What a presolve says of the files before and after it, by its status and what it prints.
-use Rattle.std.specs.Prelude.{◌≡◌, ◌≢◌, ◌⊎◌, ℕ, ◌==◌, List}
+use Rattle.std.specs.Prelude.{◌≡◌, ◌≢◌, ◌⊎◌, ℕ, ◌==◌, List, Option, Some, None}
 use Rattle.file_ports.specs.Ports.{Moment, Unsettled, KeepsOthers, Written}
 use Rattle.command_words.specs.Names.{PresolveNames}
 use Rattle.endings.specs.Forms.{form_of}
@@ -9,7 +9,8 @@ use Rattle.endings.specs.ProgramTexts.{IsProgramOf, SaysFaultOf}
 use Rattle.endings.specs.declared.reads.TheConstants.{INPUT_LIMIT}
 use Rattle.presolve_model.specs.Workers.{IsInOrder}
 use Rattle.presolve_report.specs.Outcomes.{Outcome}
-use Rattle.presolve_command.specs.Texts.{IsConcluded, options_for, TextIsInfeasible, TextIsNotTaken, TextIsUnboundedOrInfeasible, workers_for}
+use Rattle.presolve_command.specs.Texts.{IsConcluded, options_for, TextHasRay, TextIsInfeasible, TextIsNotTaken, TextIsUnboundedOrInfeasible, TextLacksRay, workers_for}
+use Rattle.ray_file.specs.Telling.{past_lines}
 
 -- one worker is asked for, or that the run is in order: what presolve concludes is what comes of the ordered run then
 abbrev pub IsDoneInOrder : PresolveNames → Type 0
@@ -50,6 +51,24 @@ IsInfeasible names before = Reads INPUT_LIMIT (before.told names.input) (λ text
 abbrev pub IsUnboundedOrInfeasible : PresolveNames → Moment → Type 0
 IsUnboundedOrInfeasible names before = Reads INPUT_LIMIT (before.told names.input) (λ text. TextIsUnboundedOrInfeasible names.options text)
 
+-- the same, and this text holds a ray of the program
+abbrev pub IsProved : PresolveNames → List ℕ → Moment → Type 0
+IsProved names text before = Reads INPUT_LIMIT (before.told names.input) (λ held. TextHasRay names.options held text)
+
+-- the same, and a number of the ray has no room where this record is undone
+abbrev pub IsUnproved : PresolveNames → ℕ → Moment → Type 0
+IsUnproved names at before = Reads INPUT_LIMIT (before.told names.input) (λ held. TextLacksRay names.options held at)
+
+-- a text that holds a ray of the program was written to RAY, and no other name changed
+abbrev pub WritesRay : PresolveNames → List ℕ → Moment → Moment → Type 0
+WritesRay names ray before now = (text : List ℕ) × IsProved names text before × Written (before.told ray) (now.told ray) text × KeepsOthers before.told now.told ray
+
+-- IN's program has no feasible point. Where RAY is asked for, it was written; or a number of the ray has no room, which is said.
+abbrev pub SaysInfeasible : Option (List ℕ) → PresolveNames → List ℕ → Moment → Moment → Type 0
+SaysInfeasible None names printed before now = IsInfeasible names before × IsQuiet before now × (printed ≡ infeasible_line)
+SaysInfeasible (Some ray) names printed before now = (WritesRay names ray before now × (printed ≡ infeasible_line))
+    ⊎ ((at : ℕ) × IsUnproved names at before × IsQuiet before now × (printed ≡ past_lines at))
+
 -- a write of a name failed: what it tells is not told, or as before
 abbrev pub FailsAt : List ℕ → Moment → Moment → Type 0
 FailsAt name before now = FailsToWrite name before now × Unsettled (before.told name) (now.told name)
@@ -61,9 +80,17 @@ FailsBetween first text second before now =
     ⊎ (Written (before.told first) (now.told first) text × FailsAt second before now × KeepsAllBut before.told now.told first second)
 
 -- what would have been written was made, and one of the two writes failed
-abbrev pub IsUnwritten : PresolveNames → Moment → Moment → Type 0
-IsUnwritten names before now = (program records printed : List ℕ) × IsMadeOf names program records printed before
+abbrev pub AreUnwritten : PresolveNames → Moment → Moment → Type 0
+AreUnwritten names before now = (program records printed : List ℕ) × IsMadeOf names program records printed before
     × FailsBetween names.output program names.records before now
+
+-- a text that holds a ray of the program was made, and the write of RAY failed
+abbrev pub IsRayUnwritten : Option (List ℕ) → PresolveNames → Moment → Moment → Type 0
+IsRayUnwritten None names before now = ⊥
+IsRayUnwritten (Some ray) names before now = (text : List ℕ) × IsProved names text before × KeepsOthers before.told now.told ray × FailsAt ray before now
+
+abbrev pub IsUnwritten : PresolveNames → Moment → Moment → Type 0
+IsUnwritten names before now = AreUnwritten names before now ⊎ IsRayUnwritten names.ray names before now
 
 -- what a presolve says at a status, with what it prints
 abbrev pub SaysPresolve : PresolveNames → ℕ → List ℕ → Moment → Moment → Type 0
@@ -73,7 +100,7 @@ SaysPresolve names status printed before now =
     (When (status == 3) (FailsToRead names.input before now × IsQuiet before now × (printed ≡ read_fault_line))
     (When (status == 4) (IsUnwritten names before now × (printed ≡ write_fault_line))
     (When (status == 5) (IsQuiet before now × (printed ≡ no_memory_line))
-    (When (status == 20) (IsInfeasible names before × IsQuiet before now × (printed ≡ infeasible_line))
+    (When (status == 20) (SaysInfeasible names.ray names printed before now)
     (When (status == 21) (IsUnboundedOrInfeasible names before × IsQuiet before now × (printed ≡ unbounded_line))
     ⊥))))))
 

@@ -24,6 +24,7 @@ use Rattle.record_round_trip.specs.Ranges.{HasRange}
 use Rattle.whole_way.specs.Texts.{TextsFit}
 use Rattle.presolve_report.specs.Outcomes.{Outcome, Tells}
 use Rattle.presolve_report.specs.Report.{report_text}
+use Rattle.ray_file.specs.Telling.{StopsAt, TellsRay}
 use Rattle.endings.specs.Continuity.{NamesFirstNotContinuous}
 use Rattle.endings.specs.Forms.{form_of, numbers_of}
 use Rattle.endings.specs.ProgramTexts.{HasNoFault, IsFaultOf, IsProgramOf, program_in}
@@ -88,13 +89,18 @@ pub record ProgramIsUnboundedOrInfeasible (options : Options) (workers : Workers
   pub says : says_no_point verdict ≡ false
   pub endless : NoPointOrEndless program.sense (meaning program)
 
+-- that is found by this history and this verdict
+abbrev pub ProgramIsInfeasibleBy : Options → Workers → ProgramData → List Reduction → Verdict → Type 0
+ProgramIsInfeasibleBy options workers program history verdict =
+    (found : ProgramIsInfeasible options workers program) × (found.history ≡ history) × (found.verdict ≡ verdict)
+
 -- what is made of a program: the texts of an outcome of it, or that it is not taken, or decided, in one way or the other
 abbrev pub IsMade : Options → Workers → ProgramData → Result Texts NotReduced → Type 0
 IsMade options workers program (Ok texts) =
     (outcome : Outcome) × (outcome.source ≡ program) × IsConcluded options workers outcome texts.program.items texts.records.items texts.report.items
 IsMade options workers program (Err (Fault fault)) = ⊥
 IsMade options workers program (Err (NotContinuous line)) = IsNotTaken options program line.items
-IsMade options workers program (Err Infeasible) = ProgramIsInfeasible options workers program
+IsMade options workers program (Err (Infeasible made)) = ProgramIsInfeasibleBy options workers program made.history.items made.verdict
 IsMade options workers program (Err UnboundedOrInfeasible) = ProgramIsUnboundedOrInfeasible options workers program
 IsMade options workers program (Err NoMemory) = Unit {0}
 
@@ -116,6 +122,23 @@ abbrev pub TextIsInfeasible : PresolveOptions → List ℕ → Type 0
 TextIsInfeasible options text =
     HasNoFault (form_of options) text × ProgramIsInfeasible (options_for options) (workers_for options) (program_in (form_of options) text)
 
+-- that is found by this history and this verdict
+abbrev pub TextIsInfeasibleBy : PresolveOptions → List ℕ → List Reduction → Verdict → Type 0
+TextIsInfeasibleBy options text history verdict =
+    HasNoFault (form_of options) text × ProgramIsInfeasibleBy (options_for options) (workers_for options) (program_in (form_of options) text) history verdict
+
+-- the same, and what is written holds a ray of its program: that of the verdict, taken back over the history
+abbrev pub TextHasRay : PresolveOptions → List ℕ → List ℕ → Type 0
+TextHasRay options text written = HasNoFault (form_of options) text
+    × ((found : ProgramIsInfeasible (options_for options) (workers_for options) (program_in (form_of options) text))
+    × TellsRay (program_in (form_of options) text) found.history found.verdict written)
+
+-- the same, and a number of that ray has no room, where this record is undone
+abbrev pub TextLacksRay : PresolveOptions → List ℕ → ℕ → Type 0
+TextLacksRay options text at = HasNoFault (form_of options) text
+    × ((found : ProgramIsInfeasible (options_for options) (workers_for options) (program_in (form_of options) text))
+    × StopsAt (program_in (form_of options) text) found.history found.verdict at)
+
 -- a text has no fault, and its program is found to have no feasible point, or none of least cost
 abbrev pub TextIsUnboundedOrInfeasible : PresolveOptions → List ℕ → Type 0
 TextIsUnboundedOrInfeasible options text =
@@ -129,6 +152,6 @@ IsReduced options text (Ok texts) =
     × IsConcluded (options_for options) (workers_for options) outcome texts.program.items texts.records.items texts.report.items
 IsReduced options text (Err (Fault fault)) = IsFaultOf (form_of options) text fault
 IsReduced options text (Err (NotContinuous line)) = TextIsNotTaken options text line.items
-IsReduced options text (Err Infeasible) = TextIsInfeasible options text
+IsReduced options text (Err (Infeasible made)) = TextIsInfeasibleBy options text made.history.items made.verdict
 IsReduced options text (Err UnboundedOrInfeasible) = TextIsUnboundedOrInfeasible options text
 IsReduced options text (Err NoMemory) = Unit {0}

@@ -1,18 +1,22 @@
-//! The command `presolve IN OUT REC [--threads T] [--limit N] [--dual] [--fractions] [--ordered] [--fixed]`.
+//! The command `presolve IN OUT REC [--threads T] [--limit N] [--dual] [--ray RAY] [--fractions] [--ordered] [--fixed]`.
 
-ghost use Rattle.std.specs.Prelude.{◌≡◌, ◌≢◌, ◌≤◌, IfOk, OnOk, OnErr};
+ghost use Rattle.std.specs.Prelude.{◌≡◌, ◌≢◌, ◌<◌, ◌≤◌, ◌^◌, length, IfOk, IfSome, OnOk, OnErr};
 ghost use Rattle.file_ports.specs.Ports.{Written};
+ghost use Rattle.command_words.specs.Names.{HasPlaceForRay};
 ghost use Rattle.command_words.specs.Seen.{names_of};
 ghost use Rattle.command_words.specs.declared.words.TheConstants.{MOST_THREADS};
 ghost use Rattle.endings.specs.Ending.{status_of, text_of};
 ghost use Rattle.endings.specs.Moments.{IsQuiet, KeepsAllBut};
 ghost use Rattle.presolve_command.specs.Presolved.{EndsPresolve, FailsBetween};
+ghost use Rattle.presolve_command.specs.Proving.{EndsInfeasible};
+ghost use Rattle.presolve_command.specs.Texts.{TextIsInfeasibleBy};
 
 use crate::reduce::{NotReduced, Texts, reduce};
 use command_words::PresolveWords;
-use endings::{Ending, INPUT_LIMIT, fault_line};
+use endings::{Ending, INPUT_LIMIT, fault_line, form_of};
 use file_ports::{Failed, Files, ReadErr};
-use presolve_report::presolve_rounds::Onlooker;
+use presolve_report::presolve_rounds::{DecidedProgram, Onlooker};
+use ray_file::{RayError, past_text, ray_text};
 use std::alloc::{AllocError, Global};
 use std::sync::Wait;
 use std::thread::Threads;
@@ -35,8 +39,36 @@ fn write_both<F: Files>(
     files.write(records, &texts.records)
 }
 
-/// Reads a program, writes the reduced one and its records; nothing where it has no feasible point, or none of least cost, or duals are
-/// asked for and a column has to be whole or is semi-continuous. All that is written and printed is made before the first write. The gate
+/// The ending of a run that found no feasible point of a text's program. Its ray is written, if that is asked for.
+fn infeasible<F: Files>(
+    alloc: Global,
+    words: &PresolveWords<'_>,
+    text: &[u8],
+    decided: &DecidedProgram,
+    files: &mut F,
+) -> Result<Ending, AllocError>
+    requires few_bytes { length text.now < 2 ^ 32 }
+    requires decided { TextIsInfeasibleBy words.now.options text.now decided.now.history.items decided.now.verdict }
+    requires placed { IfSome (names_of words.now).ray (HasPlaceForRay words.now.options words.now.output.now words.now.records.now) }
+    ensures ends { IfOk result (λ e. EndsInfeasible words.now.options text.now (names_of words.now).ray e (F.moment files.old) (F.moment files.new)) }
+    ensures no_memory { OnErr result (IsQuiet (F.moment files.old) (F.moment files.new)) }
+{
+    let Some(name) = words.ray else {
+        return Ok(Ending::Infeasible);
+    };
+    let history = decided.history.as_slice();
+    match ray_text(alloc, text, form_of(words.options), history, decided.verdict) {
+        Ok(ray) => match files.write(name, &ray) {
+            Ok(()) => Ok(Ending::Infeasible),
+            Err(Failed) => Ok(Ending::WriteFault),
+        },
+        Err(RayError::Past { at }) => Ok(Ending::RayPast(past_text(alloc, at)?)),
+        Err(RayError::NoMemory) => Err(AllocError),
+    }
+}
+
+/// Reads a program, writes the reduced one and its records; or its ray, where it has no feasible point and a ray is asked for; nothing where
+/// it has none of least cost, or duals are asked for and a column has to be whole or is semi-continuous. All that is written and printed is made before the first write. The gate
 /// is called by workers that race, and the onlooker is told of the rounds.
 pub fn presolve<R: Threads + Wait + Sync, F: Files, G: Gate, O: Onlooker>(
     rt: &R,
@@ -47,6 +79,7 @@ pub fn presolve<R: Threads + Wait + Sync, F: Files, G: Gate, O: Onlooker>(
     onlooker: &mut O,
 ) -> Result<Ending, AllocError>
     requires differ { words.now.output.now ≢ words.now.records.now }
+    requires placed { IfSome (names_of words.now).ray (HasPlaceForRay words.now.options words.now.output.now words.now.records.now) }
     requires some_threads { 1 ≤ words.now.options.threads }
     requires few_threads { words.now.options.threads ≤ MOST_THREADS }
     ensures ends { IfOk result (λ e. EndsPresolve (names_of words.now) (status_of e) (text_of e) (F.moment files.old) (F.moment files.new)) }
@@ -64,7 +97,9 @@ pub fn presolve<R: Threads + Wait + Sync, F: Files, G: Gate, O: Onlooker>(
         Ok(texts) => texts,
         Err(NotReduced::Fault(fault)) => return Ok(Ending::Refused(fault_line(alloc, fault)?)),
         Err(NotReduced::NotContinuous(line)) => return Ok(Ending::Refused(line)),
-        Err(NotReduced::Infeasible) => return Ok(Ending::Infeasible),
+        Err(NotReduced::Infeasible(decided)) => {
+            return infeasible(alloc, words, &text, &decided, files);
+        }
         Err(NotReduced::UnboundedOrInfeasible) => return Ok(Ending::UnboundedOrInfeasible),
         Err(NotReduced::NoMemory) => return Err(AllocError),
     };

@@ -16,7 +16,7 @@ use lp_check::first_not_continuous;
 use lp_model::Program;
 use mps_writer::{WriteError, write_mps};
 use presolve_model::{Options, Workers};
-use presolve_report::presolve_rounds::{Onlooker, Presolved, ReducedProgram};
+use presolve_report::presolve_rounds::{DecidedProgram, Onlooker, Presolved, ReducedProgram};
 use presolve_report::{Report, report_for, report_of, size_of};
 use racing_runs::presolve;
 use record_file::write_records;
@@ -44,8 +44,8 @@ pub enum NotReduced {
     Fault(ProgramFault),
     /// Duals are asked for, and a column has to be whole or is semi-continuous: the line that names the first one.
     NotContinuous(Vec<u8>),
-    /// The text's program has no feasible point.
-    Infeasible,
+    /// The text's program has no feasible point: by this history and this verdict.
+    Infeasible(DecidedProgram),
     /// The text's program has no feasible point, or none of least cost.
     UnboundedOrInfeasible,
     NoMemory,
@@ -127,7 +127,7 @@ fn reduce_program<R: Threads + Wait + Sync, G: Gate, O: Onlooker>(
             let texts = texts_of(alloc, &made, &report)?;
             Ok(texts)
         }
-        Ok(Presolved::Infeasible(_decided)) => Err(NotReduced::Infeasible),
+        Ok(Presolved::Infeasible(decided)) => Err(NotReduced::Infeasible(decided)),
         Ok(Presolved::UnboundedOrInfeasible(_decided)) => Err(NotReduced::UnboundedOrInfeasible),
         Err(AllocError) => Err(NotReduced::NoMemory),
     }

@@ -6,7 +6,7 @@ use Rattle.lp_model.specs.Meaning.{meaning}
 use Rattle.lp_model.specs.Optimality.{Continuous}
 use Rattle.lp_model.specs.ProgramData.{ProgramData}
 use Rattle.endings.specs.declared.ending.Ending.{Ending}
-use Rattle.endings.specs.declared.ending.Ending.TheVariants.{Done, Usage, Refused, ReadFault, WriteFault, NoMemory, NoRoom, RecordsRefused, SolutionRefused, Violated, Spent, Infeasible, UnboundedOrInfeasible, Unbounded}
+use Rattle.endings.specs.declared.ending.Ending.TheVariants.{Done, Usage, Refused, ReadFault, WriteFault, NoMemory, NoRoom, RecordsRefused, SolutionRefused, Violated, Spent, Infeasible, RayPast, UnboundedOrInfeasible, Unbounded}
 use Rattle.endings.specs.declared.forms.Form.{Form}
 use Rattle.endings.specs.Ending.{status_of, text_of}
 use Rattle.endings.specs.Moments.{Finds, IfFound, IsQuiet}
@@ -48,6 +48,7 @@ refused_line names before now form found (SolutionRefused line) is finds h = abs
 refused_line names before now form found (Violated line) is finds h = absurd h
 refused_line names before now form found Spent is finds h = absurd h
 refused_line names before now form found Infeasible is finds h = absurd h
+refused_line names before now form found (RayPast lines) is finds h = absurd h
 refused_line names before now form found UnboundedOrInfeasible is finds h = absurd h
 refused_line names before now form found Unbounded is finds h = absurd h
 
@@ -71,6 +72,7 @@ without names before now program (SolutionRefused line) given continuous h = abs
 without names before now program (Violated line) given continuous h = absurd h
 without names before now program Spent given continuous h = (program, given, continuous, h)
 without names before now program Infeasible given continuous h = (program, given, continuous, h)
+without names before now program (RayPast lines) given continuous h = absurd h
 without names before now program UnboundedOrInfeasible given continuous h = absurd h
 without names before now program Unbounded given continuous h = (program, given, continuous, h)
 
@@ -104,6 +106,7 @@ said_at_status names before now (SolutionRefused line) quiet h = absurd h.3
 said_at_status names before now (Violated line) quiet h = absurd h.3
 said_at_status names before now Spent quiet h = (h, quiet, refl)
 said_at_status names before now Infeasible quiet h = (h, quiet, refl)
+said_at_status names before now (RayPast lines) quiet h = absurd h.3
 said_at_status names before now UnboundedOrInfeasible quiet h = absurd h.3
 said_at_status names before now Unbounded quiet h = (h, quiet, refl)
 

@@ -8,7 +8,7 @@ use Rattle.lp_model.specs.Writable.{EntriesAscend}
 use Rattle.undo_records.specs.Named.{AreRecords}
 use Rattle.undo_records.specs.Postsolve.{Postsolve}
 use Rattle.endings.specs.declared.ending.Ending.{Ending}
-use Rattle.endings.specs.declared.ending.Ending.TheVariants.{Done, Usage, Refused, ReadFault, WriteFault, NoMemory, NoRoom, RecordsRefused, SolutionRefused, Violated, Spent, Infeasible, UnboundedOrInfeasible, Unbounded}
+use Rattle.endings.specs.declared.ending.Ending.TheVariants.{Done, Usage, Refused, ReadFault, WriteFault, NoMemory, NoRoom, RecordsRefused, SolutionRefused, Violated, Spent, Infeasible, RayPast, UnboundedOrInfeasible, Unbounded}
 use Rattle.endings.specs.declared.forms.Form.{Form}
 use Rattle.endings.specs.Ending.{status_of, text_of}
 use Rattle.endings.specs.Moments.{Finds, IfFound, IsThere}
@@ -101,6 +101,7 @@ records_said names before program reduced told (Yes records offset) (RecordsRefu
 records_said names before program reduced told (Yes records offset) (SolutionRefused line) given ascends sound says tells = absurd tells
 records_said names before program reduced told (Yes records offset) (Violated line) given ascends sound says tells = absurd tells
 records_said names before program reduced told (Yes records offset) Infeasible given ascends sound says tells = absurd tells
+records_said names before program reduced told (Yes records offset) (RayPast lines) given ascends sound says tells = absurd tells
 records_said names before program reduced told (Yes records offset) UnboundedOrInfeasible given ascends sound says tells = absurd tells
 records_said names before program reduced told (Yes records offset) Spent given ascends sound says tells = absurd tells
 records_said names before program reduced told (Yes records offset) Unbounded given ascends sound says tells = absurd tells
@@ -114,6 +115,7 @@ records_said names before program reduced told (No why) (NoRoom line) given asce
 records_said names before program reduced told (No why) (RecordsRefused line) given ascends sound says tells = absurd tells
 records_said names before program reduced told (No why) (SolutionRefused line) given ascends sound says tells = absurd tells
 records_said names before program reduced told (No why) Infeasible given ascends sound says tells = absurd tells
+records_said names before program reduced told (No why) (RayPast lines) given ascends sound says tells = absurd tells
 records_said names before program reduced told (No why) UnboundedOrInfeasible given ascends sound says tells = absurd tells
 records_said names before program reduced told (No why) Spent given ascends sound says tells = absurd tells
 records_said names before program reduced told (No why) Unbounded given ascends sound says tells = absurd tells
@@ -131,6 +133,7 @@ said_at_status names before now (RecordsRefused line) h = absurd h
 said_at_status names before now (SolutionRefused line) h = absurd h
 said_at_status names before now (Violated line) h = h
 said_at_status names before now Infeasible h = absurd h
+said_at_status names before now (RayPast lines) h = absurd h
 said_at_status names before now UnboundedOrInfeasible h = absurd h
 said_at_status names before now Spent h = absurd h
 said_at_status names before now Unbounded h = absurd h

@@ -1,11 +1,13 @@
-use Rattle.std.proofs.Common.{Some, refl, inr}
+use Rattle.std.proofs.Common.{Some, refl, inl, inr}
+use Rattle.std.proofs.lemmas.Result.{IfOk-weaker}
 use Rattle.command_words.specs.Seen.{names_of}
 use Rattle.endings.specs.Forms.{form_of}
 use Rattle.endings.specs.declared.reads.TheConstants.{INPUT_LIMIT}
 use Rattle.endings.proofs.Earlier.{finds_there, program_read}
 use Rattle.presolve_command.specs.Presolved.{IsMadeOf}
-use Rattle.presolve_command.specs.Texts.{TextIsInfeasible, TextIsNotTaken, TextIsUnboundedOrInfeasible}
+use Rattle.presolve_command.specs.Texts.{TextIsNotTaken, TextIsUnboundedOrInfeasible}
 use Rattle.presolve_command.proofs.Before.{fails_earlier, others_earlier, written_earlier}
+use Rattle.presolve_command.proofs.Proved.{infeasible_ends}
 use Rattle.presolve_command.proofs.Made.{infeasible_said, not_taken_said, said_read, unbounded_said}
 use Rattle.presolve_command.proofs.command.presolve.Goals as goal
 
@@ -48,7 +50,7 @@ returns-clause-ends g c =
       concluded = reduced.2;
     } in
     record {
-      says = ((texts.program.items, texts.records.items, texts.report.items, made, fails_earlier names.output _ names.records before between now c.read.ensures.kept c.read.ensures.writes_stay c.in-Err.ensures.failed), refl);
+      says = (inl (texts.program.items, texts.records.items, texts.report.items, made, fails_earlier names.output _ names.records before between now c.read.ensures.kept c.read.ensures.writes_stay c.in-Err.ensures.failed), refl);
       read = λ a b. finds_there INPUT_LIMIT names.input before before (Some c.in-Ok.text.items) (c.in-Ok.ensures.bytes, c.in-Ok.ensures.most);
     }
 
@@ -56,15 +58,12 @@ pub returns-in-Err-Infeasible-clause-ends : goal.returns-in-Err-Infeasible-claus
 returns-in-Err-Infeasible-clause-ends g c =
     let names = names_of c.args.words.now in
     let before = g.F.Files.moment c.args.files.now in
-    record {
-      says = (
-        said_read (λ t. TextIsInfeasible names.options t) INPUT_LIMIT (before.told names.input) c.in-Ok.text.items _ c.in-Ok.ensures.bytes c.in-Ok.ensures.most c.deref.ensures.value
-            (infeasible_said c.args.words.now.options c.deref.result.now c.in-Err-Infeasible.field-0 c.in-Err-Infeasible.field-0-is c.in-Err-Infeasible.ensures),
-        c.read.ensures.kept,
-        refl,
-      );
+    IfOk-weaker c.infeasible.result _ _ (λ e ends. record {
+      says = infeasible_ends names before (g.F.Files.moment c.read.new.self) (g.F.Files.moment c.infeasible.new.files) c.in-Ok.text.items _ _ _ e names.ray refl c.read.ensures.kept c.read.ensures.writes_stay c.in-Ok.ensures.bytes
+          c.in-Ok.ensures.most c.deref.ensures.value
+          (infeasible_said c.args.words.now.options c.deref.result.now c.in-Err-Infeasible.field-0 c.in-Err-Infeasible.decided c.in-Err-Infeasible.field-0-is c.in-Err-Infeasible.ensures) ends;
       read = λ a b. finds_there INPUT_LIMIT names.input before before (Some c.in-Ok.text.items) (c.in-Ok.ensures.bytes, c.in-Ok.ensures.most);
-    }
+    }) c.infeasible.ensures.ends
 
 pub returns-in-Err-UnboundedOrInfeasible-clause-ends : goal.returns-in-Err-UnboundedOrInfeasible-clause-ends
 returns-in-Err-UnboundedOrInfeasible-clause-ends g c =

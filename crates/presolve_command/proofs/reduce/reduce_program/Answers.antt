@@ -32,7 +32,7 @@ texts_of-requires g c =
     widths_fit c.args.options.now.numbers c.in-Ok-Reduced.made.program concluded.writable
 
 pub returns-in-Ok-Infeasible : goal.returns-in-Ok-Infeasible
-returns-in-Ok-Infeasible g c = infeasible_of c.args.options.now c.args.workers.now c.args.program c.in-Ok-Infeasible.field-0 c.in-Ok-Infeasible._decided c.in-Ok-Infeasible.field-0-is c.requires.taken c.in-Ok-Infeasible.ensures
+returns-in-Ok-Infeasible g c = infeasible_of c.args.options.now c.args.workers.now c.args.program c.in-Ok-Infeasible.field-0 c.in-Ok-Infeasible.decided c.in-Ok-Infeasible.field-0-is c.requires.taken c.in-Ok-Infeasible.ensures
 
 pub returns-in-Ok-UnboundedOrInfeasible : goal.returns-in-Ok-UnboundedOrInfeasible
 returns-in-Ok-UnboundedOrInfeasible g c =
