@@ -101,7 +101,7 @@ fn take_lines(alloc: Global, reading: &mut Reading, text: &[u8]) -> Result<(), S
 ///
 /// The first line that is not blank is `=ray=` alone. Each line after it is `row` or `column`, a name and two numbers, with spaces or
 /// tabs between them: the weights of the lower and of the upper end. Lines come in any order, and blank ones count for nothing. Numbers
-/// are read exactly, fractions among them.
+/// are read exactly, fractions among them. A text of blank lines gives zeros alone; [`is_ray`](crate::is_ray) tells it from a ray.
 ///
 /// # Errors
 /// [`SolError::Fault`] exactly where a line has a fault: the first such line, and its fault with the lowest number. A line that is none
