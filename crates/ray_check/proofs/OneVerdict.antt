@@ -67,7 +67,7 @@ module _ (d : ProgramData) (w : Weights) where
   row_not i h v l k = h.2 (rows_passed v l k i h.1)
 
   column_fails : (j : ℕ) → DecidesRay d w (NoColumn j) → ColumnPasses d w j → ⊥
-  column_fails j h k = elim h.2 [ inl not_held ↦ not_held k.0 | inr (held, fits, uneven) ↦ uneven k.2 ]
+  column_fails j h k = elim h.2 [ inl not_held ↦ not_held k.0 | inr (held, fits, unbalanced) ↦ unbalanced k.2 ]
 
   column_past : (j : ℕ) → DecidesRay d w (PastColumn j) → ColumnPasses d w j → ⊥
   column_past j h k = h.3 k.1
@@ -88,7 +88,7 @@ module _ (d : ProgramData) (w : Weights) where
   past_past j k h g = by_order (PastColumn j ≡ PastColumn k) j k (λ l. absurd (column_past j h (g.0.1 j l))) (λ l. absurd (column_past k g (h.0.1 k l))) (λ same. ap (λ (m : ℕ). PastColumn m) same)
 
   at_one : (j : ℕ) → DecidesRay d w (NoColumn j) → DecidesRay d w (PastColumn j) → ⊥
-  at_one j h g = elim h.2 [ inl not_held ↦ not_held g.2 | inr (held, fits, uneven) ↦ g.3 fits ]
+  at_one j h g = elim h.2 [ inl not_held ↦ not_held g.2 | inr (held, fits, unbalanced) ↦ g.3 fits ]
 
   column_and_past : (j k : ℕ) → DecidesRay d w (NoColumn j) → DecidesRay d w (PastColumn k) → ⊥
   column_and_past j k h g = by_order ⊥ j k (λ l. column_fails j h (g.0.1 j l)) (λ l. column_past k g (h.0.1 k l)) (λ same. at_one k (subst (λ (m : ℕ). DecidesRay d w (NoColumn m)) same h) g)

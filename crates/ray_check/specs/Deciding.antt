@@ -18,12 +18,12 @@ abbrev pub ColumnHolds : LinearProgram → Weights → ℕ → Type 0
 ColumnHolds M w j = IsWeight (M.lower_bound j) (w.p j) × IsWeight (M.upper_bound j) (w.q j)
 
 -- the sum of column j is 0
-abbrev pub IsEven : LinearProgram → Weights → ℕ → Type 0
-IsEven M w j = net_at M w j ≡ zero_ℚ
+abbrev pub IsBalanced : LinearProgram → Weights → ℕ → Type 0
+IsBalanced M w j = net_at M w j ≡ zero_ℚ
 
 -- column j passes: its weights, and then its sum, which has room
 abbrev pub ColumnPasses : ProgramData → Weights → ℕ → Type 0
-ColumnPasses d w j = ColumnHolds (meaning d) w j × ColumnFits d w j × IsEven (meaning d) w j
+ColumnPasses d w j = ColumnHolds (meaning d) w j × ColumnFits d w j × IsBalanced (meaning d) w j
 
 -- the sum of each column has room
 abbrev pub ColumnsFit : ProgramData → Weights → Type 0
@@ -49,7 +49,7 @@ abbrev pub DecidesRay : ProgramData → Weights → RayChecked → Type 0
 DecidesRay d w Yes = BeforeTotal d w × TotalFits (meaning d) w × (zero_ℚ <ℚ total_of (meaning d) w)
 DecidesRay d w (NoRow i) = RowsPass d w i × (i < length d.rows) × (RowHolds (meaning d) w i → ⊥)
 DecidesRay d w (NoColumn j) = BeforeColumn d w j × (j < length d.columns)
-    × ((ColumnHolds (meaning d) w j → ⊥) ⊎ (ColumnHolds (meaning d) w j × ColumnFits d w j × (IsEven (meaning d) w j → ⊥)))
+    × ((ColumnHolds (meaning d) w j → ⊥) ⊎ (ColumnHolds (meaning d) w j × ColumnFits d w j × (IsBalanced (meaning d) w j → ⊥)))
 DecidesRay d w (NoTotal t) = BeforeTotal d w × TotalFits (meaning d) w × (t ≡ total_of (meaning d) w) × (t ≤ℚ zero_ℚ)
 DecidesRay d w (PastColumn j) = BeforeColumn d w j × (j < length d.columns) × ColumnHolds (meaning d) w j × (ColumnFits d w j → ⊥)
 DecidesRay d w PastTotal = BeforeTotal d w × (TotalFits (meaning d) w → ⊥)

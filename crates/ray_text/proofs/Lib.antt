@@ -6,3 +6,4 @@ mod WritingSteps
 mod Unbroken
 mod Parsing
 mod Again
+mod GivenLaws

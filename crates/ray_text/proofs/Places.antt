@@ -3,15 +3,16 @@ use Rattle.std.proofs.Common.{◌≡◌, ◌≢◌, ℕ, zero, suc, ◌<◌, Lis
 use Rattle.std.specs.Prelude.{All, is_some, is_none, ◌||◌}
 use Rattle.std.proofs.Math.ListN.{set}
 use Rattle.std.specs.Str.{bytes_eq}
-use Rattle.std.proofs.lemmas.List.{get_or-map}
+use Rattle.std.proofs.lemmas.List.{get_or-map, length-map}
 use Rattle.std.proofs.lemmas.List.Elements.{All-head, All-tail}
 use Rattle.std.proofs.lemmas.Slice.Eq.{bytes_eq-Decides}
 use Rattle.rational.specs.Number.{Number}
 use Rattle.fractions.specs.declared.Numbers.TheVariants.{Fractions}
 use Rattle.names.specs.Names.{place}
 use Rattle.number_texts.specs.Read.{read_of}
-use Rattle.lp_model.specs.Names.{Differ}
-use Rattle.lp_rays.specs.RayData.{RayData}
+use Rattle.lp_model.specs.Names.{Differ, names_of_rows, names_of_columns}
+use Rattle.lp_model.specs.ProgramData.{ProgramData}
+use Rattle.lp_rays.specs.RayData.{RayData, IsSized}
 use Rattle.mps_profile.specs.Texts.{Text}
 use Rattle.point_text.specs.Faults.{is_past, is_bad}
 use Rattle.point_text.specs.declared.faults.SolFaultKind.{SolFaultKind}
@@ -21,9 +22,9 @@ use Rattle.point_text.specs.declared.faults.SolError.TheVariants.{Fault, NoMemor
 use Rattle.ray_text.specs.declared.weights.EndWeights.{EndWeights}
 use Rattle.ray_text.specs.declared.reading.Reading.{Reading}
 use Rattle.ray_text.specs.RayLines.{Giving}
-use Rattle.ray_text.specs.Given.{given, weights_in, weights_or_none}
+use Rattle.ray_text.specs.Given.{of_rows, of_columns, given, weights_in, weights_or_none}
 use Rattle.ray_text.specs.Faults.{giving_fault, weights_result}
-use Rattle.ray_text.specs.Reading.{lower_of, upper_of, IsRayRead}
+use Rattle.ray_text.specs.Reading.{said, lower_of, upper_of, ray_in, IsRayRead}
 use Rattle.ray_text.specs.Holding.{TookAll}
 use Rattle.ray_text.proofs.NameTables.{head_differs, rest_differs, name_at}
 
@@ -141,3 +142,17 @@ ray_same r s t p q x y z w is es et ep eq = rw (← es, ← et, ← ep, ← eq) 
 pub told : (rows columns : List Text) (text : List ℕ) (reading : Reading) (error : SolError) → TookAll {T = Unit {0}} rows columns text (Err error) reading → IsRayRead rows columns text (Err error)
 told rows columns text reading (Fault fault) took = took
 told rows columns text reading NoMemory took = tt
+
+pub one_each : (p : ProgramData) (text : List ℕ) (r : RayData) → r ≡ ray_in (names_of_rows p.rows) (names_of_columns p.columns) text → IsSized (length p.rows) (length p.columns) r
+one_each p text r is = subst (IsSized (length p.rows) (length p.columns)) (sym is) (record {
+  lower_sides = rows_each (λ name. (weights_or_none (given (of_rows (said text)) name)).lower);
+  upper_sides = rows_each (λ name. (weights_or_none (given (of_rows (said text)) name)).upper);
+  lower_bounds = columns_each (λ name. (weights_or_none (given (of_columns (said text)) name)).lower);
+  upper_bounds = columns_each (λ name. (weights_or_none (given (of_columns (said text)) name)).upper);
+})
+  where
+    rows_each : (f : Text → Number) → length (map f (names_of_rows p.rows)) ≡ length p.rows
+    rows_each f = rw (length-map, length-map) refl
+
+    columns_each : (f : Text → Number) → length (map f (names_of_columns p.columns)) ≡ length p.columns
+    columns_each f = rw (length-map, length-map) refl

@@ -5,3 +5,4 @@ pub mod Reading
 pub mod RayText
 pub mod Holding
 pub mod Starting
+pub mod GivenTo

@@ -8,7 +8,7 @@ mod starting;
 mod weights;
 mod writing;
 
-pub use laws::written_ray_is_read;
+pub use laws::{weights_are_given, written_ray_is_read};
 pub use reading::read_ray;
 pub use starting::is_ray;
 pub use writing::write_ray;

@@ -2,7 +2,7 @@
 
 ghost use Rattle.std.specs.Prelude.{◌≡◌, length, List, [], IfOk};
 ghost use Rattle.lp_model.specs.Names.{Differ, names_of_rows, names_of_columns};
-ghost use Rattle.lp_rays.specs.RayData.{RayData};
+ghost use Rattle.lp_rays.specs.RayData.{RayData, IsSized};
 ghost use Rattle.mps_profile.specs.Texts.{Text};
 ghost use Rattle.ray_text.specs.RayLines.{Line, text_line};
 ghost use Rattle.ray_text.specs.Given.{of_rows, of_columns};
@@ -101,14 +101,15 @@ fn take_lines(alloc: Global, reading: &mut Reading, text: &[u8]) -> Result<(), S
 ///
 /// The first line that is not blank is `=ray=` alone. Each line after it is `row` or `column`, a name and two numbers, with spaces or
 /// tabs between them: the weights of the lower and of the upper end. Lines come in any order, and blank ones count for nothing. Numbers
-/// are read exactly, fractions among them.
+/// are read exactly, fractions among them. A text of blank lines gives zeros alone; [`is_ray`](crate::is_ray) tells it from a ray.
 ///
 /// # Errors
 /// [`SolError::Fault`] exactly where a line has a fault: the first such line, and its fault with the lowest number. A line that is none
 /// of the above, or stands where it may not, is a bad line; the name of a row is looked for among the rows, that of a column among the
 /// columns. [`SolError::NoMemory`] where memory is short.
 pub fn read_ray(alloc: Global, bytes: &[u8], program: &Program) -> Result<Ray, SolError>
-    ensures { IsRayRead (names_of_rows program.now.rows) (names_of_columns program.now.columns) bytes.now result }
+    ensures read { IsRayRead (names_of_rows program.now.rows) (names_of_columns program.now.columns) bytes.now result }
+    ensures sized { IfOk result (λ ray. IsSized (length program.now.rows) (length program.now.columns) ray) }
 {
     names_differ(program);
     let mut reading = Reading::new(alloc, program)?;
