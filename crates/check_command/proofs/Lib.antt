@@ -1,3 +1,5 @@
 mod Said
 mod Proved
 mod Told
+mod RayProved
+mod RayTold

@@ -5,7 +5,7 @@ use Rattle.command_words.specs.Names.{CheckNames}
 use Rattle.lp_model.specs.ProgramData.{ProgramData}
 use Rattle.endings.specs.Ending.{status_of, text_of}
 use Rattle.endings.specs.declared.ending.Ending.{Ending}
-use Rattle.endings.specs.declared.ending.Ending.TheVariants.{Done, Usage, Refused, ReadFault, WriteFault, NoMemory, NoRoom, RecordsRefused, SolutionRefused, Violated, Spent, Infeasible, UnboundedOrInfeasible, Unbounded}
+use Rattle.endings.specs.declared.ending.Ending.TheVariants.{Done, Usage, Refused, ReadFault, WriteFault, NoMemory, NoRoom, RecordsRefused, SolutionRefused, Violated, Spent, Infeasible, RayPast, UnboundedOrInfeasible, Unbounded}
 use Rattle.check_command.specs.Checked.{IsProgramIn, SaysCheck, SaysSolution}
 
 pub solution_said : (names : CheckNames) (before now : Moment) (program : ProgramData) (ending : Ending)
@@ -21,6 +21,7 @@ solution_said names before now program (RecordsRefused line) read h = absurd h
 solution_said names before now program (SolutionRefused line) read h = (program, read, h)
 solution_said names before now program (Violated line) read h = (program, read, h)
 solution_said names before now program Infeasible read h = absurd h
+solution_said names before now program (RayPast lines) read h = absurd h
 solution_said names before now program UnboundedOrInfeasible read h = absurd h
 solution_said names before now program Spent read h = absurd h
 solution_said names before now program Unbounded read h = absurd h

@@ -22,7 +22,8 @@ use Rattle.endings.specs.ProgramTexts.{IsProgramOf, SaysFaultOf}
 use Rattle.endings.specs.declared.reads.TheConstants.{INPUT_LIMIT, SOLUTION_LIMIT}
 use Rattle.endings.specs.declared.ending.Ending.{Ending}
 use Rattle.endings.specs.declared.ending.Ending.TheVariants.{Done, NoRoom, Refused, SolutionRefused, Violated}
-use Rattle.endings.specs.SolutionTexts.{IsPairOf, SaysPairFault}
+use Rattle.check_command.specs.GivenTexts.{IsSolutionOf, NeedsContinuous, SaysGivenFault}
+use Rattle.check_command.specs.JudgedRay.{IsRayJudged}
 use Rattle.check_command.specs.VerdictText.{status_of_verdict, verdict_text, status_of_pair_verdict, pair_verdict_text, yes_text}
 
 -- how IN is read
@@ -42,11 +43,11 @@ TellsPairVerdict program verdict (NoRoom line) = (status_of_pair_verdict verdict
 TellsPairVerdict program verdict (Violated line) = (status_of_pair_verdict verdict ≡ 9) × (line.items ≡ pair_verdict_text program verdict)
 TellsPairVerdict program verdict ending = ⊥
 
--- SOL has no duals, and this status and this line are those of the verdict on its point
+-- SOL gives a point without duals, and this status and this line are those of the verdict on the point
 pub record IsPointJudged (program : ProgramData) (solution : Told) (status : ℕ) (printed : List ℕ) : Type 0 where
   pub point : List Number
   pub verdict : Verdict
-  pub given : Reads SOLUTION_LIMIT solution (λ text. IsPairOf program text point None)
+  pub given : Reads SOLUTION_LIMIT solution (λ text. IsSolutionOf program text point None)
   pub decides : Decides (meaning program) (vector_of point) verdict
   pub answers : status_of_verdict verdict ≡ status
   pub said : printed ≡ verdict_text program verdict
@@ -57,13 +58,13 @@ pub record IsProvedBest (program : ProgramData) (point duals : List Number) (pri
   pub cost : printed ≡ yes_text (cost_at (meaning program) (vector_of point))
   pub best : (other : Vector) → Feasible (meaning program) other → NoWorse program.sense (cost_at (meaning program) (vector_of point)) (cost_at (meaning program) other)
 
--- SOL has duals, no column of IN has to be whole or is semi-continuous, and this status and this line are those of the verdict on the point with the duals;
--- where it is yes, it is a proof
+-- SOL gives a point with duals, no column of IN has to be whole or is semi-continuous, and this status and this line are those of the verdict on the point
+-- with the duals; where it is yes, it is a proof
 pub record IsPairJudged (program : ProgramData) (solution : Told) (status : ℕ) (printed : List ℕ) : Type 0 where
   pub point : List Number
   pub duals : List Number
   pub verdict : PairVerdict
-  pub given : Reads SOLUTION_LIMIT solution (λ text. IsPairOf program text point (Some duals))
+  pub given : Reads SOLUTION_LIMIT solution (λ text. IsSolutionOf program text point (Some duals))
   pub continuous : Continuous (meaning program)
   pub decides : DecidesPair program.sense (meaning program) (vector_of point) (vector_of duals) verdict
   pub answers : status_of_pair_verdict verdict ≡ status
@@ -72,22 +73,20 @@ pub record IsPairJudged (program : ProgramData) (solution : Told) (status : ℕ)
 
 -- this status and this line are those of the verdict on what SOL gives
 abbrev pub IsJudged : ProgramData → Told → ℕ → List ℕ → Type 0
-IsJudged program solution status printed = IsPointJudged program solution status printed ⊎ IsPairJudged program solution status printed
+IsJudged program solution status printed = IsPointJudged program solution status printed ⊎ (IsPairJudged program solution status printed ⊎ IsRayJudged program solution status printed)
 
--- SOL has duals, and this line names the first column of IN that has to be whole or is semi-continuous
+-- SOL gives duals or a ray, and this line names the first column of IN that has to be whole or is semi-continuous
 pub record IsNotContinuous (program : ProgramData) (solution : Told) (printed : List ℕ) : Type 0 where
-  pub point : List Number
-  pub duals : List Number
-  pub given : Reads SOLUTION_LIMIT solution (λ text. IsPairOf program text point (Some duals))
+  pub given : Reads SOLUTION_LIMIT solution (λ text. NeedsContinuous program text)
   pub names : NamesFirstNotContinuous program printed
 
--- what an ending says of a program and the solution by this name
+-- what an ending says of a program and what the text by this name gives
 abbrev pub SaysSolution : ProgramData → List ℕ → Moment → Moment → Ending → Type 0
 SaysSolution program name before now (Done text) = IsJudged program (before.told name) 0 text.items
 SaysSolution program name before now (Refused line) = IsNotContinuous program (before.told name) line.items
 SaysSolution program name before now (NoRoom line) = IsJudged program (before.told name) 6 line.items
 SaysSolution program name before now (Violated line) = IsJudged program (before.told name) 9 line.items
-SaysSolution program name before now (SolutionRefused line) = SaysPairFault program name line.items before now
+SaysSolution program name before now (SolutionRefused line) = SaysGivenFault program name line.items before now
 SaysSolution program name before now ending = ⊥
 
 -- IN has no fault, and this is its program
@@ -98,14 +97,14 @@ IsProgramIn names before program = Reads INPUT_LIMIT (before.told names.input) (
 abbrev pub IsChecked : CheckNames → ℕ → List ℕ → Moment → Type 0
 IsChecked names status printed before = (program : ProgramData) × IsProgramIn names before program × IsJudged program (before.told names.solution) status printed
 
--- this is said of IN's text, or IN has no fault and a column that has to be whole or is semi-continuous, and SOL has duals
+-- this is said of IN's text, or IN has no fault and a column that has to be whole or is semi-continuous, and SOL gives duals or a ray
 abbrev pub RefusesProgram : CheckNames → List ℕ → Moment → Moment → Type 0
 RefusesProgram names said before now = SaysFaultOf INPUT_LIMIT (check_form names) names.input said before now
     ⊎ ((program : ProgramData) × IsProgramIn names before program × IsNotContinuous program (before.told names.solution) said)
 
 -- IN has no fault, and this is said of SOL's text
 abbrev pub RefusesSolution : CheckNames → List ℕ → Moment → Moment → Type 0
-RefusesSolution names said before now = (program : ProgramData) × IsProgramIn names before program × SaysPairFault program names.solution said before now
+RefusesSolution names said before now = (program : ProgramData) × IsProgramIn names before program × SaysGivenFault program names.solution said before now
 
 -- what a check says at a status, with what it prints
 abbrev pub SaysCheck : CheckNames → ℕ → List ℕ → Moment → Moment → Type 0

@@ -1,2 +1,5 @@
 pub mod VerdictText
+pub mod GivenTexts
+pub mod RayVerdictText
+pub mod JudgedRay
 pub mod Checked

@@ -37,7 +37,8 @@ fn read_both<F: Files>(
     Ok(BothTexts { input, solution })
 }
 
-/// Reads a program and a solution, and says whether the solution's point meets the program. No file is written.
+/// Reads a program and a solution, and says whether the solution's point meets the program; or a ray in the place of a solution, and says
+/// whether it proves that no point does. No file is written.
 pub fn check<F: Files>(
     alloc: Global,
     words: &CheckWords<'_>,

@@ -1,6 +1,6 @@
-//! What is said of the texts of a program and a solution.
+//! What is said of the texts of a program and of a solution or a ray.
 
-ghost use Rattle.std.specs.Prelude.{◌≡◌, ◌<◌, ◌≤◌, ◌^◌, ℕ, List, length, option_map, Some, None, IfOk, IfSome};
+ghost use Rattle.std.specs.Prelude.{◌≡◌, ◌<◌, ◌≤◌, ◌^◌, ℕ, List, length, option_map, false, Some, None, IfOk, IfSome};
 ghost use Rattle.file_ports.specs.Ports.{Moment};
 ghost use Rattle.command_words.specs.Names.{CheckNames};
 ghost use Rattle.endings.specs.declared.reads.TheConstants.{INPUT_LIMIT, SOLUTION_LIMIT};
@@ -9,10 +9,12 @@ ghost use Rattle.endings.specs.Ending.{status_of, text_of};
 ghost use Rattle.lp_model.specs.Meaning.{meaning};
 ghost use Rattle.lp_model.specs.Optimality.{Continuous};
 ghost use Rattle.lp_model.specs.Writable.{EntriesAscend};
-ghost use Rattle.endings.specs.SolutionTexts.{IsPairOf};
+ghost use Rattle.ray_text.specs.RayLines.{is_ray_text};
+ghost use Rattle.check_command.specs.GivenTexts.{IsSolutionOf};
 ghost use Rattle.check_command.specs.Checked.{SaysCheck, SaysSolution, check_form};
 
 use crate::pair_verdict_text::pair_verdict_ending;
+use crate::ray_judging::judge_ray_text;
 use crate::verdict_text::verdict_ending;
 use endings::{
     Ending, Form, ProgramError, fault_line, not_continuous_text, read_program, solution_fault_line,
@@ -20,13 +22,14 @@ use endings::{
 use lp_check::{check_pair, check_point, first_not_continuous};
 use lp_model::{Duals, Pair, Point, Program};
 use point_text::{SolError, read_pair};
+use ray_text::is_ray;
 use std::alloc::{AllocError, Global};
 
 /// What is said of a point.
 fn judge_point(alloc: Global, program: &Program, point: &Point) -> Result<Ending, AllocError>
     requires long { length point.now ≡ length program.now.columns }
     requires few { (length program.now.rows < 2 ^ 32) × (length program.now.columns < 2 ^ 32) }
-    ensures { (name : List ℕ) → (before now : Moment) → Reads SOLUTION_LIMIT (before.told name) (λ text. IsPairOf program.now text point.now None)
+    ensures { (name : List ℕ) → (before now : Moment) → Reads SOLUTION_LIMIT (before.told name) (λ text. IsSolutionOf program.now text point.now None)
         → IfOk result (λ ending. SaysSolution program.now name before now ending) }
 {
     match check_point(alloc, program, point) {
@@ -47,7 +50,7 @@ fn judge_continuous(
     requires few { (length program.now.rows < 2 ^ 32) × (length program.now.columns < 2 ^ 32) }
     requires ascends { EntriesAscend program.now }
     requires continuous { Continuous (meaning program.now) }
-    ensures { (name : List ℕ) → (before now : Moment) → Reads SOLUTION_LIMIT (before.told name) (λ text. IsPairOf program.now text point.now (Some duals.now))
+    ensures { (name : List ℕ) → (before now : Moment) → Reads SOLUTION_LIMIT (before.told name) (λ text. IsSolutionOf program.now text point.now (Some duals.now))
         → IfOk result (λ ending. SaysSolution program.now name before now ending) }
 {
     match check_pair(alloc, program, point, duals) {
@@ -67,7 +70,7 @@ fn judge_pair(
     requires each { length duals.now ≡ length program.now.rows }
     requires few { (length program.now.rows < 2 ^ 32) × (length program.now.columns < 2 ^ 32) }
     requires ascends { EntriesAscend program.now }
-    ensures { (name : List ℕ) → (before now : Moment) → Reads SOLUTION_LIMIT (before.told name) (λ text. IsPairOf program.now text point.now (Some duals.now))
+    ensures { (name : List ℕ) → (before now : Moment) → Reads SOLUTION_LIMIT (before.told name) (λ text. IsSolutionOf program.now text point.now (Some duals.now))
         → IfOk result (λ ending. SaysSolution program.now name before now ending) }
 {
     match first_not_continuous(program) {
@@ -82,7 +85,7 @@ fn judge_given(alloc: Global, program: &Program, pair: &Pair) -> Result<Ending, 
     requires each { IfSome pair.now.duals (λ duals. length duals ≡ length program.now.rows) }
     requires few { (length program.now.rows < 2 ^ 32) × (length program.now.columns < 2 ^ 32) }
     requires ascends { EntriesAscend program.now }
-    ensures { (name : List ℕ) → (before now : Moment) → Reads SOLUTION_LIMIT (before.told name) (λ text. IsPairOf program.now text pair.now.point pair.now.duals)
+    ensures { (name : List ℕ) → (before now : Moment) → Reads SOLUTION_LIMIT (before.told name) (λ text. IsSolutionOf program.now text pair.now.point pair.now.duals)
         → IfOk result (λ ending. SaysSolution program.now name before now ending) }
 {
     match &pair.duals {
@@ -92,9 +95,10 @@ fn judge_given(alloc: Global, program: &Program, pair: &Pair) -> Result<Ending, 
 }
 
 /// What is said of a solution's text.
-fn judge_text(alloc: Global, program: &Program, text: &[u8]) -> Result<Ending, AllocError>
+fn judge_solution_text(alloc: Global, program: &Program, text: &[u8]) -> Result<Ending, AllocError>
     requires few { (length program.now.rows < 2 ^ 32) × (length program.now.columns < 2 ^ 32) }
     requires ascends { EntriesAscend program.now }
+    requires starts { is_ray_text text.now ≡ false }
     ensures { (name : List ℕ) → (before now : Moment) → Finds SOLUTION_LIMIT name before now (Some text.now)
         → IfOk result (λ ending. SaysSolution program.now name before now ending) }
 {
@@ -107,7 +111,21 @@ fn judge_text(alloc: Global, program: &Program, text: &[u8]) -> Result<Ending, A
     }
 }
 
-/// What is said of a solution's text, none where it is longer than is read.
+/// What is said of the text of a ray or of a solution: its first line that is not blank says which of the two it is.
+fn judge_text(alloc: Global, program: &Program, text: &[u8]) -> Result<Ending, AllocError>
+    requires few { (length program.now.rows < 2 ^ 32) × (length program.now.columns < 2 ^ 32) }
+    requires ascends { EntriesAscend program.now }
+    ensures { (name : List ℕ) → (before now : Moment) → Finds SOLUTION_LIMIT name before now (Some text.now)
+        → IfOk result (λ ending. SaysSolution program.now name before now ending) }
+{
+    if is_ray(text) {
+        judge_ray_text(alloc, program, text)
+    } else {
+        judge_solution_text(alloc, program, text)
+    }
+}
+
+/// What is said of SOL's text, none where it is longer than is read.
 fn judge_solution(
     alloc: Global,
     program: &Program,
@@ -124,7 +142,7 @@ fn judge_solution(
     }
 }
 
-/// What is said of a program's text and a solution's text. Where one is longer than is read, there is none.
+/// What is said of a program's text and of SOL's text. Where one is longer than is read, there is none.
 pub fn judge(
     alloc: Global,
     input: Option<Vec<u8>>,

@@ -1,8 +1,0 @@
-use Rattle.endings.specs.SolutionTexts.{IsPairOf}
-use Rattle.endings.specs.declared.reads.TheConstants.{SOLUTION_LIMIT}
-use Rattle.endings.proofs.Earlier.{given_reads}
-use Rattle.check_command.proofs.judging.judge_text.Goals as goal
-
-pub returns-in-Ok : goal.returns-in-Ok
-returns-in-Ok c = λ name before now finds. c.judge_given.ensures name before now
-    (given_reads SOLUTION_LIMIT (before.told name) c.args.text.now (λ text. IsPairOf c.args.program.now text c.in-Ok.pair.point c.in-Ok.pair.duals) finds.0 finds.1 c.in-Ok.ensures)
