@@ -28,16 +28,17 @@ use Rattle.undo_records.specs.declared.side.Side.TheVariants.{Lower, Upper}
 use Rattle.undo_records.specs.declared.side.RowFate.TheVariants.{Kept, Dropped}
 use Rattle.lp_rays.specs.Ray.{Weights, StepsBack}
 use Rattle.lp_rays.specs.Handing.{moved, handed_of, image_low_part, image_high_part}
-use Rattle.lp_rays.specs.Steps.{IsImpliedLowerBound, IsImpliedUpperBound, ray_forced_at_lower_side, ray_forced_at_upper_side, ray_lower_bound, ray_upper_bound, ray_fixed_column, ray_doubleton_equation}
+use Rattle.lp_rays.specs.Steps.{ray_forced_at_lower_side, ray_forced_at_upper_side, ray_lower_bound, ray_upper_bound, ray_fixed_column, ray_doubleton_equation}
+use Rattle.ray_rows.specs.ImpliedBound.{IsImpliedLowerBound, IsImpliedUpperBound}
 use Rattle.lp_rays.proofs.Moving.{steps_of, row_back}
-use Rattle.lp_rays.proofs.SingletonRow.{singleton_row_back}
-use Rattle.lp_rays.proofs.BoundTightening.{lower_bound_back, upper_bound_back}
-use Rattle.lp_rays.proofs.ForcingRow.{forced_low_back, forced_high_back}
-use Rattle.lp_rays.proofs.ParallelRows.{parallel_rows_back, lower_side_back, upper_side_back}
-use Rattle.lp_rays.proofs.DroppedColumn.{fixed_column_back, slack_column_back, slack_row_back, free_column_back}
-use Rattle.lp_rays.proofs.PlacedColumn.{settled_back, dominated_settled_back, empty_column_back}
-use Rattle.lp_rays.proofs.ParallelColumns.{parallel_columns_back}
-use Rattle.lp_rays.proofs.DoubletonEquation.{doubleton_equation_back}
+use Rattle.ray_rows.proofs.SingletonRow.{singleton_row_back}
+use Rattle.ray_rows.proofs.BoundTightening.{lower_bound_back, upper_bound_back}
+use Rattle.ray_rows.proofs.ForcingRow.{forced_low_back, forced_high_back}
+use Rattle.ray_rows.proofs.ParallelRows.{parallel_rows_back, lower_side_back, upper_side_back}
+use Rattle.ray_columns.proofs.DroppedColumn.{fixed_column_back, slack_column_back, slack_row_back, free_column_back}
+use Rattle.ray_columns.proofs.PlacedColumn.{settled_back, dominated_settled_back, empty_column_back}
+use Rattle.ray_columns.proofs.ParallelColumns.{parallel_columns_back}
+use Rattle.ray_columns.proofs.DoubletonEquation.{doubleton_equation_back}
 use Rattle.ray_steps.specs.StepBack.{weighed, weighed_in, take_net, take_ratios, take_equation}
 use Rattle.pair_laws.specs.Records as records
 use Rattle.lp_rays.proofs.Netting.{net_is}

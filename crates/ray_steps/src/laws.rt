@@ -26,7 +26,7 @@ ghost use Rattle.undo_records.specs.declared.side.Side.TheVariants.{Lower, Upper
 ghost use Rattle.undo_records.specs.declared.side.RowFate.TheVariants.{Kept, Dropped};
 ghost use Rattle.undo_records.specs.declared.undo.Undo.{Undo};
 ghost use Rattle.lp_rays.specs.Ray.{StepsBack};
-ghost use Rattle.lp_rays.specs.Steps.{IsImpliedLowerBound, IsImpliedUpperBound};
+ghost use Rattle.ray_rows.specs.ImpliedBound.{IsImpliedLowerBound, IsImpliedUpperBound};
 ghost use Rattle.ray_steps.specs.StepBack.{StepBack, weighed, weighed_in, step_of, lift_ray};
 ghost use Rattle.pair_laws.specs.Records.{empty_row, singleton_row, fixed_column, redundant_row, redundant_side, forcing_row, lower_bound_tightening, upper_bound_tightening, dual_fixing, dominated_column, doubleton_equation, free_column_singleton, slack_column_singleton, parallel_rows, parallel_columns, empty_column};
 
