@@ -7,6 +7,7 @@ ghost use Rattle.lp_model.specs.Vectors.{vector_of};
 ghost use Rattle.lp_model.specs.Sparse.{Ascends, dense};
 ghost use Rattle.lp_rays.specs.RayData.{weights_of};
 ghost use Rattle.ray_lift.specs.Shifted.{OneFits, high_after, low_after};
+ghost use Rattle.ray_steps.specs.declared.shift.Shift.TheVariants.{ForceLower, ForceUpper, Pull, Push};
 ghost use Rattle.ray_steps.specs.Shifts.{GainFits, ShiftFits, ShiftsFit, is_out, shifted_high, shifted_low};
 
 use crate::shares::EndWeights;
@@ -27,11 +28,110 @@ fn gained(weight: &Frac, gain: &Frac, other: &Frac) -> Result<Frac, Past>
     weight.add(gain)?.sub(other)
 }
 
-/// The weights of one column that is not left out.
+/// The weights of a column from which a row takes weight at its lower side.
+///
+/// # Errors
+/// [`Past`] exactly where the product, the sum or the difference is.
+#[tactic(auto, using(crate::proofs::Factors::below_is, crate::proofs::Shiftings::above_not))]
+fn pushed(entry: &Frac, taken: &Frac, weights: EndWeights) -> Result<EndWeights, Past>
+    requires { entry.now ≢ zero_ℚ }
+    ensures lower { IfOk result (λ r. r.lower ≡ shifted_low Push entry.now taken.now weights.lower weights.upper) }
+    ensures upper { IfOk result (λ r. r.upper ≡ shifted_high Push entry.now taken.now weights.lower weights.upper) }
+    ensures fits { IsOk result ↔ ShiftFits Push entry.now taken.now weights.lower weights.upper }
+{
+    let product = taken.mul(entry)?;
+    let EndWeights { lower, upper } = weights;
+    if entry.is_positive() {
+        let upper = upper.add(&product)?;
+        Ok(EndWeights { lower, upper })
+    } else {
+        let lower = lower.sub(&product)?;
+        Ok(EndWeights { lower, upper })
+    }
+}
+
+/// The weights of a column from which a row takes weight at its upper side.
+///
+/// # Errors
+/// [`Past`] exactly where the product, the sum or the difference is.
+#[tactic(auto, using(crate::proofs::Factors::below_is, crate::proofs::Shiftings::above_not))]
+fn pulled(entry: &Frac, taken: &Frac, weights: EndWeights) -> Result<EndWeights, Past>
+    requires { entry.now ≢ zero_ℚ }
+    ensures lower { IfOk result (λ r. r.lower ≡ shifted_low Pull entry.now taken.now weights.lower weights.upper) }
+    ensures upper { IfOk result (λ r. r.upper ≡ shifted_high Pull entry.now taken.now weights.lower weights.upper) }
+    ensures fits { IsOk result ↔ ShiftFits Pull entry.now taken.now weights.lower weights.upper }
+{
+    let product = taken.mul(entry)?;
+    let EndWeights { lower, upper } = weights;
+    if entry.is_positive() {
+        let lower = lower.add(&product)?;
+        Ok(EndWeights { lower, upper })
+    } else {
+        let upper = upper.sub(&product)?;
+        Ok(EndWeights { lower, upper })
+    }
+}
+
+/// The weights of a column that was put at the end that gives its row the most.
 ///
 /// # Errors
 /// [`Past`] exactly where the product, the sum or the difference is.
 #[tactic(auto, using(crate::proofs::Factors::below_is))]
+fn forced_to_greatest(entry: &Frac, taken: &Frac, weights: EndWeights) -> Result<EndWeights, Past>
+    requires { entry.now ≢ zero_ℚ }
+    ensures lower { IfOk result (λ r. r.lower ≡ shifted_low ForceLower entry.now taken.now weights.lower weights.upper) }
+    ensures upper { IfOk result (λ r. r.upper ≡ shifted_high ForceLower entry.now taken.now weights.lower weights.upper) }
+    ensures fits { IsOk result ↔ ShiftFits ForceLower entry.now taken.now weights.lower weights.upper }
+{
+    let product = taken.mul(entry)?;
+    let EndWeights { lower, upper } = weights;
+    if entry.is_positive() {
+        let upper = gained(&upper, &product, &lower)?;
+        Ok(EndWeights {
+            lower: Frac::zero(),
+            upper,
+        })
+    } else {
+        let lower = gained(&lower, &product.neg(), &upper)?;
+        Ok(EndWeights {
+            lower,
+            upper: Frac::zero(),
+        })
+    }
+}
+
+/// The weights of a column that was put at the end that gives its row the least.
+///
+/// # Errors
+/// [`Past`] exactly where the product, the sum or the difference is.
+#[tactic(auto, using(crate::proofs::Factors::below_is))]
+fn forced_to_least(entry: &Frac, taken: &Frac, weights: EndWeights) -> Result<EndWeights, Past>
+    requires { entry.now ≢ zero_ℚ }
+    ensures lower { IfOk result (λ r. r.lower ≡ shifted_low ForceUpper entry.now taken.now weights.lower weights.upper) }
+    ensures upper { IfOk result (λ r. r.upper ≡ shifted_high ForceUpper entry.now taken.now weights.lower weights.upper) }
+    ensures fits { IsOk result ↔ ShiftFits ForceUpper entry.now taken.now weights.lower weights.upper }
+{
+    let product = taken.mul(entry)?;
+    let EndWeights { lower, upper } = weights;
+    if entry.is_positive() {
+        let lower = gained(&lower, &product, &upper)?;
+        Ok(EndWeights {
+            lower,
+            upper: Frac::zero(),
+        })
+    } else {
+        let upper = gained(&upper, &product.neg(), &lower)?;
+        Ok(EndWeights {
+            lower: Frac::zero(),
+            upper,
+        })
+    }
+}
+
+/// The weights of one column that is not left out.
+///
+/// # Errors
+/// [`Past`] exactly where the product, the sum or the difference is.
 fn shifted(
     shift: Shift,
     entry: &Frac,
@@ -43,58 +143,11 @@ fn shifted(
     ensures upper { IfOk result (λ r. r.upper ≡ shifted_high shift entry.now taken.now weights.lower weights.upper) }
     ensures fits { IsOk result ↔ ShiftFits shift entry.now taken.now weights.lower weights.upper }
 {
-    let product = taken.mul(entry)?;
-    let positive = entry.is_positive();
-    let EndWeights { lower, upper } = weights;
     match shift {
-        Shift::Push => {
-            if positive {
-                let upper = upper.add(&product)?;
-                Ok(EndWeights { lower, upper })
-            } else {
-                let lower = lower.sub(&product)?;
-                Ok(EndWeights { lower, upper })
-            }
-        }
-        Shift::Pull => {
-            if positive {
-                let lower = lower.add(&product)?;
-                Ok(EndWeights { lower, upper })
-            } else {
-                let upper = upper.sub(&product)?;
-                Ok(EndWeights { lower, upper })
-            }
-        }
-        Shift::ForceLower => {
-            if positive {
-                let upper = gained(&upper, &product, &lower)?;
-                Ok(EndWeights {
-                    lower: Frac::zero(),
-                    upper,
-                })
-            } else {
-                let lower = gained(&lower, &product.neg(), &upper)?;
-                Ok(EndWeights {
-                    lower,
-                    upper: Frac::zero(),
-                })
-            }
-        }
-        Shift::ForceUpper => {
-            if positive {
-                let lower = gained(&lower, &product, &upper)?;
-                Ok(EndWeights {
-                    lower,
-                    upper: Frac::zero(),
-                })
-            } else {
-                let upper = gained(&upper, &product.neg(), &lower)?;
-                Ok(EndWeights {
-                    lower: Frac::zero(),
-                    upper,
-                })
-            }
-        }
+        Shift::Push => pushed(entry, taken, weights),
+        Shift::Pull => pulled(entry, taken, weights),
+        Shift::ForceLower => forced_to_greatest(entry, taken, weights),
+        Shift::ForceUpper => forced_to_least(entry, taken, weights),
     }
 }
 
