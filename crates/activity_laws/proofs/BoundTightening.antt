@@ -54,10 +54,10 @@ use Rattle.rule_words.proofs.Coefficients.{coefficient_in_row, end_live}
 use Rattle.rule_words.proofs.EndTestsSay.{not_true}
 use Rattle.rule_words.proofs.Named.{ids_on, lives, nothing, one_on, one_sided}
 use Rattle.edit_laws.proofs.Reducing.{by_edits, pairs_by_edits}
-use Rattle.ray_steps.proofs.Records as ray
-use Rattle.rule_words.proofs.RaysBack.{rays_by_edits}
-use Rattle.lp_rays.specs.Ray.{StepsBack}
-use Rattle.ray_steps.specs.StepBack.{weighed_in}
+use Rattle.ray_step_laws.proofs.Records as ray
+use Rattle.ray_step_laws.proofs.RaysBack.{rays_by_edits}
+use Rattle.rule_words.specs.Ray.{StepsBack}
+use Rattle.rule_words.specs.StepBack.{weighed_in}
 use Rattle.row_spans.specs.declared.span.Extreme.TheVariants.{Least, Greatest}
 use Rattle.row_spans.specs.declared.span.Span.{Span}
 use Rattle.row_spans.specs.Exact.{fits, if_room, sum_fits}

@@ -22,8 +22,8 @@ use Rattle.rule_words.proofs.Coefficients.{end_live}
 use Rattle.rule_words.proofs.EndTestsSay.{not_true}
 use Rattle.rule_words.proofs.Named.{none_on, nothing, one_on, one_sided}
 use Rattle.edit_laws.proofs.Reducing.{by_edits, pairs_by_edits}
-use Rattle.ray_steps.proofs.Records as ray
-use Rattle.rule_words.proofs.RaysBack.{rays_by_edits}
+use Rattle.ray_step_laws.proofs.Records as ray
+use Rattle.ray_step_laws.proofs.RaysBack.{rays_by_edits}
 use Rattle.row_spans.specs.Spans.{spans_of}
 use Rattle.activity_laws.specs.Rows.{has_some, keeps_lower, keeps_upper, on_activities}
 use Rattle.activity_laws.specs.RedundantSide.{differ, edits, enabled, has_redundant_side, lower_is_kept, record_of, side_dropped}

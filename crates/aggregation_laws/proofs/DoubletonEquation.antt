@@ -55,10 +55,10 @@ use Rattle.problem_laws.proofs.Entries.{column_entries-ascend, column_entries-li
 use Rattle.problem_laws.proofs.Terms.{ascends-filter, dense-absent, dense-cons_other, dense-cons_same, dense-without, has-without, terms_tell}
 use Rattle.edit_laws.proofs.Lists.{allowed_more}
 use Rattle.edit_laws.proofs.Reducing.{by_edits, pairs_by_edits}
-use Rattle.ray_steps.proofs.Records as ray
-use Rattle.rule_words.proofs.RaysBack.{rays_by_edits}
-use Rattle.lp_rays.specs.Ray.{StepsBack}
-use Rattle.ray_steps.specs.StepBack.{weighed_in}
+use Rattle.ray_step_laws.proofs.Records as ray
+use Rattle.ray_step_laws.proofs.RaysBack.{rays_by_edits}
+use Rattle.rule_words.specs.Ray.{StepsBack}
+use Rattle.rule_words.specs.StepBack.{weighed_in}
 use Rattle.edit_laws.proofs.Sweeps.{sweep, sweep_bounds, programs_more, added_more, sweep_matrix, sweep_allowed, sweep_added, sweep_flags, sweep_no_entries, sweep_sided, sweep_only, sweep_lower, sweep_upper}
 use Rattle.row_spans.specs.Exact.{exact_quotient, if_room}
 use Rattle.rule_words.specs.Owed.{Owes}

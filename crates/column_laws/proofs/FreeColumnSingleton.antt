@@ -33,9 +33,9 @@ use Rattle.problem_model.specs.Problems.{row_at, column_at, sides_at, bounds_at,
 use Rattle.problem_model.specs.Showing.{shown}
 use Rattle.problem_model.specs.Sparse.{Sparse}
 use Rattle.rule_words.specs.Owed.{Owes}
-use Rattle.lp_rays.specs.Ray.{StepsBack}
-use Rattle.ray_steps.specs.StepBack.{weighed_in}
-use Rattle.ray_steps.proofs.Records as ray
+use Rattle.rule_words.specs.Ray.{StepsBack}
+use Rattle.rule_words.specs.StepBack.{weighed_in}
+use Rattle.ray_step_laws.proofs.Records as ray
 use Rattle.rule_words.proofs.Coefficients.{end_live}
 use Rattle.rule_words.proofs.EndTestsSay.{not_true}
 use Rattle.rule_words.proofs.Named.{nothing_twice, one_on, two_sided}

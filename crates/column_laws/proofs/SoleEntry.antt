@@ -51,9 +51,9 @@ use Rattle.rule_words.proofs.EndTestsSay.{not_true}
 use Rattle.rule_words.proofs.Named.{lives, one_on}
 use Rattle.edit_laws.proofs.Lists.{allowed_more, entries_first_none}
 use Rattle.edit_laws.proofs.Reducing.{by_edits, pairs_by_edits}
-use Rattle.rule_words.proofs.RaysBack.{rays_by_edits}
-use Rattle.lp_rays.specs.Ray.{StepsBack}
-use Rattle.ray_steps.specs.StepBack.{weighed_in}
+use Rattle.ray_step_laws.proofs.RaysBack.{rays_by_edits}
+use Rattle.rule_words.specs.Ray.{StepsBack}
+use Rattle.rule_words.specs.StepBack.{weighed_in}
 use Rattle.edit_laws.proofs.Sweeps.{added_more, programs_more}
 use Rattle.column_laws.specs.SoleEntry.{cost_less, costs_less, entry_of, is_sole_at, others_of, price_of}
 use Rattle.rule_words.proofs.Solid.{gap_solid}

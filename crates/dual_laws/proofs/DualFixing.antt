@@ -28,8 +28,8 @@ use Rattle.rule_words.proofs.Coefficients.{end_live}
 use Rattle.rule_words.proofs.EndTestsSay.{not_true, apart_ends, Finite, finite_end}
 use Rattle.rule_words.proofs.Named.{one_on, none_on, one_sided, nothing}
 use Rattle.edit_laws.proofs.Reducing.{by_edits, pairs_by_edits}
-use Rattle.ray_steps.proofs.Records as ray
-use Rattle.rule_words.proofs.RaysBack.{rays_by_edits}
+use Rattle.ray_step_laws.proofs.Records as ray
+use Rattle.ray_step_laws.proofs.RaysBack.{rays_by_edits}
 use Rattle.dual_laws.specs.DualFixing.{goes_down, goes_up, is_dual_fixing, enabled, end_kept, place_of, edits, record_of}
 use Rattle.dual_laws.specs.Locks.{all_take, are_uncrossed, sides_on, takes_down, takes_up}
 use Rattle.dual_laws.proofs.Locks.{cost_live, no_down_lock, no_up_lock}

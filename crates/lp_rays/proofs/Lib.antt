@@ -3,13 +3,3 @@ pub mod Netting
 pub mod Weighing
 pub mod Handing
 pub mod Moving
-pub mod SingletonRow
-pub mod Ends
-pub mod BoundTightening
-pub mod ForcingRow
-pub mod PlacedColumn
-pub mod Starts
-pub mod ParallelRows
-pub mod DroppedColumn
-pub mod ParallelColumns
-pub mod DoubletonEquation

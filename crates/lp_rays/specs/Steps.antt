@@ -1,13 +1,11 @@
 -- The steps back of rays, by reduction: what becomes of the weights of the program after it. `low` and `high` say whether the lower
 -- and the upper end that a reduction met with others moved.
-use Rattle.std.specs.Prelude.{◌≡◌, ◌≢◌, ℕ, ◌<◌, Bool, if◌then◌else◌, Some}
+use Rattle.std.specs.Prelude.{ℕ, Bool, if◌then◌else◌}
 use Rattle.rational.specs.Number.{Number, zero_ℚ, neg_ℚ, ◌+ℚ◌, ◌-ℚ◌, ◌*ℚ◌}
 use Rattle.rational.specs.Compare.{lt_ℚ}
 use Rattle.rational.specs.Division.{◌/ℚ◌}
 use Rattle.rational.specs.Total.{total, put}
 use Rattle.lp_model.specs.Vectors.{Vector}
-use Rattle.lp_model.specs.LinearProgram.{LinearProgram}
-use Rattle.lp_rows.specs.BoundTightening.{implied_lower, implied_upper}
 use Rattle.lp_rays.specs.Ray.{Weights}
 use Rattle.lp_rays.specs.Handing.{kept_of, handed_of, lower_share, upper_share, lower_part, upper_part, image_low_part, image_high_part, pushed_low, pushed_high, pulled_low, pulled_high, ratio_at_greatest, low_at_greatest, high_at_greatest, ratio_at_least, low_at_least, high_at_least}
 
@@ -69,21 +67,6 @@ ray_fixed lower j w = if lower then ray_kept_lower j w else ray_kept_upper j w
 -- K17: column j has no entries
 abbrev pub ray_empty_column : ℕ → Weights → Weights
 ray_empty_column j w = record w { p = put w.p j zero_ℚ; q = put w.q j zero_ℚ }
-
--- where K8 applies: row i implies a finite bound of column j
-pub record IsImpliedLowerBound (M : LinearProgram) (i j : ℕ) : Type 0 where
-  pub row : i < M.rows
-  pub column : j < M.columns
-  pub entry : M.coefficient i j ≢ zero_ℚ
-  pub number : Number
-  pub implied : implied_lower M i j ≡ Some number
-
-pub record IsImpliedUpperBound (M : LinearProgram) (i j : ℕ) : Type 0 where
-  pub row : i < M.rows
-  pub column : j < M.columns
-  pub entry : M.coefficient i j ≢ zero_ℚ
-  pub number : Number
-  pub implied : implied_upper M i j ≡ Some number
 
 -- K15: row i, f times row k, takes what came from it
 abbrev pub ray_parallel_rows : ℕ → ℕ → Number → Bool → Bool → Weights → Weights

@@ -37,10 +37,10 @@ use Rattle.problem_model.specs.Writing.{KeptSides}
 use Rattle.problem_laws.proofs.AtIds.{row_inside}
 use Rattle.problem_laws.proofs.Entries.{row_entries-ascend}
 use Rattle.edit_laws.proofs.Reducing.{by_edits, pairs_by_edits}
-use Rattle.ray_steps.proofs.Records as ray
-use Rattle.rule_words.proofs.RaysBack.{rays_by_edits}
-use Rattle.lp_rays.specs.Ray.{StepsBack}
-use Rattle.ray_steps.specs.StepBack.{weighed_in}
+use Rattle.ray_step_laws.proofs.Records as ray
+use Rattle.ray_step_laws.proofs.RaysBack.{rays_by_edits}
+use Rattle.rule_words.specs.Ray.{StepsBack}
+use Rattle.rule_words.specs.StepBack.{weighed_in}
 use Rattle.rule_words.specs.Entries.{has_none}
 use Rattle.rule_words.specs.Owed.{Owes}
 use Rattle.rule_words.proofs.Coefficients.{coefficient_in_row, end_live}

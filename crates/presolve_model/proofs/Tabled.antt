@@ -27,8 +27,8 @@ use Rattle.edit_laws.proofs.Raising.{committed_sparse, counted_committed}
 use Rattle.edit_laws.proofs.Reducing.{continuous_committed}
 use Rattle.rule_words.specs.Owed.{Owes}
 use Rattle.presolve_model.specs.declared.instance.Reduction.{Reduction}
-use Rattle.lp_rays.specs.Ray.{StepsBack}
-use Rattle.ray_steps.specs.StepBack.{weighed_in}
+use Rattle.rule_words.specs.Ray.{StepsBack}
+use Rattle.rule_words.specs.StepBack.{weighed_in}
 use Rattle.presolve_model.specs.declared.instance.Instance.{Instance}
 use Rattle.presolve_model.specs.declared.instance.Instance.TheVariants as at
 use Rattle.presolve_model.specs.Tables.{heads, more, holds, edits, record_of}

@@ -13,7 +13,7 @@ use Rattle.problem_laws.proofs.Entries.{row_entries-ascend}
 use Rattle.lp_theory.specs.Crossed.{AreCrossed}
 use Rattle.lp_rays.specs.Ray.{Ray, Weights}
 use Rattle.lp_rays.specs.RayData.{RayData, weights_of}
-use Rattle.lp_rays.proofs.Starts.{crossed_column_ray, crossed_row_ray, above_ray, below_ray}
+use Rattle.ray_rows.proofs.Starts.{crossed_column_ray, crossed_row_ray, above_ray, below_ray}
 use Rattle.problem_model.specs.Problems.{row_at, column_at, sides_at, bounds_at, row_entries, IsSparse}
 use Rattle.lp_model.specs.Gaps.{reach_lower, reach_upper}
 use Rattle.problem_model.specs.Showing.{end_if, shown}

@@ -4,4 +4,3 @@ pub mod Named
 pub mod Multiples
 pub mod TermsInTurn
 pub mod Solid
-pub mod RaysBack

@@ -5,3 +5,5 @@ pub mod Answers
 pub mod Multiples
 pub mod MovedSides
 pub use Rattle.undo_pairs.specs.LiftPair
+pub use Rattle.lp_rays.specs.Ray
+pub use Rattle.ray_steps.specs.StepBack

@@ -24,7 +24,7 @@ use Rattle.presolve_model.specs.Replay.{replay, Replays}
 use Rattle.presolve_model.specs.Tables.{record_of}
 use Rattle.presolve_model.proofs.Tabled.{continuous_changed, rays_changed, same_size, sound_changed, sound_record}
 use Rattle.ray_steps.specs.StepBack.{StepBack, lift_ray, step_of}
-use Rattle.ray_steps.proofs.Joining.{none, step}
+use Rattle.ray_step_laws.proofs.Joining.{none, step}
 use Rattle.run_rays.specs.Lifting.{steps_along}
 
 pub rays_along : (numbers : Numbers) (p : Sparse) (rs : List Reduction) → IsSparse p → Replays numbers p rs → Continuous (shown p) → StepsBack (shown p) (shown (replay p rs)) (lift_ray (steps_along p rs))

@@ -22,8 +22,8 @@ use Rattle.rule_words.proofs.Coefficients.{zero_either, end_live, coefficient_in
 use Rattle.rule_words.proofs.EndTestsSay.{not_true, apart_ends, Finite, finite_end}
 use Rattle.rule_words.proofs.Named.{one_on, none_on, one_sided, nothing}
 use Rattle.edit_laws.proofs.Reducing.{by_edits, pairs_by_edits}
-use Rattle.ray_steps.proofs.Records as ray
-use Rattle.rule_words.proofs.RaysBack.{rays_by_edits}
+use Rattle.ray_step_laws.proofs.Records as ray
+use Rattle.ray_step_laws.proofs.RaysBack.{rays_by_edits}
 use Rattle.singleton_laws.specs.EmptyColumn.{is_empty_column, enabled, place_of, edits, record_of}
 use Rattle.problem_model.specs.Parts.{bounds_held}
 use Rattle.rule_words.proofs.Solid.{gap_solid, low_shown, high_shown}

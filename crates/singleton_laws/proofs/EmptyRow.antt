@@ -22,8 +22,8 @@ use Rattle.rule_words.proofs.Coefficients.{zero_either, coefficient_in_row}
 use Rattle.rule_words.proofs.EndTestsSay.{not_true, zero_held}
 use Rattle.rule_words.proofs.Named.{one_on, none_on, one_sided, nothing}
 use Rattle.edit_laws.proofs.Reducing.{by_edits, pairs_by_edits}
-use Rattle.ray_steps.proofs.Records as ray
-use Rattle.rule_words.proofs.RaysBack.{rays_by_edits}
+use Rattle.ray_step_laws.proofs.Records as ray
+use Rattle.ray_step_laws.proofs.RaysBack.{rays_by_edits}
 use Rattle.singleton_laws.specs.EmptyRow.{is_empty_row, enabled, edits, record_of}
 
 -- what the condition says: a live row without live entries, whose sides hold 0

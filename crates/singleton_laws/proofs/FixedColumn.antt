@@ -47,10 +47,10 @@ use Rattle.edit_laws.proofs.Sweeps.{sweep, programs_more, added_more, sweep_matr
 use Rattle.rule_words.specs.Owed.{RuleOwes}
 use Rattle.singleton_laws.specs.FixedColumn.{is_fixed_column, enabled, value_of, column_out, edits, record_of}
 use Rattle.edit_laws.proofs.Reducing.{by_edits, pairs_by_edits}
-use Rattle.ray_steps.proofs.Records as ray
-use Rattle.rule_words.proofs.RaysBack.{rays_by_edits}
-use Rattle.lp_rays.specs.Ray.{StepsBack}
-use Rattle.ray_steps.specs.StepBack.{weighed_in}
+use Rattle.ray_step_laws.proofs.Records as ray
+use Rattle.ray_step_laws.proofs.RaysBack.{rays_by_edits}
+use Rattle.rule_words.specs.Ray.{StepsBack}
+use Rattle.rule_words.specs.StepBack.{weighed_in}
 use Rattle.rule_words.proofs.Named.{one_on, ids_on, two_sided}
 use Rattle.problem_model.specs.Parts.{bounds_held}
 use Rattle.rule_words.proofs.Solid.{low_solid, high_solid, gap_solid}

@@ -1,8 +1,0 @@
-use Rattle.lp_rays.proofs.ParallelRows.{lower_side_back, upper_side_back}
-use Rattle.lp_rays.proofs.laws.dropped_sides_step_back.Goals as goal
-
-pub returns-clause-lower : goal.returns-clause-lower
-returns-clause-lower c = lower_side_back
-
-pub returns-clause-upper : goal.returns-clause-upper
-returns-clause-upper c = upper_side_back

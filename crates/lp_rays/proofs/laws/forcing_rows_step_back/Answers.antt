@@ -1,8 +1,0 @@
-use Rattle.lp_rays.proofs.ForcingRow.{forced_low_back, forced_high_back}
-use Rattle.lp_rays.proofs.laws.forcing_rows_step_back.Goals as goal
-
-pub returns-clause-lower : goal.returns-clause-lower
-returns-clause-lower c = forced_low_back
-
-pub returns-clause-upper : goal.returns-clause-upper
-returns-clause-upper c = forced_high_back

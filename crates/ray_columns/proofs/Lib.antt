@@ -1,0 +1,5 @@
+pub mod PlacedColumn
+pub mod DroppedColumn
+pub mod ParallelColumns
+pub mod Images
+pub mod DoubletonEquation

@@ -1,0 +1,4 @@
+pub mod Sums
+pub mod Records
+pub mod Joining
+pub mod RaysBack

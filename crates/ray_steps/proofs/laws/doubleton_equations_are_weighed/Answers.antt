@@ -1,5 +1,0 @@
-use Rattle.ray_steps.proofs.Records as steps
-use Rattle.ray_steps.proofs.laws.doubleton_equations_are_weighed.Goals as goal
-
-pub returns : goal.returns
-returns c = steps.doubleton_equation
