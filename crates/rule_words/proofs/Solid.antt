@@ -1,7 +1,5 @@
 -- A column that is not semi-continuous shows its bounds, and no gap.
-use Rattle.std.proofs.Common.{◌≡◌, ℕ, Bool, true, false, Option, None, ap, refl, ◌∙◌}
-use Rattle.std.specs.Prelude.{if◌then◌else◌}
-use Rattle.rational.specs.Number.{Number}
+use Rattle.std.proofs.Common.{◌≡◌, ℕ, Bool, true, false, None, ap, refl, ◌∙◌}
 use Rattle.lp_model.specs.Gaps.{reach_lower, reach_upper, gap_of}
 use Rattle.problem_model.specs.declared.line.Bounds.{Bounds}
 use Rattle.problem_model.specs.Showing.{reach_low, reach_high, gap_if, shown}

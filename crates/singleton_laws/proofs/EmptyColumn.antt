@@ -14,11 +14,11 @@ use Rattle.problem_model.specs.declared.edit.Edit.TheVariants.{SetBounds}
 use Rattle.problem_model.specs.declared.part.Contents.TheVariants as holding
 use Rattle.lp_model.specs.EndTests.{is_apart, is_place}
 use Rattle.problem_model.specs.Problems.{column_at, bounds_at, cost_at, column_entries, IsSparse}
-use Rattle.problem_model.specs.Showing.{end_if, shown}
+use Rattle.problem_model.specs.Showing.{shown}
 use Rattle.problem_model.specs.Sparse.{Sparse}
 use Rattle.problem_laws.proofs.AtIds.{column_inside}
 use Rattle.rule_words.specs.Owed.{RuleOwes}
-use Rattle.rule_words.proofs.Coefficients.{zero_either, end_live, coefficient_in_column}
+use Rattle.rule_words.proofs.Coefficients.{zero_either, coefficient_in_column}
 use Rattle.rule_words.proofs.EndTestsSay.{not_true, apart_ends, Finite, finite_end}
 use Rattle.rule_words.proofs.Named.{one_on, none_on, one_sided, nothing}
 use Rattle.edit_laws.proofs.Reducing.{by_edits, pairs_by_edits}

@@ -1,7 +1,7 @@
 -- V1 of rows: no number lies between sides that are crossed.
 use Rattle.std.specs.Prelude.{ℕ, Bool, false, List, [], ◌∷◌}
 use Rattle.problem_model.specs.declared.part.Contents.{Contents}
-use Rattle.problem_model.specs.declared.part.Contents.TheVariants.{Gone, Entries, Sides, Column, Bounds}
+use Rattle.problem_model.specs.declared.part.Contents.TheVariants.{Sides}
 use Rattle.problem_model.specs.declared.part.Part.{Part}
 use Rattle.problem_model.specs.declared.part.Part.TheVariants as part
 use Rattle.lp_model.specs.EndTests.{is_crossed}

@@ -7,7 +7,7 @@ use Rattle.undo_records.specs.declared.undo.Undo.TheVariants as undo
 use Rattle.problem_model.specs.declared.edit.Edit.{Edit}
 use Rattle.problem_model.specs.declared.edit.Edit.TheVariants.{SetBounds}
 use Rattle.problem_model.specs.declared.part.Contents.{Contents}
-use Rattle.problem_model.specs.declared.part.Contents.TheVariants.{Gone, Entries, Sides, Column, Bounds}
+use Rattle.problem_model.specs.declared.part.Contents.TheVariants.{Column, Bounds}
 use Rattle.problem_model.specs.declared.part.Part.{Part}
 use Rattle.problem_model.specs.declared.part.Part.TheVariants as part
 use Rattle.lp_model.specs.EndTests.{is_apart, is_place}

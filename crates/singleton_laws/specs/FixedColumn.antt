@@ -2,13 +2,12 @@
 use Rattle.std.specs.Prelude.{ℕ, Bool, false, List, [], ◌∷◌, ◌++◌, map, All, unwrap_or}
 use Rattle.rational.specs.Number.{Number, zero_ℚ, ◌*ℚ◌}
 use Rattle.rational.specs.Lowest.{Fits}
-use Rattle.lp_model.specs.declared.terms.Term.{Term}
 use Rattle.undo_records.specs.declared.undo.Undo.{Undo}
 use Rattle.undo_records.specs.declared.undo.Undo.TheVariants as undo
 use Rattle.problem_model.specs.declared.edit.Edit.{Edit}
 use Rattle.problem_model.specs.declared.edit.Edit.TheVariants.{AddOffset, DeleteColumn}
 use Rattle.problem_model.specs.declared.part.Contents.{Contents}
-use Rattle.problem_model.specs.declared.part.Contents.TheVariants.{Gone, Entries, Sides, Column, Bounds}
+use Rattle.problem_model.specs.declared.part.Contents.TheVariants.{Column, Bounds}
 use Rattle.problem_model.specs.declared.part.Part.{Part}
 use Rattle.problem_model.specs.declared.part.Part.TheVariants as part
 use Rattle.lp_model.specs.EndTests.{is_fixed}
