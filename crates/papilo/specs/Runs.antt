@@ -1,11 +1,11 @@
 -- How a run ends, by what its words ask for: its status, what it prints, and what it does to files.
-use Rattle.std.specs.Prelude.{◌≡◌, ◌⊎◌, ◌==◌, ℕ, false, List, Option, Some, None}
+use Rattle.std.specs.Prelude.{◌≡◌, ◌≢◌, ◌⊎◌, ◌==◌, ℕ, false, List, Option, Some, None, IfSome}
 use Rattle.file_ports.specs.Ports.{Moment, Rose, Grown, GrownInPart, KeepsOthers}
-use Rattle.command_words.specs.Names.{Request, Presolve, Check, Postsolve, Migrate, Verify, Solve, Gen}
+use Rattle.command_words.specs.Names.{PresolveNames, Request, Presolve, Check, Postsolve, Migrate, Verify, Solve, Gen}
 use Rattle.command_app.specs.Line.{is_taken}
 use Rattle.command_line.specs.Line.{selected}
 use Rattle.endings.specs.Ending.{When, no_memory_line, usage_line}
-use Rattle.endings.specs.Moments.{IsQuiet, IsThere, KeepsAllBut}
+use Rattle.endings.specs.Moments.{IsQuiet, IsThere}
 use Rattle.presolve_command.specs.Presolved as presolve
 use Rattle.check_command.specs.Checked as check
 use Rattle.postsolve_command.specs.Postsolved as postsolve
@@ -44,10 +44,30 @@ IsUnwritten (Some (Verify names)) before now = ⊥
 IsUnwritten (Some (Solve names)) before now = solve.IsUnwritten names before now
 IsUnwritten (Some (Gen numbers)) before now = ⊥
 
+-- all names tell what they told but OUT, REC, and RAY where it is asked for
+abbrev pub KeepsBeside : PresolveNames → Moment → Moment → Type 0
+KeepsBeside names before now = (other : List ℕ) → other ≢ names.output → other ≢ names.records → IfSome names.ray (λ ray. other ≢ ray) → now.told other ≡ before.told other
+
+-- RAY, where a presolve is asked for it
+abbrev pub ray_asked : Option Request → Option (List ℕ)
+ray_asked None = None
+ray_asked (Some (Presolve names)) = names.ray
+ray_asked (Some (Check names)) = None
+ray_asked (Some (Postsolve names)) = None
+ray_asked (Some (Migrate names)) = None
+ray_asked (Some (Verify names)) = None
+ray_asked (Some (Solve names)) = None
+ray_asked (Some (Gen numbers)) = None
+
+-- no name tells anything else, but that one, if there is one
+abbrev pub IsQuietBut : Option (List ℕ) → Moment → Moment → Type 0
+IsQuietBut None before now = IsQuiet before now
+IsQuietBut (Some name) before now = KeepsOthers before.told now.told name
+
 -- all names tell what they told but those that the words ask to write
 abbrev pub KeepsUnasked : Option Request → Moment → Moment → Type 0
 KeepsUnasked None before now = IsQuiet before now
-KeepsUnasked (Some (Presolve names)) before now = KeepsAllBut before.told now.told names.output names.records
+KeepsUnasked (Some (Presolve names)) before now = KeepsBeside names before now
 KeepsUnasked (Some (Check names)) before now = IsQuiet before now
 KeepsUnasked (Some (Postsolve names)) before now = KeepsOthers before.told now.told names.result
 KeepsUnasked (Some (Migrate names)) before now = KeepsOthers before.told now.told names.written

@@ -6,7 +6,7 @@ ghost use Rattle.command_app.specs.Line.{texts};
 ghost use Rattle.command_line.specs.Line.{asked};
 ghost use Rattle.endings.specs.Ending.{status_of, text_of};
 ghost use Rattle.endings.specs.Moments.{IsQuiet};
-ghost use Rattle.papilo.specs.Runs.{AreRefused, AreThere, Ends, IsUnwritten, KeepsUnasked, Prints};
+ghost use Rattle.papilo.specs.Runs.{AreRefused, AreThere, Ends, IsQuietBut, IsUnwritten, KeepsUnasked, Prints, ray_asked};
 
 use check_command::check;
 use command_words::{Refusal, Request};
@@ -77,7 +77,8 @@ pub fn run<R: Threads + Wait + Sync, F: Files, S: Sink, G: Gate, O: Onlooker>(
     ensures known { (result ≤ 10) ⊎ (result ≡ 20) ⊎ (result ≡ 21) ⊎ (result ≡ 22) }
 
     // And of the files.
-    ensures quiet { result ≢ 0 → result ≢ 4 → IsQuiet (F.moment files.old) (F.moment files.new) }
+    ensures quiet { result ≢ 0 → result ≢ 4 → result ≢ 20 → IsQuiet (F.moment files.old) (F.moment files.new) }
+    ensures infeasible { result ≡ 20 → IsQuietBut (ray_asked (asked (texts words.now))) (F.moment files.old) (F.moment files.new) }
     ensures unspent { result ≡ 5 → IsQuiet (F.moment files.old) (F.moment files.new) }
     ensures kept { KeepsUnasked (asked (texts words.now)) (F.moment files.old) (F.moment files.new) }
     ensures read { result ≢ 3 → result ≢ 4 → result ≢ 5 → AreThere (asked (texts words.now)) (F.moment files.old) }

@@ -3,7 +3,7 @@ use Rattle.file_ports.specs.Ports.{Grown}
 use Rattle.command_app.specs.Line.{texts}
 use Rattle.command_line.specs.Line.{asked}
 use Rattle.endings.specs.Ending.{status_of, text_of}
-use Rattle.papilo.proofs.Quiet.{kept, quiet, unspent}
+use Rattle.papilo.proofs.Quiet.{infeasible, kept, quiet, unspent}
 use Rattle.papilo.proofs.Said.{ends_at, status_known, there, unwritten}
 use Rattle.papilo.proofs.run.run.Goals as goal
 
@@ -27,8 +27,11 @@ pub returns-in-Ok-clause-known : goal.returns-in-Ok-clause-known
 returns-in-Ok-clause-known g c = status_known c.ending_of-ending.result c.status.result c.status.ensures
 
 pub returns-in-Ok-clause-quiet : goal.returns-in-Ok-clause-quiet
-returns-in-Ok-clause-quiet g c = λ done failed.
-    quiet (asked (texts c.args.words.now)) c.ending_of-ending.result _ _ c.ending_of-ending.ensures.ends (λ e. done (c.status.ensures ∙ e)) (λ e. failed (c.status.ensures ∙ e))
+returns-in-Ok-clause-quiet g c = λ done failed found.
+    quiet (asked (texts c.args.words.now)) c.ending_of-ending.result _ _ c.ending_of-ending.ensures.ends (λ e. done (c.status.ensures ∙ e)) (λ e. failed (c.status.ensures ∙ e)) (λ e. found (c.status.ensures ∙ e))
+
+pub returns-in-Ok-clause-infeasible : goal.returns-in-Ok-clause-infeasible
+returns-in-Ok-clause-infeasible g c = λ found. infeasible (asked (texts c.args.words.now)) c.ending_of-ending.result _ _ c.ending_of-ending.ensures.ends (sym c.status.ensures ∙ found)
 
 pub returns-in-Ok-clause-unspent : goal.returns-in-Ok-clause-unspent
 returns-in-Ok-clause-unspent g c = λ five. unspent (asked (texts c.args.words.now)) c.ending_of-ending.result _ _ c.ending_of-ending.ensures.ends (sym c.status.ensures ∙ five)
