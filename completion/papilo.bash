@@ -7,7 +7,7 @@ _papilo() {
   fi
   case $name:${COMP_WORDS[1]} in
     papilo-explain:*) options='--limit --fractions --fixed --all --column --row' ;;
-    papilo:presolve) options='--threads --limit --dual --fractions --ordered --fixed' ;;
+    papilo:presolve) options='--threads --limit --dual --ray --fractions --ordered --fixed' ;;
     papilo:check | papilo:verify) options='--fixed' ;;
     papilo:solve) options='--pivots --fixed' ;;
     papilo:help) options="status $(printf 'M%d ' {1..19})$(printf 'F%d ' {1..9})$(printf 'S%d ' {1..6})" ;;
