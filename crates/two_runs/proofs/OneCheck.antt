@@ -1,6 +1,6 @@
 -- What check says of the same bytes is one.
 use Rattle.std.specs.Prelude.{IsSome, IsTrue, is_some}
-use Rattle.std.proofs.Common.{◌≡◌, ◌⊎◌, inl, inr, ℕ, ◌<◌, ◌≤◌, true, false, List, [], ◌∷◌, ◌++◌, codes, length, Option, Some, None, sym, ap, ◌∙◌, subst, arith}
+use Rattle.std.proofs.Common.{◌≡◌, ◌⊎◌, inl, inr, ℕ, ◌<◌, ◌≤◌, Bool, true, false, cond, List, [], ◌∷◌, ◌++◌, codes, length, Option, Some, None, sym, ap, ◌∙◌, subst, arith}
 use Rattle.std.proofs.lemmas.Bool.{cases_lt}
 use Rattle.rational.specs.Number.{Number}
 use Rattle.file_ports.specs.Ports.{Moment}
@@ -16,17 +16,24 @@ use Rattle.lp_check.specs.DecidingPairs.{DecidesPair}
 use Rattle.lp_check.specs.FirstNotContinuous.{IsFirstNotContinuous}
 use Rattle.lp_check.specs.declared.pair_verdicts.PairVerdict.{PairVerdict}
 use Rattle.lp_check.specs.declared.verdicts.Verdict.{Verdict}
+use Rattle.lp_rays.specs.Ray.{Weights}
+use Rattle.lp_rays.specs.RayData.{RayData, weights_of}
+use Rattle.ray_check.specs.Deciding.{DecidesRay}
+use Rattle.ray_check.specs.declared.verdict.RayChecked.{RayChecked}
 use Rattle.mps_profile.specs.Reading.{first_fault}
 use Rattle.mps_profile.specs.declared.faults.MpsFaultKind.{MpsFaultKind}
 use Rattle.point_text.specs.declared.faults.SolFaultKind.{SolFaultKind}
+use Rattle.ray_text.specs.RayLines.{is_ray_text}
 use Rattle.endings.specs.Continuity.{NamesFirstNotContinuous, not_continuous_text}
 use Rattle.endings.specs.Moments.{Reads}
 use Rattle.endings.specs.Forms.{dialect_in}
 use Rattle.endings.specs.ProgramTexts.{IsFaultOf, IsProgramOf, mps_fault_text, program_in, SaysFaultOf}
 use Rattle.endings.specs.declared.forms.ProgramFault.TheVariants.{Mps}
-use Rattle.endings.specs.SolutionTexts.{fault_of, IsPairOf, SaysPairFault, solution_fault_text}
+use Rattle.endings.specs.SolutionTexts.{fault_of, solution_fault_text}
 use Rattle.endings.specs.declared.reads.TheConstants.{INPUT_LIMIT, SOLUTION_LIMIT}
 use Rattle.check_command.specs.Checked.{check_form, IsChecked, IsJudged, IsNotContinuous, IsProgramIn, RefusesProgram, RefusesSolution, SaysCheck}
+use Rattle.check_command.specs.GivenTexts.{given_fault, IsRayOf, IsSolutionOf, NeedsContinuous, ray_fault_of, ray_of, SaysGivenFault}
+use Rattle.check_command.specs.RayVerdictText.{ray_verdict_text, status_of_ray_verdict}
 use Rattle.check_command.specs.VerdictText.{pair_verdict_text, status_of_pair_verdict, status_of_verdict, verdict_text}
 use Rattle.two_runs.specs.Runs.{duals_in, Holds, point_in}
 use Rattle.two_runs.specs.SameAnswers.{ChecksAreOne, IsOfBytes}
@@ -69,6 +76,16 @@ whole_line_same program said more a b = a.line ∙ ap (not_continuous_text progr
 pub whole_not_continuous : (M : LinearProgram) (j : ℕ) → IsFirstNotContinuous M j → Continuous M → ⊥
 whole_not_continuous M j a c = of_a_kind M j a.kind (c j a.column)
 
+-- ---- the first fault of a text, by what starts it
+solution_sound : (program : ProgramData) (text : List ℕ) → is_ray_text text ≡ false → fault_of program text ≡ None → given_fault program text ≡ None
+solution_sound program text other none = ap (λ (b : Bool). cond b (ray_fault_of program text) (fault_of program text)) other ∙ none
+
+ray_sound : (program : ProgramData) (text : List ℕ) → is_ray_text text ≡ true → ray_fault_of program text ≡ None → given_fault program text ≡ None
+ray_sound program text starts none = ap (λ (b : Bool). cond b (ray_fault_of program text) (fault_of program text)) starts ∙ none
+
+ray_or_not : (text : List ℕ) → is_ray_text text ≡ false → is_ray_text text ≡ true → ⊥
+ray_or_not text other starts = let e : false ≡ true = sym other ∙ starts in cc
+
 -- ---- a verdict
 module _ (program : ProgramData) (solution : List ℕ) where
   abbrev point : List Number
@@ -77,8 +94,12 @@ module _ (program : ProgramData) (solution : List ℕ) where
   abbrev duals : Option (List Number)
   duals = duals_in program solution
 
+  abbrev ray : RayData
+  ray = ray_of program solution
+
   -- on the point
   record OfPoint (s : ℕ) (said : List ℕ) : Type 0 where
+    other : is_ray_text solution ≡ false
     alone : duals ≡ None
     verdict : Verdict
     decides : Decides (meaning program) (vector_of point) verdict
@@ -87,6 +108,7 @@ module _ (program : ProgramData) (solution : List ℕ) where
 
   -- on the point with its duals
   record OfPair (s : ℕ) (said : List ℕ) : Type 0 where
+    other : is_ray_text solution ≡ false
     prices : List Number
     given : duals ≡ Some prices
     continuous : Continuous (meaning program)
@@ -95,15 +117,27 @@ module _ (program : ProgramData) (solution : List ℕ) where
     answers : status_of_pair_verdict verdict ≡ s
     line : said ≡ pair_verdict_text program verdict
 
+  -- on the ray
+  record OfRay (s : ℕ) (said : List ℕ) : Type 0 where
+    starts : is_ray_text solution ≡ true
+    continuous : Continuous (meaning program)
+    verdict : RayChecked
+    decides : DecidesRay program (weights_of ray) verdict
+    answers : status_of_ray_verdict verdict ≡ s
+    line : said ≡ ray_verdict_text program verdict
+
+  -- duals or a ray are there
+  abbrev IsAsked : Type 0
+  IsAsked = ((is_ray_text solution ≡ false) × ((prices : List Number) × (duals ≡ Some prices))) ⊎ (is_ray_text solution ≡ true)
+
   -- none, since a column has to be whole
   record OfWhole (s : ℕ) (said : List ℕ) : Type 0 where
-    prices : List Number
-    given : duals ≡ Some prices
+    asked : IsAsked
     refused : s ≡ 2
     names : NamesFirstNotContinuous program said
 
   abbrev Told : ℕ → List ℕ → Type 0
-  Told s said = OfPoint s said ⊎ (OfPair s said ⊎ OfWhole s said)
+  Told s said = OfPoint s said ⊎ (OfPair s said ⊎ (OfRay s said ⊎ OfWhole s said))
 
   none_or_some : (ys : List Number) → duals ≡ None → duals ≡ Some ys → ⊥
   none_or_some ys a b = let e : None ≡ Some ys = sym a ∙ b in cc
@@ -111,8 +145,13 @@ module _ (program : ProgramData) (solution : List ℕ) where
   some_same : (ys zs : List Number) → duals ≡ Some ys → duals ≡ Some zs → ys ≡ zs
   some_same ys zs a b = let e : Some ys ≡ Some zs = sym a ∙ b in cc
 
+  not_asked : is_ray_text solution ≡ false → duals ≡ None → IsAsked → ⊥
+  not_asked other alone (inl (still, (prices, given))) = none_or_some prices alone given
+  not_asked other alone (inr starts) = ray_or_not solution other starts
+
   module _ (one_verdict : (M : LinearProgram) (x : Vector) (v w : Verdict) → Decides M x v → Decides M x w → v ≡ w)
-      (one_pair_verdict : (d : Sense) (M : LinearProgram) (x y : Vector) (v w : PairVerdict) → DecidesPair d M x y v → DecidesPair d M x y w → v ≡ w) (s t : ℕ) (said more : List ℕ) where
+      (one_pair_verdict : (d : Sense) (M : LinearProgram) (x y : Vector) (v w : PairVerdict) → DecidesPair d M x y v → DecidesPair d M x y w → v ≡ w)
+      (one_ray_verdict : (d : ProgramData) (x : Weights) (v w : RayChecked) → DecidesRay d x v → DecidesRay d x w → v ≡ w) (s t : ℕ) (said more : List ℕ) where
     points_same : OfPoint s said → OfPoint t more → (s ≡ t) × (said ≡ more)
     points_same a b =
         let e : a.verdict ≡ b.verdict = one_verdict (meaning program) (vector_of point) a.verdict b.verdict a.decides b.decides in
@@ -125,16 +164,28 @@ module _ (program : ProgramData) (solution : List ℕ) where
         (subst (λ (ys : List Number). DecidesPair program.sense (meaning program) (vector_of point) (vector_of ys) b.verdict) same b.decides) in
         (sym a.answers ∙ ap status_of_pair_verdict e ∙ b.answers, a.line ∙ ap (pair_verdict_text program) e ∙ sym b.line)
 
+    rays_same : OfRay s said → OfRay t more → (s ≡ t) × (said ≡ more)
+    rays_same a b =
+        let e : a.verdict ≡ b.verdict = one_ray_verdict program (weights_of ray) a.verdict b.verdict a.decides b.decides in
+        (sym a.answers ∙ ap status_of_ray_verdict e ∙ b.answers, a.line ∙ ap (ray_verdict_text program) e ∙ sym b.line)
+
     told_same : Told s said → Told t more → (s ≡ t) × (said ≡ more)
     told_same (inl a) (inl b) = points_same a b
     told_same (inl a) (inr (inl b)) = absurd (none_or_some b.prices a.alone b.given)
-    told_same (inl a) (inr (inr b)) = absurd (none_or_some b.prices a.alone b.given)
+    told_same (inl a) (inr (inr (inl b))) = absurd (ray_or_not solution a.other b.starts)
+    told_same (inl a) (inr (inr (inr b))) = absurd (not_asked a.other a.alone b.asked)
     told_same (inr (inl a)) (inl b) = absurd (none_or_some a.prices b.alone a.given)
-    told_same (inr (inr a)) (inl b) = absurd (none_or_some a.prices b.alone a.given)
     told_same (inr (inl a)) (inr (inl b)) = pairs_same a b
-    told_same (inr (inl a)) (inr (inr b)) = absurd (whole_not_continuous (meaning program) b.names.column b.names.whole a.continuous)
-    told_same (inr (inr a)) (inr (inl b)) = absurd (whole_not_continuous (meaning program) a.names.column a.names.whole b.continuous)
-    told_same (inr (inr a)) (inr (inr b)) = (a.refused ∙ sym b.refused, whole_line_same program said more a.names b.names)
+    told_same (inr (inl a)) (inr (inr (inl b))) = absurd (ray_or_not solution a.other b.starts)
+    told_same (inr (inl a)) (inr (inr (inr b))) = absurd (whole_not_continuous (meaning program) b.names.column b.names.whole a.continuous)
+    told_same (inr (inr (inl a))) (inl b) = absurd (ray_or_not solution b.other a.starts)
+    told_same (inr (inr (inl a))) (inr (inl b)) = absurd (ray_or_not solution b.other a.starts)
+    told_same (inr (inr (inl a))) (inr (inr (inl b))) = rays_same a b
+    told_same (inr (inr (inl a))) (inr (inr (inr b))) = absurd (whole_not_continuous (meaning program) b.names.column b.names.whole a.continuous)
+    told_same (inr (inr (inr a))) (inl b) = absurd (not_asked b.other b.alone a.asked)
+    told_same (inr (inr (inr a))) (inr (inl b)) = absurd (whole_not_continuous (meaning program) a.names.column a.names.whole b.continuous)
+    told_same (inr (inr (inr a))) (inr (inr (inl b))) = absurd (whole_not_continuous (meaning program) a.names.column a.names.whole b.continuous)
+    told_same (inr (inr (inr a))) (inr (inr (inr b))) = (a.refused ∙ sym b.refused, whole_line_same program said more a.names b.names)
 
 -- ---- of two texts
 module _ (names : CheckNames) (input solution : List ℕ) where
@@ -142,7 +193,7 @@ module _ (names : CheckNames) (input solution : List ℕ) where
   program = program_in (check_form names) input
 
   abbrev OfSolution : ℕ → List ℕ → Type 0
-  OfSolution s said = Layer SOLUTION_LIMIT solution solution_over (fault_of program solution) solution_line 8 s said (Told program solution s said)
+  OfSolution s said = Layer SOLUTION_LIMIT solution solution_over (given_fault program solution) solution_line 8 s said (Told program solution s said)
 
   abbrev OfTexts : ℕ → List ℕ → Type 0
   OfTexts s said = Layer INPUT_LIMIT input program_over (first_fault (dialect_in (check_form names)) input) program_line 2 s said (OfSolution s said)
@@ -161,50 +212,76 @@ module _ (names : CheckNames) (input solution : List ℕ) where
         inl (e, inr (r.0, ((fault.kind, fault.line), r.1, line)))
     refused_input s said now e (inr (over, line)) = inl (e, inl (longer_held INPUT_LIMIT (before.told names.input) input at_input over.0, line))
 
-    refused_solution : (s : ℕ) (said : List ℕ) (now : Moment) → s ≡ 8 → SaysPairFault program names.solution said before now → OfSolution s said
+    refused_solution : (s : ℕ) (said : List ℕ) (now : Moment) → s ≡ 8 → SaysGivenFault program names.solution said before now → OfSolution s said
     refused_solution s said now e (inl (fault, h, line)) =
-        let r = read_held SOLUTION_LIMIT (before.told names.solution) solution (λ text. fault_of program text ≡ Some (fault.kind, fault.line)) at_solution h in
+        let r = read_held SOLUTION_LIMIT (before.told names.solution) solution (λ text. given_fault program text ≡ Some (fault.kind, fault.line)) at_solution h in
         inl (e, inr (r.0, ((fault.kind, fault.line), r.1, line)))
     refused_solution s said now e (inr (over, line)) = inl (e, inl (longer_held SOLUTION_LIMIT (before.told names.solution) solution at_solution over.0, line))
 
-    -- SOL's point and duals
-    in_pair : (xs : List Number) (ys : Option (List Number)) → Reads SOLUTION_LIMIT (before.told names.solution) (λ text. IsPairOf program text xs ys) → (length solution ≤ SOLUTION_LIMIT) × IsPairOf program solution xs ys
-    in_pair xs ys h = read_held SOLUTION_LIMIT (before.told names.solution) solution (λ text. IsPairOf program text xs ys) at_solution h
+    -- SOL's point and duals, or its ray
+    in_pair : (xs : List Number) (ys : Option (List Number)) → Reads SOLUTION_LIMIT (before.told names.solution) (λ text. IsSolutionOf program text xs ys)
+        → (length solution ≤ SOLUTION_LIMIT) × IsSolutionOf program solution xs ys
+    in_pair xs ys h = read_held SOLUTION_LIMIT (before.told names.solution) solution (λ text. IsSolutionOf program text xs ys) at_solution h
+
+    in_ray : (x : RayData) → Reads SOLUTION_LIMIT (before.told names.solution) (λ text. IsRayOf program text x) → (length solution ≤ SOLUTION_LIMIT) × IsRayOf program solution x
+    in_ray x h = read_held SOLUTION_LIMIT (before.told names.solution) solution (λ text. IsRayOf program text x) at_solution h
 
     judged : (k s : ℕ) (said : List ℕ) → s ≡ k → IsJudged program (before.told names.solution) k said → OfSolution s said
     judged k s said e (inl a) =
         let r = in_pair a.point None a.given in
         inr (
           r.0,
-          r.1.0,
+          solution_sound program solution r.1.0 r.1.1.0,
           inl (record {
-            alone = sym r.1.2;
+            other = r.1.0;
+            alone = sym r.1.1.2;
             verdict = a.verdict;
-            decides = subst (λ (xs : List Number). Decides (meaning program) (vector_of xs) a.verdict) r.1.1 a.decides;
+            decides = subst (λ (xs : List Number). Decides (meaning program) (vector_of xs) a.verdict) r.1.1.1 a.decides;
             answers = a.answers ∙ sym e;
             line = a.said;
           }),
         )
-    judged k s said e (inr a) =
+    judged k s said e (inr (inl a)) =
         let r = in_pair a.point (Some a.duals) a.given in
         inr (
           r.0,
-          r.1.0,
+          solution_sound program solution r.1.0 r.1.1.0,
           inr (inl (record {
+            other = r.1.0;
             prices = a.duals;
-            given = sym r.1.2;
+            given = sym r.1.1.2;
             continuous = a.continuous;
             verdict = a.verdict;
-            decides = subst (λ (xs : List Number). DecidesPair program.sense (meaning program) (vector_of xs) (vector_of a.duals) a.verdict) r.1.1 a.decides;
+            decides = subst (λ (xs : List Number). DecidesPair program.sense (meaning program) (vector_of xs) (vector_of a.duals) a.verdict) r.1.1.1 a.decides;
             answers = a.answers ∙ sym e;
             line = a.said;
           })),
         )
+    judged k s said e (inr (inr a)) =
+        let r = in_ray a.ray a.given in
+        inr (
+          r.0,
+          ray_sound program solution r.1.0 r.1.1,
+          inr (inr (inl (record {
+            starts = r.1.0;
+            continuous = a.continuous;
+            verdict = a.verdict;
+            decides = subst (λ (x : RayData). DecidesRay program (weights_of x) a.verdict) r.1.2 a.decides;
+            answers = a.answers ∙ sym e;
+            line = a.said;
+          }))),
+        )
 
     not_continuous : (s : ℕ) (said : List ℕ) → s ≡ 2 → IsNotContinuous program (before.told names.solution) said → OfSolution s said
     not_continuous s said e a =
-        let r = in_pair a.point (Some a.duals) a.given in
-        inr (r.0, r.1.0, inr (inr (record { prices = a.duals; given = sym r.1.2; refused = e; names = a.names })))
+        let r = read_held SOLUTION_LIMIT (before.told names.solution) solution (λ text. NeedsContinuous program text) at_solution a.given in by r.0 r.1
+      where
+        whole : IsAsked program solution → OfWhole program solution s said
+        whole asked = record { asked = asked; refused = e; names = a.names }
+
+        by : length solution ≤ SOLUTION_LIMIT → NeedsContinuous program solution → OfSolution s said
+        by most (inl (x, ys, h)) = inr (most, solution_sound program solution h.0 h.1.0, inr (inr (inr (whole (inl (h.0, (ys, sym h.1.2)))))))
+        by most (inr (x, h)) = inr (most, ray_sound program solution h.0 h.1, inr (inr (inr (whole (inr h.0)))))
 
     -- at each status
     checked : (k s : ℕ) (said : List ℕ) → s ≡ k → IsChecked names k said before → OfTexts s said
@@ -215,7 +292,7 @@ module _ (names : CheckNames) (input solution : List ℕ) where
     refuses_program s said now e (inr h) = under s said (λ p. IsNotContinuous p (before.told names.solution) said) h (not_continuous s said e)
 
     refuses_solution : (s : ℕ) (said : List ℕ) (now : Moment) → s ≡ 8 → RefusesSolution names said before now → OfTexts s said
-    refuses_solution s said now e h = under s said (λ p. SaysPairFault p names.solution said before now) h (refused_solution s said now e)
+    refuses_solution s said now e h = under s said (λ p. SaysGivenFault p names.solution said before now) h (refused_solution s said now e)
 
     told_of : (s : ℕ) (said : List ℕ) (now : Moment) → IsOfBytes s → SaysCheck names s said before now → OfTexts s said
     told_of s said now b w0 =
@@ -229,9 +306,10 @@ module _ (names : CheckNames) (input solution : List ℕ) where
         (λ none. absurd none)))))))
 
 pub check_same : ((M : LinearProgram) (x : Vector) (v w : Verdict) → Decides M x v → Decides M x w → v ≡ w)
-    → ((d : Sense) (M : LinearProgram) (x y : Vector) (v w : PairVerdict) → DecidesPair d M x y v → DecidesPair d M x y w → v ≡ w) → ChecksAreOne
-check_same one pair names s t said more before now then later (input, i, j) (solution, k, l) b c x y =
+    → ((d : Sense) (M : LinearProgram) (x y : Vector) (v w : PairVerdict) → DecidesPair d M x y v → DecidesPair d M x y w → v ≡ w)
+    → ((d : ProgramData) (x : Weights) (v w : RayChecked) → DecidesRay d x v → DecidesRay d x w → v ≡ w) → ChecksAreOne
+check_same one pair on_ray names s t said more before now then later (input, i, j) (solution, k, l) b c x y =
     let p : ProgramData = program_in (check_form names) input in
     layer_same INPUT_LIMIT input program_over (first_fault (dialect_in (check_form names)) input) program_line 2 s t said more
     (told_of names input solution before i k s said now b x.says) (told_of names input solution then j l t more later c y.says)
-    (λ q r. layer_same SOLUTION_LIMIT solution solution_over (fault_of p solution) solution_line 8 s t said more q r (told_same p solution one pair s t said more))
+    (λ q r. layer_same SOLUTION_LIMIT solution solution_over (given_fault p solution) solution_line 8 s t said more q r (told_same p solution one pair on_ray s t said more))

@@ -40,7 +40,7 @@ PresolvesAreOne = (names : PresolveNames) → IsDoneInOrder names → (s t : ℕ
     → EndsPresolve names t more then later
     → PresolvesAlike names s t said more now later
 
--- check of the same IN and SOL ends alike and prints the same
+-- check of the same IN and SOL ends alike and prints the same, be SOL a solution or a ray
 abbrev pub ChecksAreOne : Type 0
 ChecksAreOne = (names : CheckNames) (s t : ℕ) (said more : List ℕ) (before now then later : Moment)
     → HoldsTheSame before then names.input

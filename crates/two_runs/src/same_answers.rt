@@ -8,6 +8,7 @@ ghost use Rattle.postsolve_command.specs.Lifted.{IsLifted, Stops};
 ghost use Rattle.two_runs.specs.SameAnswers.{ChecksAreOne, GensAreOne, MigratesAreOne, PostsolvesAreOne, PresolvesAreOne};
 
 use lp_check::laws::{verdicts_are_one, verdicts_with_duals_are_one};
+use ray_check::laws::verdicts_on_rays_are_one;
 use run_laws::conclusions_are_one;
 
 /// What records make of a point, with its duals if it has duals, is one: the lifted numbers; or where they have no room, the line that says
@@ -29,12 +30,13 @@ pub fn presolves_are_one()
     conclusions_are_one();
 }
 
-/// The same of `check`, on the same IN and SOL. It writes nothing.
+/// The same of `check`, on the same IN and SOL, be it a solution or a ray. It writes nothing.
 pub fn checks_are_one()
     ensures { ChecksAreOne }
 {
     verdicts_are_one();
     verdicts_with_duals_are_one();
+    verdicts_on_rays_are_one();
 }
 
 /// The same of `postsolve`, on the same OUT, REC and SOL: it leaves the same RESULT.
