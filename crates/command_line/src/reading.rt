@@ -114,12 +114,7 @@ fn options(found: &ArgMatches) -> Option<PresolveOptions>
 }
 
 // Whether RAY has no place: duals aren't asked for, or it is OUT or REC.
-fn has_no_place(
-    options: &PresolveOptions,
-    output: &str,
-    records: &str,
-    ray: Option<&str>,
-) -> bool
+fn has_no_place(options: &PresolveOptions, output: &str, records: &str, ray: Option<&str>) -> bool
     ensures { result ≡ no_place options.now output.now records.now (option_map (λ name. name.now) ray.entry) }
 {
     match ray {

@@ -27,12 +27,15 @@ infeasible_ends names before between now held text history verdict Infeasible No
       refl,
     )
 infeasible_ends names before between now held text history verdict Infeasible (Some ray) asked same stays gives most is found ends =
-    subst (λ (r : Option (List ℕ)). SaysPresolve (record names { ray = r }) 20 infeasible_line before now) (sym asked) (inl ((
-      ends.0,
-      said_read (λ t. TextHasRay names.options t ends.0) INPUT_LIMIT (before.told names.input) held text gives most is ends.1,
-      written_earlier ray ends.0 before between now same ends.2,
-      only_earlier ray before between now same ends.3,
-    ), refl))
+    subst (λ (r : Option (List ℕ)). SaysPresolve (record names { ray = r }) 20 infeasible_line before now) (sym asked) (inl (
+      (
+        ends.0,
+        said_read (λ t. TextHasRay names.options t ends.0) INPUT_LIMIT (before.told names.input) held text gives most is ends.1,
+        written_earlier ray ends.0 before between now same ends.2,
+        only_earlier ray before between now same ends.3,
+      ),
+      refl,
+    ))
 infeasible_ends names before between now held text history verdict (RayPast lines) (Some ray) asked same stays gives most is found ends =
     subst (λ (r : Option (List ℕ)). SaysPresolve (record names { ray = r }) 20 lines.items before now) (sym asked) (inr (
       ends.0,
@@ -41,12 +44,15 @@ infeasible_ends names before between now held text history verdict (RayPast line
       ends.3,
     ))
 infeasible_ends names before between now held text history verdict WriteFault (Some ray) asked same stays gives most is found ends =
-    subst (λ (r : Option (List ℕ)). SaysPresolve (record names { ray = r }) 4 (text_of WriteFault) before now) (sym asked) (inr (
-      ends.0,
-      said_read (λ t. TextHasRay names.options t ends.0) INPUT_LIMIT (before.told names.input) held text gives most is ends.1,
-      only_earlier ray before between now same ends.2,
-      fails_at_earlier ray before between now same stays ends.3,
-    ), refl)
+    subst (λ (r : Option (List ℕ)). SaysPresolve (record names { ray = r }) 4 (text_of WriteFault) before now) (sym asked) (
+      inr (
+        ends.0,
+        said_read (λ t. TextHasRay names.options t ends.0) INPUT_LIMIT (before.told names.input) held text gives most is ends.1,
+        only_earlier ray before between now same ends.2,
+        fails_at_earlier ray before between now same stays ends.3,
+      ),
+      refl,
+    )
 infeasible_ends names before between now held text history verdict (RayPast lines) None asked same stays gives most is found ends = absurd ends
 infeasible_ends names before between now held text history verdict WriteFault None asked same stays gives most is found ends = absurd ends
 infeasible_ends names before between now held text history verdict (Done bytes) None asked same stays gives most is found ends = absurd ends

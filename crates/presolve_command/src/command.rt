@@ -57,7 +57,13 @@ fn infeasible<F: Files>(
         return Ok(Ending::Infeasible);
     };
     let history = decided.history.as_slice();
-    match ray_text(alloc, text, form_of(words.options), history, decided.verdict) {
+    match ray_text(
+        alloc,
+        text,
+        form_of(words.options),
+        history,
+        decided.verdict,
+    ) {
         Ok(ray) => match files.write(name, &ray) {
             Ok(()) => Ok(Ending::Infeasible),
             Err(Failed) => Ok(Ending::WriteFault),

@@ -7,6 +7,6 @@ mod row_lists;
 mod sharing;
 
 pub use book::{Book, Ended};
-pub use row_lists::RowLists;
 pub use instances;
 pub use instances::rule_table;
+pub use row_lists::RowLists;
