@@ -16,7 +16,7 @@ use command_words::PresolveWords;
 use endings::{Ending, INPUT_LIMIT, fault_line, form_of};
 use file_ports::{Failed, Files, ReadErr};
 use presolve_report::presolve_rounds::{DecidedProgram, Onlooker};
-use ray_file::{RayError, past_text, ray_text};
+use ray_file::{RayError, past_text, text_of_ray};
 use std::alloc::{AllocError, Global};
 use std::sync::Wait;
 use std::thread::Threads;
@@ -57,7 +57,7 @@ fn infeasible<F: Files>(
         return Ok(Ending::Infeasible);
     };
     let history = decided.history.as_slice();
-    match ray_text(
+    match text_of_ray(
         alloc,
         text,
         form_of(words.options),

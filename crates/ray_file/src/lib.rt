@@ -4,4 +4,4 @@
 mod texts;
 
 pub use run_rays::RayError;
-pub use texts::{past_text, ray_text};
+pub use texts::{past_text, text_of_ray};

@@ -9,7 +9,7 @@ ghost use Rattle.endings.specs.ProgramTexts.{HasNoFault, program_in};
 ghost use Rattle.presolve_model.specs.Meanings.{says_no_point};
 ghost use Rattle.ray_file.specs.Telling.{past_lines, StopsAt, TellsRay};
 ghost use Rattle.run_rays.specs.Lifting.{IsEndOf};
-ghost use Rattle.run_rays.specs.declared.ray.RayError.TheVariants.{Past};
+ghost use Rattle.run_rays.specs.declared.of_run.RayError.TheVariants.{Past};
 
 use endings::{Form, ProgramError, read_program};
 use lp_model::Program;
@@ -40,7 +40,7 @@ fn program_of(alloc: Global, text: &[u8], form: Form) -> Result<Program, AllocEr
 ///
 /// # Errors
 /// That of [`ray`].
-pub fn ray_text(
+pub fn text_of_ray(
     alloc: Global,
     text: &[u8],
     form: Form,

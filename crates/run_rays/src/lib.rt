@@ -3,7 +3,7 @@
 #![tactic(auto)]
 
 mod ends;
-mod ray;
+mod of_run;
 mod steps;
 
-pub use ray::{RayError, ray};
+pub use of_run::{RayError, ray};

@@ -11,7 +11,7 @@ ghost use Rattle.problem_model.specs.Sparse.{Sparse};
 ghost use Rattle.presolve_model.specs.Meanings.{says_no_point};
 ghost use Rattle.ray_steps.specs.RayRoom.{LiftFits, RayStopsAt};
 ghost use Rattle.run_rays.specs.Lifting.{IsEndOf, last_weights, ray_of, steps_along};
-ghost use Rattle.run_rays.specs.declared.ray.RayError.TheVariants.{NoMemory, Past};
+ghost use Rattle.run_rays.specs.declared.of_run.RayError.TheVariants.{NoMemory, Past};
 
 use crate::steps::steps_of;
 use fractions::Numbers;
