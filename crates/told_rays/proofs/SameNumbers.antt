@@ -1,5 +1,5 @@
 -- As many numbers, the same by id, are the same.
-use Rattle.std.proofs.Common.{◌≡◌, ℕ, zero, suc, List, [], ◌∷◌, length, refl, ap, ap₂, arith}
+use Rattle.std.proofs.Common.{◌≡◌, zero, suc, List, [], ◌∷◌, length, refl, ap, ap₂, arith}
 use Rattle.rational.specs.Number.{Number}
 use Rattle.lp_model.specs.Vectors.{Vector, vector_of}
 
