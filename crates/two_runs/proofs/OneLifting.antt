@@ -1,5 +1,5 @@
 -- What records make of a point, or of a point with duals, is one.
-use Rattle.std.proofs.Common.{◌≡◌, ◌⊎◌, inl, inr, ℕ, zero, suc, pred, ◌<◌, ◌≤◌, List, [], ◌∷◌, drop, length, Option, Some, None, sym, refl, ap, ap₂, ◌∙◌, arith}
+use Rattle.std.proofs.Common.{◌≡◌, ◌⊎◌, inl, inr, ℕ, pred, ◌<◌, ◌≤◌, List, drop, Option, Some, None, sym, refl, ap, ◌∙◌, arith}
 use Rattle.std.proofs.lemmas.Bool.{cases_lt}
 use Rattle.rational.specs.Number.{Number}
 use Rattle.lp_model.specs.LinearProgram.{LinearProgram}
@@ -14,65 +14,23 @@ use Rattle.undo_records.specs.declared.undo.Undo.{Undo}
 use Rattle.undo_pairs.specs.Numbers.{started}
 use Rattle.postsolve_dual.specs.PairRoom.{IsFirstPast, LiftPairFits, PairStopsAt}
 use Rattle.postsolve_command.specs.Lifted.{IsLift, IsLifted, IsPairLift, point_at, Stops, stop_text, unpriced_text}
+use Rattle.told_rays.proofs.FirstStop.{one_stop, room_drop}
+use Rattle.told_rays.proofs.SameNumbers.{numbers_same}
 
--- ---- as many numbers, the same by id
-numbers_same : (xs ys : List Number) → length xs ≡ length ys → vector_of xs ≡ vector_of ys → xs ≡ ys
-numbers_same [] [] e h = refl
-numbers_same [] (y ∷ ys) e h = absurd (omega (arith, e))
-numbers_same (x ∷ xs) [] e h = absurd (omega (arith, e))
-numbers_same (x ∷ xs) (y ∷ ys) e h =
-    let rest : Vector → Vector = λ v k. v (suc k) in
-    ap₂ (λ (z : Number) (zs : List Number). z ∷ zs) (ap (λ (v : Vector). v zero) h) (numbers_same xs ys (omega (arith, e)) (ap rest h))
-
--- ---- of records of which those from one on have room, those from a later one on have it
+-- ---- records that are undone on a point, and on a pair
 module _ (x : Vector) where
   fits_drop : (us : List Undo) (b : ℕ) → LiftFits us x → LiftFits (drop b us) x
-  fits_drop us zero h = h
-  fits_drop [] (suc b) h = tt
-  fits_drop (u ∷ us) (suc b) h = fits_drop us b h.0
-
-  fits_later : (us : List Undo) (a b : ℕ) → a ≤ b → LiftFits (drop a us) x → LiftFits (drop b us) x
-  fits_later us zero b l h = fits_drop us b h
-  fits_later us (suc a) zero l h = absurd (omega (arith, l))
-  fits_later [] (suc a) (suc b) l h = tt
-  fits_later (u ∷ us) (suc a) (suc b) l h = fits_later us a b (omega (arith, l)) h
-
-  not_later : (us : List Undo) (a b : ℕ) → StopsAt us x a → StopsAt us x b → a < b → ⊥
-  not_later us a zero s t l = omega (arith, l)
-  not_later us a (suc b) s t l = t.here (fits_later us a b (omega (arith, l)) s.after)
+  fits_drop us b h = room_drop (λ (vs : List Undo). LiftFits vs x) tt (λ u vs k. k.0) us b h
 
   stop_same : (us : List Undo) (a b : ℕ) → StopsAt us x a → StopsAt us x b → a ≡ b
-  stop_same us a b s t = by (cases_lt a b) (cases_lt b a)
-    where
-      by : (a < b) ⊎ (b ≤ a) → (b < a) ⊎ (a ≤ b) → a ≡ b
-      by (inl l) m = absurd (not_later us a b s t l)
-      by (inr g) (inl m) = absurd (not_later us b a t s m)
-      by (inr g) (inr k) = omega (arith, g, k)
+  stop_same us a b s t = one_stop (λ (vs : List Undo). LiftFits vs x) tt (λ u vs h. h.0) us a b (s.after, s.here) (t.after, t.here)
 
--- the same of pairs
 module _ (p : Priced) where
   pair_drop : (us : List Undo) (b : ℕ) → LiftPairFits us p → LiftPairFits (drop b us) p
-  pair_drop us zero h = h
-  pair_drop [] (suc b) h = tt
-  pair_drop (u ∷ us) (suc b) h = pair_drop us b h.0
-
-  pair_later : (us : List Undo) (a b : ℕ) → a ≤ b → LiftPairFits (drop a us) p → LiftPairFits (drop b us) p
-  pair_later us zero b l h = pair_drop us b h
-  pair_later us (suc a) zero l h = absurd (omega (arith, l))
-  pair_later [] (suc a) (suc b) l h = tt
-  pair_later (u ∷ us) (suc a) (suc b) l h = pair_later us a b (omega (arith, l)) h
-
-  pair_not_later : (us : List Undo) (a b : ℕ) → PairStopsAt us p a → PairStopsAt us p b → a < b → ⊥
-  pair_not_later us a zero s t l = omega (arith, l)
-  pair_not_later us a (suc b) s t l = t.here (pair_later us a b (omega (arith, l)) s.after)
+  pair_drop us b h = room_drop (λ (vs : List Undo). LiftPairFits vs p) tt (λ u vs k. k.0) us b h
 
   pair_stop_same : (us : List Undo) (a b : ℕ) → PairStopsAt us p a → PairStopsAt us p b → a ≡ b
-  pair_stop_same us a b s t = by (cases_lt a b) (cases_lt b a)
-    where
-      by : (a < b) ⊎ (b ≤ a) → (b < a) ⊎ (a ≤ b) → a ≡ b
-      by (inl l) m = absurd (pair_not_later us a b s t l)
-      by (inr g) (inl m) = absurd (pair_not_later us b a t s m)
-      by (inr g) (inr k) = omega (arith, g, k)
+  pair_stop_same us a b s t = one_stop (λ (vs : List Undo). LiftPairFits vs p) tt (λ u vs h. h.0) us a b (s.after, s.here) (t.after, t.here)
 
 -- ---- the first reduced cost without room
 first_same : (M : LinearProgram) (y : Vector) (j k : ℕ) → IsFirstPast M y j → IsFirstPast M y k → j ≡ k

@@ -1,5 +1,5 @@
 -- What presolve says of the same bytes is one.
-use Rattle.std.proofs.Common.{◌≡◌, ◌⊎◌, inl, inr, ℕ, ◌≤◌, true, false, List, length, refl, sym, ap, ◌∙◌, subst}
+use Rattle.std.proofs.Common.{◌≡◌, ◌⊎◌, inl, inr, ℕ, ◌≤◌, true, false, List, length, Option, Some, None, IfSome, sym, ap, ◌∙◌, subst}
 use Rattle.file_ports.specs.Ports.{Moment}
 use Rattle.command_words.specs.Names.{PresolveNames}
 use Rattle.lp_model.specs.Meaning.{meaning}
@@ -21,10 +21,12 @@ use Rattle.endings.specs.Ending.{infeasible_line, unbounded_line}
 use Rattle.endings.specs.ProgramTexts.{IsFaultOf, IsProgramOf, program_in}
 use Rattle.endings.specs.declared.forms.ProgramFault.TheVariants.{Mps}
 use Rattle.endings.specs.declared.reads.TheConstants.{INPUT_LIMIT}
-use Rattle.presolve_command.specs.Presolved.{IsDoneInOrder, IsInfeasible, IsMadeOf, IsPresolved, IsUnboundedOrInfeasible, RefusesProgram, SaysFault, SaysNotTaken, SaysPresolve}
+use Rattle.ray_file.specs.Telling.{past_lines, StopsAt, TellsRay}
+use Rattle.told_rays.proofs.OneRay.{says_more, stops_same, told_or_stopped, told_same}
+use Rattle.presolve_command.specs.Presolved.{IsDoneInOrder, IsMadeOf, IsPresolved, IsProved, IsUnboundedOrInfeasible, RefusesProgram, SaysFault, SaysInfeasible, SaysNotTaken, SaysPresolve}
 use Rattle.presolve_report.specs.Report.{report_text}
 use Rattle.presolve_report.specs.Outcomes.{entries_of, Outcome, Tells}
-use Rattle.presolve_command.specs.Texts.{IsConcluded, IsNotTaken, IsTaken, options_for, ProgramIsInfeasible, ProgramIsUnboundedOrInfeasible, TextIsInfeasible, TextIsNotTaken, TextIsUnboundedOrInfeasible, workers_for}
+use Rattle.presolve_command.specs.Texts.{IsConcluded, IsNotTaken, IsTaken, options_for, ProgramIsInfeasible, ProgramIsUnboundedOrInfeasible, TextHasRay, TextIsInfeasible, TextIsNotTaken, TextIsUnboundedOrInfeasible, TextLacksRay, workers_for}
 use Rattle.two_runs.specs.Runs.{Holds}
 use Rattle.two_runs.specs.SameAnswers.{IsOfBytes, LeaveTheSame, PresolvesAreOne}
 use Rattle.two_runs.proofs.Joined.{held_written}
@@ -93,34 +95,69 @@ module _ (one : OneConclusion) (options : Options) (workers : Workers) (order : 
       let e : true ≡ false = sym a.says ∙ ap says_no_point same ∙ b.says in
       cc
 
-  -- what is said of a program that was read
+  -- ---- two findings of one program
+  found_same : (f g : ProgramIsInfeasible options workers program) → (f.history ≡ g.history) × (f.verdict ≡ g.verdict)
+  found_same f g = one.decided options workers workers program f.history g.history f.verdict g.verdict order order f.decided g.decided
+
+  tells_here : (f g : ProgramIsInfeasible options workers program) (text : List ℕ) → TellsRay program g.history g.verdict text → TellsRay program f.history f.verdict text
+  tells_here f g text r =
+      let same = found_same f g in
+      subst (λ (v : Verdict). TellsRay program f.history v text) (sym same.1) (subst (λ (h : List Reduction). TellsRay program h g.verdict text) (sym same.0) r)
+
+  stops_here : (f g : ProgramIsInfeasible options workers program) (k : ℕ) → StopsAt program g.history g.verdict k → StopsAt program f.history f.verdict k
+  stops_here f g k r =
+      let same = found_same f g in
+      subst (λ (v : Verdict). StopsAt program f.history v k) (sym same.1) (subst (λ (h : List Reduction). StopsAt program h g.verdict k) (sym same.0) r)
+
+  texts_same : (f g : ProgramIsInfeasible options workers program) (text more : List ℕ) → TellsRay program f.history f.verdict text → TellsRay program g.history g.verdict more → text ≡ more
+  texts_same f g text more a b = told_same program f.decided.start f.decided.opened f.history f.verdict text more a (tells_here f g more b)
+
+  not_both : (f g : ProgramIsInfeasible options workers program) (text : List ℕ) (k : ℕ) → TellsRay program f.history f.verdict text → StopsAt program g.history g.verdict k → ⊥
+  not_both f g text k a b = told_or_stopped program f.decided.start f.decided.opened f.history f.verdict text k a (stops_here f g k b)
+
+  -- what is said of a program that has no feasible point: that alone where no RAY is asked for, or where there is a text of its ray
+  abbrev OfRay : Option (List ℕ) → ProgramIsInfeasible options workers program → List ℕ → Type 0
+  OfRay None found said = said ≡ infeasible_line
+  OfRay (Some ray) found said = ((text : List ℕ) × TellsRay program found.history found.verdict text × (said ≡ infeasible_line))
+      ⊎ ((k : ℕ) × StopsAt program found.history found.verdict k × (said ≡ past_lines k))
+
+  lines_same : (o : Option (List ℕ)) (f g : ProgramIsInfeasible options workers program) (said more : List ℕ) → OfRay o f said → OfRay o g more → said ≡ more
+  lines_same None f g said more a b = a ∙ sym b
+  lines_same (Some ray) f g said more (inl a) (inl b) = a.2 ∙ sym b.2
+  lines_same (Some ray) f g said more (inl a) (inr b) = absurd (not_both f g a.0 b.0 a.1 b.1)
+  lines_same (Some ray) f g said more (inr a) (inl b) = absurd (not_both g f b.0 a.0 b.1 a.1)
+  lines_same (Some ray) f g said more (inr a) (inr b) =
+      a.2 ∙ ap past_lines (stops_same program f.decided.start f.decided.opened f.history f.verdict a.0 b.0 a.1 (stops_here f g b.0 b.1)) ∙ sym b.2
+
   abbrev OfOutcome : ℕ → List ℕ → Type 0
   OfOutcome s said = (s ≡ 0) × ((output : List ℕ) × (records : List ℕ) × IsOutcome options workers program output records said)
 
-  abbrev OfProgram : ℕ → List ℕ → Type 0
-  OfProgram s said = ((s ≡ 2) × IsNotTaken options program said)
-      ⊎ (OfOutcome s said
-      ⊎ (((s ≡ 20) × ProgramIsInfeasible options workers program × (said ≡ infeasible_line))
-      ⊎ ((s ≡ 21) × ProgramIsUnboundedOrInfeasible options workers program × (said ≡ unbounded_line))))
+  -- what is said of a program that was read, where this RAY is asked for, or none
+  module _ (ray : Option (List ℕ)) where
+    abbrev OfProgram : ℕ → List ℕ → Type 0
+    OfProgram s said = ((s ≡ 2) × IsNotTaken options program said)
+        ⊎ (OfOutcome s said
+        ⊎ (((s ≡ 20) × ((found : ProgramIsInfeasible options workers program) × OfRay ray found said))
+        ⊎ ((s ≡ 21) × ProgramIsUnboundedOrInfeasible options workers program × (said ≡ unbounded_line))))
 
-  module _ (s t : ℕ) (said more : List ℕ) where
-    program_same : OfProgram s said → OfProgram t more → (s ≡ t) × (said ≡ more)
-    program_same (inl a) (inl b) = (a.0 ∙ sym b.0, whole_line_same program said more a.1.1 b.1.1)
-    program_same (inl a) (inr (inl b)) = absurd (taken_or_not said a.1 (taken_here b.1.0 b.1.1 more b.1.2))
-    program_same (inl a) (inr (inr (inl b))) = absurd (taken_or_not said a.1 b.1.taken)
-    program_same (inl a) (inr (inr (inr b))) = absurd (taken_or_not said a.1 b.1.taken)
-    program_same (inr (inl a)) (inl b) = absurd (taken_or_not more b.1 (taken_here a.1.0 a.1.1 said a.1.2))
-    program_same (inr (inl a)) (inr (inl b)) = (a.0 ∙ sym b.0, (outcomes_same a.1.0 a.1.1 said b.1.0 b.1.1 more a.1.2 b.1.2).2)
-    program_same (inr (inl a)) (inr (inr (inl b))) = absurd (never_both a.1.0 a.1.1 said a.1.2 b.1.history b.1.verdict b.1.decided)
-    program_same (inr (inl a)) (inr (inr (inr b))) = absurd (never_both a.1.0 a.1.1 said a.1.2 b.1.history b.1.verdict b.1.decided)
-    program_same (inr (inr (inl a))) (inl b) = absurd (taken_or_not more b.1 a.1.taken)
-    program_same (inr (inr (inl a))) (inr (inl b)) = absurd (never_both b.1.0 b.1.1 more b.1.2 a.1.history a.1.verdict a.1.decided)
-    program_same (inr (inr (inl a))) (inr (inr (inl b))) = (a.0 ∙ sym b.0, a.2 ∙ sym b.2)
-    program_same (inr (inr (inl a))) (inr (inr (inr b))) = absurd (two_kinds a.1 b.1)
-    program_same (inr (inr (inr a))) (inl b) = absurd (taken_or_not more b.1 a.1.taken)
-    program_same (inr (inr (inr a))) (inr (inl b)) = absurd (never_both b.1.0 b.1.1 more b.1.2 a.1.history a.1.verdict a.1.decided)
-    program_same (inr (inr (inr a))) (inr (inr (inl b))) = absurd (two_kinds b.1 a.1)
-    program_same (inr (inr (inr a))) (inr (inr (inr b))) = (a.0 ∙ sym b.0, a.2 ∙ sym b.2)
+    module _ (s t : ℕ) (said more : List ℕ) where
+      program_same : OfProgram s said → OfProgram t more → (s ≡ t) × (said ≡ more)
+      program_same (inl a) (inl b) = (a.0 ∙ sym b.0, whole_line_same program said more a.1.1 b.1.1)
+      program_same (inl a) (inr (inl b)) = absurd (taken_or_not said a.1 (taken_here b.1.0 b.1.1 more b.1.2))
+      program_same (inl a) (inr (inr (inl b))) = absurd (taken_or_not said a.1 b.1.0.taken)
+      program_same (inl a) (inr (inr (inr b))) = absurd (taken_or_not said a.1 b.1.taken)
+      program_same (inr (inl a)) (inl b) = absurd (taken_or_not more b.1 (taken_here a.1.0 a.1.1 said a.1.2))
+      program_same (inr (inl a)) (inr (inl b)) = (a.0 ∙ sym b.0, (outcomes_same a.1.0 a.1.1 said b.1.0 b.1.1 more a.1.2 b.1.2).2)
+      program_same (inr (inl a)) (inr (inr (inl b))) = absurd (never_both a.1.0 a.1.1 said a.1.2 b.1.0.history b.1.0.verdict b.1.0.decided)
+      program_same (inr (inl a)) (inr (inr (inr b))) = absurd (never_both a.1.0 a.1.1 said a.1.2 b.1.history b.1.verdict b.1.decided)
+      program_same (inr (inr (inl a))) (inl b) = absurd (taken_or_not more b.1 a.1.0.taken)
+      program_same (inr (inr (inl a))) (inr (inl b)) = absurd (never_both b.1.0 b.1.1 more b.1.2 a.1.0.history a.1.0.verdict a.1.0.decided)
+      program_same (inr (inr (inl a))) (inr (inr (inl b))) = (a.0 ∙ sym b.0, lines_same ray a.1.0 b.1.0 said more a.1.1 b.1.1)
+      program_same (inr (inr (inl a))) (inr (inr (inr b))) = absurd (two_kinds a.1.0 b.1)
+      program_same (inr (inr (inr a))) (inl b) = absurd (taken_or_not more b.1 a.1.taken)
+      program_same (inr (inr (inr a))) (inr (inl b)) = absurd (never_both b.1.0 b.1.1 more b.1.2 a.1.history a.1.verdict a.1.decided)
+      program_same (inr (inr (inr a))) (inr (inr (inl b))) = absurd (two_kinds b.1.0 a.1)
+      program_same (inr (inr (inr a))) (inr (inr (inr b))) = (a.0 ∙ sym b.0, a.2 ∙ sym b.2)
 
 -- ---- of IN's bytes
 module _ (one : OneConclusion) (names : PresolveNames) (order : IsDoneInOrder names) (input : List ℕ) where
@@ -134,7 +171,7 @@ module _ (one : OneConclusion) (names : PresolveNames) (order : IsDoneInOrder na
   workers = workers_for names.options
 
   abbrev OfText : ℕ → List ℕ → Type 0
-  OfText s said = Layer INPUT_LIMIT input program_over (first_fault (dialect_in (form_of names.options)) input) program_line 2 s said (OfProgram one options workers order program s said)
+  OfText s said = Layer INPUT_LIMIT input program_over (first_fault (dialect_in (form_of names.options)) input) program_line 2 s said (OfProgram one options workers order program names.ray s said)
 
   module _ (before : Moment) (at_input : Holds before names.input input) where
     refused : (s : ℕ) (said : List ℕ) (now : Moment) → s ≡ 2 → SaysFault names said before now → OfText s said
@@ -161,8 +198,20 @@ module _ (one : OneConclusion) (names : PresolveNames) (order : IsDoneInOrder na
         let r = in_program program h.program h.records said h.made in
         inr (r.0, r.1.0, inr (inl (e, (h.program, h.records, made h.program h.records said h.made))))
 
-    infeasible : (s : ℕ) (said : List ℕ) → s ≡ 20 → IsInfeasible names before → said ≡ infeasible_line → OfText s said
-    infeasible s said e h line = let r = read_held INPUT_LIMIT (before.told names.input) input (λ text. TextIsInfeasible names.options text) at_input h in inr (r.0, r.1.0, inr (inr (inl (e, r.1.1, line))))
+    of_ray : (o : Option (List ℕ)) (said : List ℕ) (now : Moment) → SaysInfeasible o names said before now
+        → (length input ≤ INPUT_LIMIT) × (first_fault (dialect_in (form_of names.options)) input ≡ None) × ((found : ProgramIsInfeasible options workers program) × OfRay one options workers order program o found said)
+    of_ray None said now h =
+        let r = read_held INPUT_LIMIT (before.told names.input) input (λ text. TextIsInfeasible names.options text) at_input h.0 in
+        (r.0, r.1.0, (r.1.1, h.2))
+    of_ray (Some ray) said now (inl h) =
+        let r = read_held INPUT_LIMIT (before.told names.input) input (λ text. TextHasRay names.options text h.0.0) at_input h.0.1 in
+        (r.0, r.1.0, (r.1.1.0, inl (h.0.0, r.1.1.1, h.1)))
+    of_ray (Some ray) said now (inr h) =
+        let r = read_held INPUT_LIMIT (before.told names.input) input (λ text. TextLacksRay names.options text h.0) at_input h.1 in
+        (r.0, r.1.0, (r.1.1.0, inr (h.0, r.1.1.1, h.3)))
+
+    infeasible : (s : ℕ) (said : List ℕ) (now : Moment) → s ≡ 20 → SaysInfeasible names.ray names said before now → OfText s said
+    infeasible s said now e h = let r = of_ray names.ray said now h in inr (r.0, r.1, inr (inr (inl (e, r.2))))
 
     unbounded : (s : ℕ) (said : List ℕ) → s ≡ 21 → IsUnboundedOrInfeasible names before → said ≡ unbounded_line → OfText s said
     unbounded s said e h line = let r = read_held INPUT_LIMIT (before.told names.input) input (λ text. TextIsUnboundedOrInfeasible names.options text) at_input h in inr (r.0, r.1.0, inr (inr (inr (e, r.1.1, line))))
@@ -174,12 +223,15 @@ module _ (one : OneConclusion) (names : PresolveNames) (order : IsDoneInOrder na
         (λ w3. either (at_status s 3 _ _ w3) (λ h. absurd (b.read h.0))
         (λ w4. either (at_status s 4 _ _ w4) (λ h. absurd (b.written h.0))
         (λ w5. either (at_status s 5 _ _ w5) (λ h. absurd (b.made h.0))
-        (λ w20. either (at_status s 20 _ _ w20) (λ h. infeasible s said h.0 h.1.0 h.1.2)
+        (λ w20. either (at_status s 20 _ _ w20) (λ h. infeasible s said now h.0 h.1)
         (λ w21. either (at_status s 21 _ _ w21) (λ h. unbounded s said h.0 h.1.0 h.1.2)
         (λ none. absurd none)))))))
 
     at_zero : (s : ℕ) (said : List ℕ) (now : Moment) → s ≡ 0 → SaysPresolve names s said before now → IsPresolved names said before now
     at_zero s said now e w = subst (λ (k : ℕ). SaysPresolve names k said before now) e w
+
+    at_twenty : (s : ℕ) (said : List ℕ) (now : Moment) → s ≡ 20 → SaysPresolve names s said before now → SaysInfeasible names.ray names said before now
+    at_twenty s said now e w = subst (λ (k : ℕ). SaysPresolve names k said before now) e w
 
 -- ---- OUT and REC
 module _ (one : OneConclusion) (names : PresolveNames) (order : IsDoneInOrder names) (input said more : List ℕ) (before now then later : Moment) (i : Holds before names.input input) (j : Holds then names.input input)
@@ -196,13 +248,30 @@ module _ (one : OneConclusion) (names : PresolveNames) (order : IsDoneInOrder na
   records_same xs ys x y = sym (held_written (before.told names.records) (now.told names.records) xs a.records x a.records_written) ∙ both_same.1
       ∙ held_written (then.told names.records) (later.told names.records) ys b.records y b.records_written
 
+-- ---- RAY
+module _ (one : OneConclusion) (names : PresolveNames) (order : IsDoneInOrder names) (input said more : List ℕ) (before now then later : Moment) (i : Holds before names.input input) (j : Holds then names.input input) where
+  rays_same : (text other : List ℕ) → IsProved names text before → IsProved names other then → text ≡ other
+  rays_same text other a b =
+      let r = read_held INPUT_LIMIT (before.told names.input) input (λ held. TextHasRay names.options held text) i a in
+      let q = read_held INPUT_LIMIT (then.told names.input) input (λ held. TextHasRay names.options held other) j b in
+      texts_same one (options_for names.options) (workers_for names.options) order (program_in (form_of names.options) input) r.1.1.0 q.1.1.0 text other r.1.1.1 q.1.1.1
+
+  ray_same : (o : Option (List ℕ)) → SaysInfeasible o names said before now → SaysInfeasible o names more then later → said ≡ infeasible_line → more ≡ infeasible_line → IfSome o (LeaveTheSame now later)
+  ray_same None a b e f = tt
+  ray_same (Some ray) (inl a) (inl b) e f = λ xs ys x y.
+      sym (held_written (before.told ray) (now.told ray) xs a.0.0 x a.0.2) ∙ rays_same a.0.0 b.0.0 a.0.1 b.0.1 ∙ held_written (then.told ray) (later.told ray) ys b.0.0 y b.0.2
+  ray_same (Some ray) (inl a) (inr b) e f = absurd (says_more b.0 (sym f ∙ b.3))
+  ray_same (Some ray) (inr a) b e f = absurd (says_more a.0 (sym e ∙ a.3))
+
 pub presolve_same : OneConclusion → PresolvesAreOne
 presolve_same one names order s t said more before now then later (input, i, j) b c x y =
     let same = layer_same INPUT_LIMIT input program_over (first_fault (dialect_in (form_of names.options)) input) program_line 2 s t said more (told_of one names order input before i s said now b x.says) (told_of one names order input then j t more later c y.says)
-    (program_same one (options_for names.options) (workers_for names.options) order (program_in (form_of names.options) input) s t said more) in
+    (program_same one (options_for names.options) (workers_for names.options) order (program_in (form_of names.options) input) names.ray s t said more) in
     record {
       status = same.0;
       printed = same.1;
       output = λ zero. output_same one names order input said more before now then later i j (at_zero one names order input before i s said now zero x.says) (at_zero one names order input then j t more later (sym same.0 ∙ zero) y.says);
       records = λ zero. records_same one names order input said more before now then later i j (at_zero one names order input before i s said now zero x.says) (at_zero one names order input then j t more later (sym same.0 ∙ zero) y.says);
+      ray = λ twenty line. ray_same one names order input said more before now then later i j names.ray (at_twenty one names order input before i s said now twenty x.says)
+          (at_twenty one names order input then j t more later (sym same.0 ∙ twenty) y.says) line (sym same.1 ∙ line);
     }

@@ -1,7 +1,8 @@
 -- The same words and the same bytes, at two times.
-use Rattle.std.specs.Prelude.{◌≡◌, ◌≢◌, ℕ, List}
+use Rattle.std.specs.Prelude.{◌≡◌, ◌≢◌, ℕ, List, IfSome}
 use Rattle.file_ports.specs.Ports.{Moment}
 use Rattle.command_words.specs.Names.{CheckNames, MigrateNames, PostsolveNames, PresolveNames}
+use Rattle.endings.specs.Ending.{infeasible_line}
 use Rattle.presolve_command.specs.Presolved.{EndsPresolve, IsDoneInOrder}
 use Rattle.check_command.specs.Checked.{EndsCheck}
 use Rattle.postsolve_command.specs.Postsolved.{EndsPostsolve}
@@ -24,12 +25,14 @@ pub record IsOfBytes (status : ℕ) : Type 0 where
 abbrev pub LeaveTheSame : Moment → Moment → List ℕ → Type 0
 LeaveTheSame one other name = (bytes more : List ℕ) → Holds one name bytes → Holds other name more → bytes ≡ more
 
--- presolve of the same IN ends alike, prints the same, and where it reduced the program leaves the same OUT and REC
+-- presolve of the same IN ends alike, prints the same, and where it reduced the program leaves the same OUT and REC. Where it says no more
+-- than that no point is feasible, it wrote the RAY that it was asked for, and leaves the same RAY.
 pub record PresolvesAlike (names : PresolveNames) (s t : ℕ) (said more : List ℕ) (now later : Moment) : Type 0 where
   pub status : s ≡ t
   pub printed : said ≡ more
   pub output : s ≡ 0 → LeaveTheSame now later names.output
   pub records : s ≡ 0 → LeaveTheSame now later names.records
+  pub ray : s ≡ 20 → said ≡ infeasible_line → IfSome names.ray (LeaveTheSame now later)
 
 abbrev pub PresolvesAreOne : Type 0
 PresolvesAreOne = (names : PresolveNames) → IsDoneInOrder names → (s t : ℕ) (said more : List ℕ) (before now then later : Moment)

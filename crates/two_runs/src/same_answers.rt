@@ -23,7 +23,7 @@ pub fn liftings_are_one()
 {}
 
 /// `presolve` with the same words on the same IN, by one worker or with `--ordered`, ends with the same status, and prints the same; and it
-/// leaves the same OUT and REC. That is so where no read and no write failed, and memory did not run out.
+/// leaves the same OUT and REC, or the same RAY. That is so where no read and no write failed, and memory did not run out.
 pub fn presolves_are_one()
     ensures { PresolvesAreOne }
 {

@@ -1,0 +1,3 @@
+pub mod FirstStop
+pub mod SameNumbers
+pub mod OneRay
