@@ -7,6 +7,7 @@ error_kept {A} {B} {E} e f h = ap again (ap error_of h)
   where
     again : E → Result B E
     again r = Err r
+
     error_of : Result A E → E
     error_of (Ok a) = e
     error_of (Err x) = x

@@ -14,8 +14,8 @@ ghost use Rattle.run_rays.specs.Lifting.{IsEndOf};
 ghost use Rattle.run_rays.specs.declared.of_run.RayError.TheVariants.{Past};
 
 use endings::{Form, ProgramError, read_program};
-use fractions::frac::Frac;
 use fractions::Numbers;
+use fractions::frac::Frac;
 use lp_model::Program;
 use lp_rays::Ray;
 use presolve_model::{Reduction, Verdict};
