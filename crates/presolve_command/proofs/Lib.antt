@@ -2,3 +2,4 @@ mod Before
 mod Made
 mod PlainKept
 mod Proved
+mod Rays

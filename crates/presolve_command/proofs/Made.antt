@@ -55,10 +55,11 @@ pub not_taken_said : (options : PresolveOptions) (text : List ℕ) (n : NotReduc
     → TextIsNotTaken options text line.items
 not_taken_said options text n line is h = subst (λ (x : NotReduced). IsReduced options text (Err x)) is h
 
--- the same for want of a feasible point
-pub infeasible_said : (options : PresolveOptions) (text : List ℕ) (n : NotReduced) (found : DecidedProgram) → n ≡ Infeasible found → IsReduced options text (Err n)
-    → TextIsInfeasibleBy options text found.history.items found.verdict
-infeasible_said options text n found is h = subst (λ (x : NotReduced). IsReduced options text (Err x)) is h
+-- the same for want of a feasible point, of the text as it is shown later
+pub infeasible_said : (options : PresolveOptions) (text shown held : List ℕ) (n : NotReduced) (found : DecidedProgram) → n ≡ Infeasible found → text ≡ held → shown ≡ held → IsReduced options text (Err n)
+    → TextIsInfeasibleBy options shown found.history.items found.verdict
+infeasible_said options text shown held n found is was now h =
+    subst (λ (t : List ℕ). TextIsInfeasibleBy options t found.history.items found.verdict) (was ∙ sym now) (subst (λ (x : NotReduced). IsReduced options text (Err x)) is h)
 
 -- the same for want of a feasible point, or of one of least cost
 pub unbounded_said : (options : PresolveOptions) (text : List ℕ) (n : NotReduced) → n ≡ UnboundedOrInfeasible → IsReduced options text (Err n) → TextIsUnboundedOrInfeasible options text
