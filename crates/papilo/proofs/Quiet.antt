@@ -99,7 +99,7 @@ quiet_solve names (SolutionRefused line) before now ends done unwritten = absurd
 quiet_solve names (Violated line) before now ends done unwritten = absurd ends.says
 quiet_solve names Spent before now ends done unwritten = ends.says.1
 quiet_solve names Infeasible before now ends done unwritten = ends.says.1
-quiet_solve names (RayPast lines) before now ends done unwritten = absurd ends.says
+quiet_solve names (RayPast lines) before now ends done unwritten = ends.says.1
 quiet_solve names UnboundedOrInfeasible before now ends done unwritten = absurd ends.says
 quiet_solve names Unbounded before now ends done unwritten = ends.says.1
 
@@ -258,7 +258,7 @@ kept_solve names (SolutionRefused line) before now ends = absurd ends.says
 kept_solve names (Violated line) before now ends = absurd ends.says
 kept_solve names Spent before now ends = λ other a. told_still before now ends.says.1 other
 kept_solve names Infeasible before now ends = λ other a. told_still before now ends.says.1 other
-kept_solve names (RayPast lines) before now ends = absurd ends.says
+kept_solve names (RayPast lines) before now ends = λ other a. told_still before now ends.says.1 other
 kept_solve names UnboundedOrInfeasible before now ends = absurd ends.says
 kept_solve names Unbounded before now ends = λ other a. told_still before now ends.says.1 other
 
