@@ -57,7 +57,7 @@ returns-clause-ends g c =
 pub infeasible-requires-clause-decided : goal.infeasible-requires-clause-decided
 infeasible-requires-clause-decided g c =
     infeasible_said c.args.words.now.options c.deref.result.now c.deref-in-Err-Infeasible.result.now c.in-Ok.text.items c.in-Err-Infeasible.field-0 c.in-Err-Infeasible.decided c.in-Err-Infeasible.field-0-is
-        c.deref.ensures.value c.deref-in-Err-Infeasible.ensures.value c.in-Err-Infeasible.ensures
+    c.deref.ensures.value c.deref-in-Err-Infeasible.ensures.value c.in-Err-Infeasible.ensures
 
 pub returns-in-Err-Infeasible-clause-ends : goal.returns-in-Err-Infeasible-clause-ends
 returns-in-Err-Infeasible-clause-ends g c =
@@ -68,7 +68,7 @@ returns-in-Err-Infeasible-clause-ends g c =
       says = infeasible_ends names before (g.F.Files.moment c.read.new.self) (g.F.Files.moment c.infeasible.new.files) c.in-Ok.text.items shown _ _ e names.ray refl c.read.ensures.kept c.read.ensures.writes_stay c.in-Ok.ensures.bytes
           c.in-Ok.ensures.most c.deref-in-Err-Infeasible.ensures.value
           (infeasible_said c.args.words.now.options c.deref.result.now shown c.in-Ok.text.items c.in-Err-Infeasible.field-0 c.in-Err-Infeasible.decided c.in-Err-Infeasible.field-0-is c.deref.ensures.value
-              c.deref-in-Err-Infeasible.ensures.value c.in-Err-Infeasible.ensures)
+          c.deref-in-Err-Infeasible.ensures.value c.in-Err-Infeasible.ensures)
           ends;
       read = λ a b. finds_there INPUT_LIMIT names.input before before (Some c.in-Ok.text.items) (c.in-Ok.ensures.bytes, c.in-Ok.ensures.most);
     }) c.infeasible.ensures.ends
