@@ -1,0 +1,28 @@
+//! What holds of the tokens of each text.
+
+ghost use Rattle.std.specs.Prelude.{ℕ, ◌≤◌, suc, List, length};
+ghost use Rattle.lp_model.specs.Writable.{EntriesAscend};
+ghost use Rattle.lp_model.specs.Names.{Differ};
+ghost use Rattle.opb_text.specs.Tokens.{Token};
+ghost use Rattle.opb_text.specs.Statements.{open_row};
+ghost use Rattle.opb_text.specs.Columns.{column_names};
+ghost use Rattle.opb_text.specs.Reading.{tokens_of};
+ghost use Rattle.opb_text.specs.Program.{program_in};
+
+/// The entries of each column stand at ascending rows of the program, and none is 0.
+pub fn entries_ascend()
+    ensures { (tokens : List Token) → EntriesAscend (program_in tokens) }
+{}
+
+/// No two columns have one name.
+pub fn names_differ()
+    ensures { (tokens : List Token) → Differ (column_names tokens) }
+{}
+
+/// A text has no more tokens than bytes; tokens have one row more than there are of them at most, that of `min:` among
+/// them, and no more columns.
+pub fn text_bounds()
+    ensures tokens { (text : List ℕ) → length (tokens_of text) ≤ length text }
+    ensures rows { (tokens : List Token) → open_row tokens ≤ suc (length tokens) }
+    ensures columns { (tokens : List Token) → length (column_names tokens) ≤ length tokens }
+{}
