@@ -2,3 +2,4 @@ pub mod Entries
 pub mod Counts
 pub mod Names
 pub mod Faultless
+pub mod Ranges
