@@ -3,3 +3,4 @@ pub mod Counts
 pub mod Names
 pub mod Faultless
 pub mod Ranges
+pub mod Writing

@@ -60,10 +60,10 @@ pub text_short : (text : Text) → AreShort (tokens_of text)
 text_short text = lines_short [] (lines_of text) tt
 
 -- ---- sums
-nothing_short : IsShort (pos 0)
+pub nothing_short : IsShort (pos 0)
 nothing_short = lit< tt
 
-last_short : (tokens : List Token) → AreShort tokens → IsShort (last_number tokens)
+pub last_short : (tokens : List Token) → AreShort tokens → IsShort (last_number tokens)
 last_short [] short = nothing_short
 last_short (Number value ∷ before) short = short.0
 last_short (Minimum ∷ before) short = nothing_short
@@ -95,11 +95,11 @@ sum_short : (numbers : List ℤ) → sum_fits numbers ≡ true → IsShort (sum_
 sum_short [] fits = nothing_short
 sum_short (n ∷ before) fits = fits_short (sum_of (n ∷ before)) (and_parts (sum_fits before) (in_range (sum_of (n ∷ before))) fits).1
 
-left_short : (side : ℤ) (numbers : List ℤ) → IsShort side → left_fits side numbers ≡ true → IsShort (left_of side numbers)
+pub left_short : (side : ℤ) (numbers : List ℤ) → IsShort side → left_fits side numbers ≡ true → IsShort (left_of side numbers)
 left_short side [] short fits = short
 left_short side (n ∷ before) short fits = fits_short (left_of side (n ∷ before)) (and_parts (left_fits side before) (in_range (left_of side (n ∷ before))) fits).1
 
-chosen : (b : Bool) (x y : ℤ) → (b ≡ true → IsShort x) → IsShort y → IsShort (cond b x y)
+pub chosen : (b : Bool) (x y : ℤ) → (b ≡ true → IsShort x) → IsShort y → IsShort (cond b x y)
 chosen true x y h k = h refl
 chosen false x y h k = k
 
