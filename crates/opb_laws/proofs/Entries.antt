@@ -25,7 +25,7 @@ use Rattle.opb_text.specs.Columns.{column_names, right_side}
 use Rattle.opb_text.specs.Program.{row_names, column_def, program_in}
 
 -- how many rows of the program a row makes
-abbrev count_of : Bool → ℕ
+abbrev pub count_of : Bool → ℕ
 count_of true = 0
 count_of false = 1
 
@@ -35,7 +35,7 @@ length_kept AtMost = refl
 length_kept AtLeast = refl
 length_kept Equal = refl
 
-next_id : (kinds : List RowKind) (i : ℕ) → id_of kinds (suc i) ≡ id_of kinds i + count_of (is_free (kind_at kinds i))
+pub next_id : (kinds : List RowKind) (i : ℕ) → id_of kinds (suc i) ≡ id_of kinds i + count_of (is_free (kind_at kinds i))
 next_id kinds i = by_case (cases_lt i (length kinds))
   where
     by_case : (i < length kinds) ⊎ (length kinds ≤ i) → id_of kinds (suc i) ≡ id_of kinds i + count_of (is_free (kind_at kinds i))

@@ -4,3 +4,4 @@ pub mod Names
 pub mod Faultless
 pub mod Ranges
 pub mod Writing
+pub mod Few

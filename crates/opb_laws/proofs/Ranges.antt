@@ -1,17 +1,17 @@
 -- The numbers of a text without a fault are in range.
-use Rattle.std.proofs.Common.{◌≡◌, ℕ, ◌<◌, ◌^◌, ◌==◌, ℤ, pos, neg_ℤ, nat_abs, List, [], ◌∷◌, map, Bool, true, false, cond, ◌&&◌, refl, sym, ap, ◌∙◌, subst, arith, lit<}
+use Rattle.std.proofs.Common.{◌≡◌, ℕ, ◌<◌, ◌^◌, ◌==◌, ℤ, pos, nat_abs, List, [], ◌∷◌, map, Bool, true, false, cond, refl, sym, ap, ◌∙◌, subst, lit<}
 use Rattle.std.specs.Prelude.{nat_lt, ◌+ℤ◌, codes}
 use Rattle.std.specs.Str.{bytes_eq}
 use Rattle.std.proofs.lemmas.Bool.{and_parts, ltb-true}
 use Rattle.std.proofs.lemmas.Slice.Eq.{bytes_eq-Decides}
 use Rattle.rational.specs.Divisors.{nat_abs-neg}
 use Rattle.text_lines.specs.Lines.{lines_of}
-use Rattle.number_texts.specs.Form.{is_minus, unsigned, is_digits, number}
+use Rattle.number_texts.specs.Form.{is_minus, unsigned, number}
 use Rattle.number_texts.specs.Read.{signed}
 use Rattle.opb_text.specs.Words.{Text, is_comment, words_of}
 use Rattle.opb_text.specs.Tokens.{Token, Minimum, AtLeast, Equal, End, Number, Past, Plain, Negated, Odd, is_whole, is_name, is_negated, number_token, literal_token, token_of, tokens_on}
-use Rattle.opb_text.specs.Statements.{Term, last_number, open_terms, negated_numbers, open_row, sum_at, sum_of, left_of, in_range, terms_fit, sum_fits, left_fits, statement_fits}
-use Rattle.opb_text.specs.Columns.{coefficient, right_side, constant}
+use Rattle.opb_text.specs.Statements.{Term, last_number, open_terms, negated_numbers, open_row, sum_at, sum_of, left_of, in_range, terms_fit, sum_fits, left_fits}
+use Rattle.opb_text.specs.Columns.{coefficient, constant}
 use Rattle.opb_text.specs.Reading.{going_on, tokens_from, tokens_of}
 use Rattle.opb_laws.specs.Faultless.{IsFaultless, IsShort, ShortToken, AreShort}
 use Rattle.opb_laws.proofs.Faultless.{ended_fits}

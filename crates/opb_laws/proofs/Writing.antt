@@ -1,5 +1,5 @@
 -- The program of a text without a fault can be written, with fractions and without.
-use Rattle.std.proofs.Common.{◌≡◌, ℕ, zero, suc, ◌<◌, ◌^◌, ◌==◌, ℤ, pos, nat_abs, List, [], ◌∷◌, ◌++◌, Bool, true, false, cond, ◌&&◌, ◌||◌, Option, Some, None, refl, sym, ap, ◌∙◌, subst, arith, lit<, length, get_or}
+use Rattle.std.proofs.Common.{◌≡◌, ℕ, zero, suc, ◌<◌, ◌^◌, ◌==◌, ℤ, pos, nat_abs, List, [], ◌∷◌, ◌++◌, Bool, true, false, cond, ◌||◌, Option, Some, None, refl, sym, ap, ◌∙◌, subst, arith, lit<, length}
 use Rattle.std.specs.Prelude.{IfSome}
 use Rattle.std.specs.List.{All}
 use Rattle.std.proofs.Math.Dec.{eqb-suc-zero}
@@ -15,7 +15,6 @@ use Rattle.rational.specs.Decimal as decimals
 use Rattle.fractions.specs.declared.Numbers.{Numbers}
 use Rattle.fractions.specs.declared.Numbers.TheVariants.{Decimal, Fractions}
 use Rattle.lp_model.specs.declared.terms.Term.{Term}
-use Rattle.lp_model.specs.declared.program.ColumnDef.{ColumnDef}
 use Rattle.lp_model.specs.Writable.{WritableNumber, IsNear, WritableSides, WritableRow, WritableColumn, Writable}
 use Rattle.mps_profile.specs.Texts.{Text, field}
 use Rattle.mps_profile.specs.Sides.{sides_of}
@@ -26,8 +25,8 @@ use Rattle.mps_profile.specs.declared.row_kinds.RowKind.TheVariants.{Free}
 use Rattle.mps_named.proofs.NumberRoom.{none, one}
 use Rattle.mps_named.proofs.RangeRoom.{sides-room}
 use Rattle.opb_text.specs.Tokens.{Token, Minimum, AtLeast, Equal, End, Number as NumberToken, Past, Plain, Negated, Odd}
-use Rattle.opb_text.specs.Statements.{last_number, open_terms, negated_numbers, open_row, row_kinds, sum_fits, left_fits, terms_fit, left_of}
-use Rattle.opb_text.specs.Columns.{column_names, coefficient, right_side, constant}
+use Rattle.opb_text.specs.Statements.{last_number, open_terms, negated_numbers, open_row, row_kinds, sum_fits, left_fits, terms_fit}
+use Rattle.opb_text.specs.Columns.{column_names, right_side, constant}
 use Rattle.opb_text.specs.Reading.{tokens_of, first_fault}
 use Rattle.opb_text.specs.Program.{row_names, column_def, program_in, program_of}
 use Rattle.opb_laws.specs.Faultless.{IsFaultless, IsShort, AreShort}
@@ -108,7 +107,7 @@ begins_free (Plain other ∷ before) = begins_free before
 begins_free (Negated other ∷ before) = begins_free before
 begins_free (Odd ∷ before) = begins_free before
 
-first_free : (tokens : List Token) → kind_at (row_kinds tokens) 0 ≡ Free
+pub first_free : (tokens : List Token) → kind_at (row_kinds tokens) 0 ≡ Free
 first_free tokens = ap (λ (kinds : List RowKind). kind_at kinds 0) (begins_free tokens).1
 
 -- ---- rows

@@ -26,9 +26,10 @@ pub fn names_differ()
 {}
 
 /// A text has no more tokens than bytes; tokens have one row more than there are of them at most, that of `min:` among
-/// them, and no more columns.
+/// them, and no more columns. The program has no more rows and no more columns than the text bytes.
 pub fn text_bounds()
     ensures tokens { (text : List ℕ) → length (tokens_of text) ≤ length text }
     ensures rows { (tokens : List Token) → open_row tokens ≤ suc (length tokens) }
     ensures columns { (tokens : List Token) → length (column_names tokens) ≤ length tokens }
+    ensures program { (text : List ℕ) → (length (program_of text).rows ≤ length text) × (length (program_of text).columns ≤ length text) }
 {}
