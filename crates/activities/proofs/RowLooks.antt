@@ -2,7 +2,7 @@
 use Rattle.std.proofs.Common.{◌≡◌, ◌≢◌, ℕ, Bool, true, false, not, ◌&&◌, nat_eq, List, [], ◌∷◌, length, map, refl, sym, ap, ◌∙◌, arith, ◌+◌}
 use Rattle.std.specs.Prelude.{if◌then◌else◌}
 use Rattle.std.proofs.lemmas.Bool.{ne_eqb}
-use Rattle.rational.specs.Number.{zero_ℚ}
+use Rattle.fractions.specs.Number.{zero_ℚ}
 use Rattle.lp_model.specs.declared.terms.Term.{Term}
 use Rattle.lp_model.specs.EndTests.{is_in_order}
 use Rattle.lp_model.specs.Sparse.{dense, has}

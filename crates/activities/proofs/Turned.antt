@@ -1,6 +1,6 @@
 -- A side that tells of no better bound of the column of the entry at a place.
 use Rattle.std.proofs.Common.{◌≡◌, ℕ, ◌+◌, ◌<◌, ◌++◌, ◌∷◌, List, Option, Result, length, get_or, take, drop, sym, ap, ◌∙◌, subst}
-use Rattle.rational.specs.Number.{Number}
+use Rattle.fractions.specs.Number.{Number}
 use Rattle.fractions.specs.declared.Past.{Past}
 use Rattle.kept_sums.specs.CommonSums.{IsCommonSum}
 use Rattle.kept_sums.specs.KeptSides.{IsQuiet}

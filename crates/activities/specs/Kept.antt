@@ -1,6 +1,6 @@
 -- What is kept of a row.
 use Rattle.std.specs.Prelude.{◌≡◌, Option, List, Ok}
-use Rattle.rational.specs.Number.{Number, zero_ℚ}
+use Rattle.fractions.specs.Number.{Number, zero_ℚ}
 use Rattle.row_spans.specs.declared.span.Span.{Span}
 use Rattle.row_spans.specs.declared.span.Extreme.TheVariants.{Least, Greatest}
 use Rattle.activities.specs.declared.row_sums.Kept.{Kept}

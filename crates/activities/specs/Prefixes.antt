@@ -1,6 +1,6 @@
 -- Sums of the terms before each term, as they are made.
 use Rattle.std.specs.Prelude.{Option, List, [], ◌∷◌, Result}
-use Rattle.rational.specs.Number.{Number}
+use Rattle.fractions.specs.Number.{Number}
 use Rattle.fractions.specs.declared.Past.{Past}
 use Rattle.row_spans.specs.RowSums.{continued, plus_end}
 

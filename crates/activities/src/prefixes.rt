@@ -1,7 +1,7 @@
 //! Sums of the terms before each term, and rests that are continued from there.
 
 ghost use Rattle.std.specs.Prelude.{◌≡◌, ◌++◌, IfOk, Ok};
-ghost use Rattle.rational.specs.Number.{zero_ℚ};
+ghost use Rattle.fractions.specs.Number.{zero_ℚ};
 ghost use Rattle.row_spans.specs.Spans.{end_at, ends_at};
 ghost use Rattle.row_spans.specs.RowSums.{all_finite as all_are_finite, row_sum, sum_from as sum_on};
 ghost use Rattle.activities.specs.Prefixes.{sums_before as all_before, with_end};

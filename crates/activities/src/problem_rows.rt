@@ -2,7 +2,7 @@
 
 ghost use Rattle.std.specs.Prelude.{◌≡◌, ◌≢◌, ◌∷◌, [], true, IfSome, Ok};
 ghost use Rattle.lp_model.specs.Sparse.{dense};
-ghost use Rattle.rational.specs.Number.{zero_ℚ};
+ghost use Rattle.fractions.specs.Number.{zero_ℚ};
 ghost use Rattle.problem_model.specs.Problems.{column_at, row_at};
 ghost use Rattle.row_spans.specs.RowSums.{activity, all_finite, plus_end as with_end, row_sum, sum_from};
 ghost use Rattle.row_spans.specs.Spans.{ends_at, left_in, others, span_of as span_with, spans_of as spans_with};

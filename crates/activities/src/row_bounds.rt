@@ -1,8 +1,8 @@
 //! The bound that a side of a row and the rest without a column leave for that column.
 
 ghost use Rattle.std.specs.Prelude.{◌≡◌, ◌≢◌, ℕ, List};
-ghost use Rattle.rational.specs.Number.{zero_ℚ};
-ghost use Rattle.rational.specs.Compare.{lt_ℚ};
+ghost use Rattle.fractions.specs.Number.{zero_ℚ};
+ghost use Rattle.fractions.specs.Compare.{lt_ℚ};
 ghost use Rattle.row_spans.specs.declared.span.Span.{Span};
 ghost use Rattle.row_spans.specs.RowSums.{rest};
 ghost use Rattle.activity_laws.specs.BoundTightening.{implied, is_better as better_by, left_over as left_by, old_bound as old_by};

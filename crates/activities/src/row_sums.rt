@@ -1,7 +1,7 @@
 //! The sums of one row, made in one pass.
 
 ghost use Rattle.std.specs.Prelude.{◌≡◌, ◌<◌, ◌+◌, ◌++◌, false, length, take, drop, List, IfOk, IfSome, IsTrue, Ok, Some};
-ghost use Rattle.rational.specs.Number.{zero_ℚ};
+ghost use Rattle.fractions.specs.Number.{zero_ℚ};
 ghost use Rattle.activities.specs.Kept.{IsKept};
 ghost use Rattle.kept_sums.specs.CommonSums.{IsCommonSum};
 ghost use Rattle.activities.specs.Prefixes.{sums_before as all_before};
@@ -46,7 +46,7 @@ pub struct RowSums {
 impl Model for RowSums {
     ghost use Rattle.std.specs.Prelude.{List};
     ghost use Rattle.std.specs.Coded.{codes};
-    ghost use Rattle.rational.specs.Lowest.{number_code};
+    ghost use Rattle.fractions.specs.Lowest.{number_code};
     ghost use Rattle.row_spans.specs.declared.span.Span.{Span};
     ghost use Rattle.activities.specs.Kept.{AreRowSums};
 

@@ -4,13 +4,13 @@ use Rattle.std.specs.Prelude.{if◌then◌else◌}
 use Rattle.std.specs.List.{All, Contains}
 use Rattle.std.proofs.lemmas.Bool.{and_parts, cases_eq, eq-eqb, ne_eqb}
 use Rattle.std.proofs.lemmas.List.Elements.{All-cons, All-head, Contains-append_right}
-use Rattle.rational.specs.Number.{Number, zero_ℚ, neg_ℚ, ◌-ℚ◌}
-use Rattle.rational.specs.Division.{◌/ℚ◌}
-use Rattle.rational.specs.Order.{<ℚ-≤ℚ, ◌<ℚ◌}
-use Rattle.rational.specs.Compare.{lt_ℚ}
-use Rattle.rational.specs.Ends.{HighAbove, LowBelow, minus_ends, over}
-use Rattle.rational.proofs.Comparisons.{lt_ℚ-is}
-use Rattle.rational.proofs.Signs.{<ℚ-irrefl}
+use Rattle.fractions.specs.Number.{Number, zero_ℚ, neg_ℚ, ◌-ℚ◌}
+use Rattle.fractions.specs.Division.{◌/ℚ◌}
+use Rattle.fractions.specs.Order.{<ℚ-≤ℚ, ◌<ℚ◌}
+use Rattle.fractions.specs.Compare.{lt_ℚ}
+use Rattle.fractions.specs.Ends.{HighAbove, LowBelow, minus_ends, over}
+use Rattle.fractions.proofs.Comparisons.{lt_ℚ-is}
+use Rattle.fractions.proofs.Signs.{<ℚ-irrefl}
 use Rattle.fractions.specs.declared.Past.{Past}
 use Rattle.lp_model.specs.Edits.{with_bounds}
 use Rattle.lp_model.specs.LinearProgram.{LinearProgram}

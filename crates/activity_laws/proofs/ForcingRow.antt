@@ -4,13 +4,13 @@ use Rattle.std.specs.Prelude.{if◌then◌else◌, slice_set}
 use Rattle.std.specs.List.{All}
 use Rattle.std.proofs.lemmas.Bool.{and_parts, cases_eq}
 use Rattle.std.proofs.lemmas.List.Elements.{All-nil, All-cons, All-head, All-tail}
-use Rattle.rational.specs.Number.{Number, zero_ℚ, ◌+ℚ◌}
-use Rattle.rational.specs.Order.{≤ℚ_antisym, <ℚ-not, <ℚ-≤ℚ}
-use Rattle.rational.specs.Compare.{lt_ℚ}
-use Rattle.rational.specs.Total.{put}
-use Rattle.rational.proofs.Comparisons.{le_ℚ-is}
-use Rattle.rational.proofs.EndLaws.{same_end-is}
-use Rattle.rational.proofs.Totals.{put-same, put-other}
+use Rattle.fractions.specs.Number.{Number, zero_ℚ, ◌+ℚ◌}
+use Rattle.fractions.specs.Order.{≤ℚ_antisym, <ℚ-not, <ℚ-≤ℚ}
+use Rattle.fractions.specs.Compare.{lt_ℚ}
+use Rattle.fractions.specs.Total.{put}
+use Rattle.fractions.proofs.Comparisons.{le_ℚ-is}
+use Rattle.fractions.proofs.EndLaws.{same_end-is}
+use Rattle.fractions.proofs.Totals.{put-same, put-other}
 use Rattle.lp_model.specs.Edits.{with_bounds, without_row}
 use Rattle.lp_model.specs.EndTests.{is_in_order}
 use Rattle.lp_model.specs.Flags.{Flags}

@@ -1,6 +1,6 @@
 -- V2.
 use Rattle.std.proofs.Common.{◌≡◌, ◌⊎◌, inl, inr, ℕ, Bool, true, false, ◌||◌, Option, refl, sym, subst}
-use Rattle.rational.specs.Number.{Number}
+use Rattle.fractions.specs.Number.{Number}
 use Rattle.lp_model.specs.EndTests.{is_crossed}
 use Rattle.lp_model.specs.Verdicts.{NoPoint}
 use Rattle.lp_theory.specs.Activities.{least, greatest}

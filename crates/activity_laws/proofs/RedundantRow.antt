@@ -1,8 +1,8 @@
 -- K5.
 use Rattle.std.proofs.Common.{ℕ, false, Option, refl, sym, subst, ◌&&◌}
 use Rattle.std.proofs.lemmas.Bool.{and_parts}
-use Rattle.rational.specs.Number.{Number, zero_ℚ}
-use Rattle.rational.specs.Ends.{LowBelow, HighAbove}
+use Rattle.fractions.specs.Number.{Number, zero_ℚ}
+use Rattle.fractions.specs.Ends.{LowBelow, HighAbove}
 use Rattle.lp_model.specs.declared.program.Sense.TheVariants.{Min}
 use Rattle.lp_model.specs.Edits.{without_row}
 use Rattle.lp_theory.specs.Activities.{least, greatest}

@@ -1,8 +1,8 @@
 -- K6.
 use Rattle.std.proofs.Common.{◌≡◌, ℕ, Bool, true, false, not, ◌&&◌, [], ◌∷◌, Option, Some, None, is_none, refl, sym, ap, subst}
 use Rattle.std.proofs.lemmas.Bool.{and_parts}
-use Rattle.rational.specs.Number.{Number, zero_ℚ}
-use Rattle.rational.specs.Ends.{LowBelow, HighAbove}
+use Rattle.fractions.specs.Number.{Number, zero_ℚ}
+use Rattle.fractions.specs.Ends.{LowBelow, HighAbove}
 use Rattle.lp_model.specs.declared.program.Sense.TheVariants.{Min}
 use Rattle.lp_model.specs.Edits.{with_sides}
 use Rattle.lp_model.specs.Ends.{IsSided}

@@ -1,9 +1,9 @@
 -- K8: a bound of a column becomes the one that a row implies with the bounds of its other columns, where that is a better one.
 use Rattle.std.specs.Prelude.{◌≡◌, ℕ, ⊤, Bool, false, not, ◌&&◌, nat_eq, if◌then◌else◌, List, [], ◌∷◌, Option, Some, None, Result, Ok, Err}
 use Rattle.std.specs.List.{flat_map}
-use Rattle.rational.specs.Number.{Number, zero_ℚ}
-use Rattle.rational.specs.Order.{◌<ℚ◌}
-use Rattle.rational.specs.Compare.{lt_ℚ}
+use Rattle.fractions.specs.Number.{Number, zero_ℚ}
+use Rattle.fractions.specs.Order.{◌<ℚ◌}
+use Rattle.fractions.specs.Compare.{lt_ℚ}
 use Rattle.fractions.specs.declared.Past.{Past}
 use Rattle.lp_model.specs.EndTests.{is_apart}
 use Rattle.lp_model.specs.Sparse.{dense}

@@ -1,6 +1,6 @@
 -- K6: of two finite sides of a row the one that its columns' bounds keep becomes infinite, where they keep one alone.
 use Rattle.std.specs.Prelude.{ℕ, ⊤, Bool, true, false, not, ◌&&◌, List, [], ◌∷◌, Option, None, is_none}
-use Rattle.rational.specs.Number.{Number}
+use Rattle.fractions.specs.Number.{Number}
 use Rattle.undo_records.specs.declared.undo.Undo.{Undo}
 use Rattle.undo_records.specs.declared.undo.Undo.TheVariants as undo
 use Rattle.problem_model.specs.declared.edit.Edit.{Edit}

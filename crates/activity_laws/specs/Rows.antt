@@ -1,8 +1,8 @@
 -- What the rules of activities read and ask of it: a row, its sides, and the bounds of each of its columns in order. None of these is
 -- crossed, and where both activities are asked for, neither is past.
 use Rattle.std.specs.Prelude.{ℕ, Bool, true, false, ◌&&◌, Option, Some, None, List, [], ◌∷◌, Result, Ok}
-use Rattle.rational.specs.Number.{Number}
-use Rattle.rational.specs.Compare.{le_ℚ}
+use Rattle.fractions.specs.Number.{Number}
+use Rattle.fractions.specs.Compare.{le_ℚ}
 use Rattle.fractions.specs.declared.Past.{Past}
 use Rattle.lp_model.specs.EndTests.{is_in_order}
 use Rattle.problem_model.specs.declared.part.Contents.{Contents}

@@ -13,7 +13,7 @@ use Rattle.activities.proofs.RowLooks.{split}
 use Rattle.activities.specs.Rows.{is_uncrossed}
 use Rattle.activity_rules.specs.Looks.{has_room, on_one}
 use Rattle.fractions.specs.declared.Past.{Past}
-use Rattle.rational.specs.Number.{Number}
+use Rattle.fractions.specs.Number.{Number}
 
 -- the same with the crossed ends looked at last
 later : (a x d : Bool) → ((a && x) && d) ≡ (a && (d && (a && x)))

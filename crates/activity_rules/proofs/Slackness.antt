@@ -1,15 +1,15 @@
 -- Where a row keeps its side with a column at its other end, it implies no better bound.
 use Rattle.std.proofs.Common.{◌≡◌, ◌≢◌, inl, inr, Bool, true, false, not, [], ◌∷◌, List, Option, Some, None, Result, Ok, refl, sym, ap, ◌∙◌, subst}
 use Rattle.std.specs.Prelude.{◌&&◌, if◌then◌else◌}
-use Rattle.rational.specs.Number.{Number, zero_ℚ, ◌+ℚ◌, ◌-ℚ◌, ◌*ℚ◌, neg_ℚ}
-use Rattle.rational.specs.Order.{◌≤ℚ◌, ◌<ℚ◌}
-use Rattle.rational.specs.Linear.{linear, fact}
-use Rattle.rational.specs.Ring.{v, ◌:+◌, ◌:-◌}
-use Rattle.rational.specs.Compare.{lt_ℚ}
-use Rattle.rational.specs.Division.{◌/ℚ◌}
-use Rattle.rational.specs.Ends.{scaled}
-use Rattle.rational.proofs.Comparisons.{le_ℚ-is, lt_ℚ-is, lt_ℚ-not}
-use Rattle.rational.proofs.Signs.{low_pos, high_pos, low_neg, high_neg}
+use Rattle.fractions.specs.Number.{Number, zero_ℚ, ◌+ℚ◌, ◌-ℚ◌, ◌*ℚ◌, neg_ℚ}
+use Rattle.fractions.specs.Order.{◌≤ℚ◌, ◌<ℚ◌}
+use Rattle.fractions.specs.Linear.{linear, fact}
+use Rattle.fractions.specs.Ring.{v, ◌:+◌, ◌:-◌}
+use Rattle.fractions.specs.Compare.{lt_ℚ}
+use Rattle.fractions.specs.Division.{◌/ℚ◌}
+use Rattle.fractions.specs.Ends.{scaled}
+use Rattle.fractions.proofs.Comparisons.{le_ℚ-is, lt_ℚ-is, lt_ℚ-not}
+use Rattle.fractions.proofs.Signs.{low_pos, high_pos, low_neg, high_neg}
 use Rattle.lp_theory.specs.Activities.{least_term}
 use Rattle.lp_theory.proofs.ActivityLaws.{lt_true}
 use Rattle.lp_theory.proofs.MetEndLaws.{below_zero}

@@ -1,6 +1,6 @@
 -- What is looked at of a row before its activities are.
 use Rattle.std.specs.Prelude.{Bool, true, false, Option, Result, Ok, Err}
-use Rattle.rational.specs.Number.{Number}
+use Rattle.fractions.specs.Number.{Number}
 use Rattle.fractions.specs.declared.Past.{Past}
 
 -- a test of one activity, where it has room

@@ -8,7 +8,7 @@ use Rattle.problem_model.specs.Problems.{bounds_at}
 use Rattle.problem_model.specs.Showing.{reach_high, reach_low}
 use Rattle.problem_model.specs.Sparse.{Sparse}
 use Rattle.row_spans.specs.declared.span.Span.{Span}
-use Rattle.rational.specs.Number.{Number}
+use Rattle.fractions.specs.Number.{Number}
 use Rattle.row_spans.specs.declared.span.Extreme.{Extreme}
 use Rattle.row_spans.specs.declared.span.Extreme.TheVariants.{Least, Greatest}
 use Rattle.kept_sums.specs.KeptSides.{IsQuiet}

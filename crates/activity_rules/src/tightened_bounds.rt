@@ -2,8 +2,8 @@
 
 ghost use Rattle.std.specs.Prelude.{◌≡◌, ◌≢◌, ℕ, ◌<◌, ◌+◌, ◌∷◌, ◌++◌, [], true, false, length, if◌then◌else◌, None, IfNone, IfOk, IfSome, OnOk};
 ghost use Rattle.std.specs.List.{filter};
-ghost use Rattle.rational.specs.Number.{zero_ℚ};
-ghost use Rattle.rational.specs.Compare.{lt_ℚ};
+ghost use Rattle.fractions.specs.Number.{zero_ℚ};
+ghost use Rattle.fractions.specs.Compare.{lt_ℚ};
 ghost use Rattle.undo_records.specs.declared.side.Side.TheVariants as side_of;
 ghost use Rattle.problem_model.specs.Problems.{row_entries};
 ghost use Rattle.row_spans.specs.Spans.{span_at};

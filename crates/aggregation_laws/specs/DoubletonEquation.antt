@@ -1,10 +1,10 @@
 -- K12: a row of two entries that is an equation, a x_j + b x_k = r, puts (r - b x_k) / a for x_j everywhere.
 use Rattle.std.specs.Prelude.{ℕ, ⊤, Bool, false, not, ◌&&◌, ◌||◌, nat_eq, List, [], ◌∷◌, ◌++◌, map, All, Option, Some, None, unwrap_or, Result, Ok, Err}
-use Rattle.rational.specs.Number.{Number, zero_ℚ, ◌-ℚ◌, ◌*ℚ◌}
-use Rattle.rational.specs.Division.{◌/ℚ◌}
-use Rattle.rational.specs.Ends.{meet_low, meet_high}
-use Rattle.rational.specs.Floor.{is_whole}
-use Rattle.rational.specs.Lowest.{Fits}
+use Rattle.fractions.specs.Number.{Number, zero_ℚ, ◌-ℚ◌, ◌*ℚ◌}
+use Rattle.fractions.specs.Division.{◌/ℚ◌}
+use Rattle.fractions.specs.Ends.{meet_low, meet_high}
+use Rattle.fractions.specs.Floor.{is_whole}
+use Rattle.fractions.specs.Lowest.{Fits}
 use Rattle.fractions.specs.declared.Past.{Past}
 use Rattle.lp_model.specs.EndTests.{is_fixed, is_in_order}
 use Rattle.lp_model.specs.Sparse.{dense, without}

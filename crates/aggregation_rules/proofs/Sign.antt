@@ -1,12 +1,12 @@
 -- The sign of a quotient.
 use Rattle.std.proofs.Common.{◌≡◌, ◌≢◌, Bool, true, false, pos, [], ◌∷◌, sym, refl, subst, ◌⊎◌, inl, inr}
-use Rattle.rational.specs.Ring.{ring, v, num, ◌:*◌}
-use Rattle.rational.specs.Number.{Number, rational, zero_ℚ, ◌*ℚ◌}
-use Rattle.rational.specs.Order.{◌≤ℚ◌, ◌<ℚ◌, ≤ℚ_cases, ≤ℚ-*ℚ, <ℚ-≤ℚ, <ℚ-not, ≤ℚ_antisym}
-use Rattle.rational.specs.Compare.{lt_ℚ}
-use Rattle.rational.specs.Division.{◌/ℚ◌}
-use Rattle.rational.proofs.Comparisons.{lt_ℚ-is}
-use Rattle.rational.proofs.Signs.{over-times, <ℚ-≢, ≤ℚ-*ℚ_down, <ℚ-*ℚ, <ℚ-*ℚ_down}
+use Rattle.fractions.specs.Ring.{ring, v, num, ◌:*◌}
+use Rattle.fractions.specs.Number.{Number, rational, zero_ℚ, ◌*ℚ◌}
+use Rattle.fractions.specs.Order.{◌≤ℚ◌, ◌<ℚ◌, ≤ℚ_cases, ≤ℚ-*ℚ, <ℚ-≤ℚ, <ℚ-not, ≤ℚ_antisym}
+use Rattle.fractions.specs.Compare.{lt_ℚ}
+use Rattle.fractions.specs.Division.{◌/ℚ◌}
+use Rattle.fractions.proofs.Comparisons.{lt_ℚ-is}
+use Rattle.fractions.proofs.Signs.{over-times, <ℚ-≢, ≤ℚ-*ℚ_down, <ℚ-*ℚ, <ℚ-*ℚ_down}
 use Rattle.lp_theory.proofs.ActivityLaws.{lt_false}
 
 pub same_test : (x y : Bool) → (x ≡ true → y ≡ true) → (y ≡ true → x ≡ true) → x ≡ y

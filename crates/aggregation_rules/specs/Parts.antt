@@ -1,6 +1,6 @@
 -- What is computed for a column's terms.
 use Rattle.std.specs.Prelude.{ℕ}
-use Rattle.rational.specs.Number.{Number}
+use Rattle.fractions.specs.Number.{Number}
 use Rattle.lp_model.specs.Sparse.{dense}
 use Rattle.lp_model.specs.declared.terms.Term.{Term}
 use Rattle.undo_records.specs.Fitting.{LessProductFits}

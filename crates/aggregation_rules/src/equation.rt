@@ -1,7 +1,7 @@
 //! A row of two entries that is an equation.
 
 ghost use Rattle.std.specs.Prelude.{◌≡◌, ◌≢◌, ◌&&◌, true};
-ghost use Rattle.rational.specs.Number.{zero_ℚ};
+ghost use Rattle.fractions.specs.Number.{zero_ℚ};
 ghost use Rattle.lp_model.specs.EndTests.{is_in_order};
 ghost use Rattle.problem_model.specs.Problems.{bounds_at, column_at, row_at, row_entries};
 ghost use Rattle.row_spans.specs.Exact.{exact_quotient};

@@ -1,10 +1,10 @@
 //! The bounds of the column that is kept.
 
 ghost use Rattle.std.specs.Prelude.{◌≡◌, ◌≢◌, ◌↔◌, true, IfOk, IsOk, if◌then◌else◌};
-ghost use Rattle.rational.specs.Number.{zero_ℚ};
-ghost use Rattle.rational.specs.Compare.{lt_ℚ};
-ghost use Rattle.rational.specs.Division.{◌/ℚ◌};
-ghost use Rattle.rational.specs.Ends.{meet_low, meet_high};
+ghost use Rattle.fractions.specs.Number.{zero_ℚ};
+ghost use Rattle.fractions.specs.Compare.{lt_ℚ};
+ghost use Rattle.fractions.specs.Division.{◌/ℚ◌};
+ghost use Rattle.fractions.specs.Ends.{meet_low, meet_high};
 ghost use Rattle.problem_model.specs.Problems.{bounds_at, column_at};
 ghost use Rattle.lp_substitutions.specs.DoubletonEquation.{image as image_of, image_lower, image_upper};
 ghost use Rattle.aggregation_laws.specs.DoubletonEquation.{ImageFits};

@@ -1,7 +1,7 @@
 //! The entries of the column that is kept, in the rows of the one that goes.
 
 ghost use Rattle.std.specs.Prelude.{◌≡◌, ◌↔◌, ◌++◌, ◌∷◌, ◌≤◌, [], ⊤, true, ℕ, length, map, All, IfOk, IsOk, OnOk, IsErrOf};
-ghost use Rattle.rational.specs.Number.{◌-ℚ◌, ◌*ℚ◌};
+ghost use Rattle.fractions.specs.Number.{◌-ℚ◌, ◌*ℚ◌};
 ghost use Rattle.lp_model.specs.Sparse.{Ascends, dense};
 ghost use Rattle.undo_records.specs.Fitting.{LessProductFits};
 ghost use Rattle.problem_model.specs.Problems.{column_at, column_entries, row_at};

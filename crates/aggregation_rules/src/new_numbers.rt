@@ -1,9 +1,9 @@
 //! The quotients of an equation, and the cost of the column that is kept.
 
 ghost use Rattle.std.specs.Prelude.{◌≡◌, ◌≢◌, ◌↔◌, true, IfOk, IsOk};
-ghost use Rattle.rational.specs.Number.{zero_ℚ, ◌-ℚ◌, ◌*ℚ◌};
-ghost use Rattle.rational.specs.Division.{◌/ℚ◌};
-ghost use Rattle.rational.specs.Lowest.{Fits};
+ghost use Rattle.fractions.specs.Number.{zero_ℚ, ◌-ℚ◌, ◌*ℚ◌};
+ghost use Rattle.fractions.specs.Division.{◌/ℚ◌};
+ghost use Rattle.fractions.specs.Lowest.{Fits};
 ghost use Rattle.undo_records.specs.Fitting.{LessProductFits};
 ghost use Rattle.problem_model.specs.Problems.{column_at, cost_at};
 

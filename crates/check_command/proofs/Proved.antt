@@ -1,6 +1,6 @@
 -- A yes with duals is a proof.
 use Rattle.std.proofs.Common.{◌≡◌, ℕ, List, ◌∙◌, ap}
-use Rattle.rational.specs.Number.{Number}
+use Rattle.fractions.specs.Number.{Number}
 use Rattle.lp_model.specs.ProgramData.{ProgramData}
 use Rattle.lp_model.specs.Vectors.{vector_of}
 use Rattle.lp_model.specs.Meaning.{meaning}

@@ -1,6 +1,6 @@
 -- What an ending by a verdict says of a solution.
 use Rattle.std.proofs.Common.{◌≡◌, ℕ, List, Some, None, inl, inr, ◌∙◌}
-use Rattle.rational.specs.Number.{Number}
+use Rattle.fractions.specs.Number.{Number}
 use Rattle.file_ports.specs.Ports.{Moment, Told}
 use Rattle.lp_model.specs.ProgramData.{ProgramData}
 use Rattle.lp_model.specs.Vectors.{vector_of}

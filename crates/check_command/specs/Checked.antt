@@ -1,6 +1,6 @@
 -- What an ending of a check says of the files.
 use Rattle.std.specs.Prelude.{◌≡◌, ◌≢◌, ◌⊎◌, ◌==◌, ℕ, List, Some, None}
-use Rattle.rational.specs.Number.{Number}
+use Rattle.fractions.specs.Number.{Number}
 use Rattle.file_ports.specs.Ports.{Moment, Told}
 use Rattle.command_words.specs.Names.{CheckNames}
 use Rattle.lp_model.specs.ProgramData.{ProgramData}

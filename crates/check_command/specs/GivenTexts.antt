@@ -1,6 +1,6 @@
 -- What the text that SOL holds gives: a ray where its first line that is not blank starts one, else a solution.
 use Rattle.std.specs.Prelude.{◌≡◌, ◌⊎◌, true, false, ℕ, List, [], ◌∷◌, ◌++◌, codes, Option, Some, None, if◌then◌else◌}
-use Rattle.rational.specs.Number.{Number}
+use Rattle.fractions.specs.Number.{Number}
 use Rattle.file_ports.specs.Ports.{Moment}
 use Rattle.lp_model.specs.Names.{names_of_columns, names_of_rows}
 use Rattle.lp_model.specs.ProgramData.{ProgramData}

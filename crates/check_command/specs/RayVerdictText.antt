@@ -1,6 +1,6 @@
 -- What is said of a verdict on a ray.
 use Rattle.std.specs.Prelude.{ℕ, List, [], ◌∷◌, ◌++◌, codes}
-use Rattle.rational.specs.Number.{Number}
+use Rattle.fractions.specs.Number.{Number}
 use Rattle.number_texts.specs.Written.{written}
 use Rattle.lp_model.specs.ProgramData.{ProgramData}
 use Rattle.endings.specs.ProgramTexts.{column_text}

@@ -2,13 +2,13 @@
 use Rattle.std.proofs.Common.{◌≡◌, ◌≢◌, ℕ, Bool, true, false, List, [], ◌∷◌, map, Option, Some, None, is_some, refl, sym, ap, ◌∙◌, subst}
 use Rattle.std.specs.Prelude.{if◌then◌else◌}
 use Rattle.std.proofs.lemmas.Bool.{and_parts}
-use Rattle.rational.specs.Number.{Number, rational, zero_ℚ}
-use Rattle.rational.specs.Ring.{ring, v, inv}
-use Rattle.rational.specs.Order.{◌<ℚ◌}
-use Rattle.rational.specs.MinMax.{abs_ℚ}
-use Rattle.rational.specs.Total.{put}
-use Rattle.rational.proofs.Signs.{<ℚ-irrefl}
-use Rattle.rational.proofs.Totals.{put-same}
+use Rattle.fractions.specs.Number.{Number, rational, zero_ℚ}
+use Rattle.fractions.specs.Ring.{ring, v, inv}
+use Rattle.fractions.specs.Order.{◌<ℚ◌}
+use Rattle.fractions.specs.MinMax.{abs_ℚ}
+use Rattle.fractions.specs.Total.{put}
+use Rattle.fractions.proofs.Signs.{<ℚ-irrefl}
+use Rattle.fractions.proofs.Totals.{put-same}
 use Rattle.lp_model.specs.LinearProgram.{LinearProgram}
 use Rattle.lp_model.specs.Sparse.{dense, has}
 use Rattle.lp_model.specs.declared.terms.Term.{Term}

@@ -2,18 +2,18 @@
 use Rattle.std.proofs.Common.{◌≡◌, ◌≢◌, T, not, ℕ, Bool, true, false, true≢false, ◌&&◌, pos, List, [], ◌∷◌, Option, Some, None, is_some, Result, Ok, Err, refl, sym, ap, ap₂, ◌∙◌, subst}
 use Rattle.std.specs.Prelude.{if◌then◌else◌}
 use Rattle.std.proofs.lemmas.Bool.{and_parts}
-use Rattle.rational.specs.Number.{Number, rational, zero_ℚ, one_ℚ, neg_ℚ, ◌+ℚ◌, ◌-ℚ◌, ◌*ℚ◌}
-use Rattle.rational.specs.Ring.{ring, v, num, inv, ◌:*◌, ◌:+◌, ◌:-◌}
-use Rattle.rational.specs.Order.{◌<ℚ◌, <ℚ-≤ℚ, non_neg_ℚ}
-use Rattle.rational.proofs.MinMaxLaws.{abs_ℚ-is, abs_ℚ-neg}
-use Rattle.rational.proofs.Signs.{<ℚ-≢, <ℚ-≢'}
+use Rattle.fractions.specs.Number.{Number, rational, zero_ℚ, one_ℚ, neg_ℚ, ◌+ℚ◌, ◌-ℚ◌, ◌*ℚ◌}
+use Rattle.fractions.specs.Ring.{ring, v, num, inv, ◌:*◌, ◌:+◌, ◌:-◌}
+use Rattle.fractions.specs.Order.{◌<ℚ◌, <ℚ-≤ℚ, non_neg_ℚ}
+use Rattle.fractions.proofs.MinMaxLaws.{abs_ℚ-is, abs_ℚ-neg}
+use Rattle.fractions.proofs.Signs.{<ℚ-≢, <ℚ-≢'}
 use Rattle.lp_theory.proofs.ActivityLaws.{lt_true, lt_false}
-use Rattle.rational.specs.Compare.{lt_ℚ}
-use Rattle.rational.specs.Ends.{scaled}
-use Rattle.rational.specs.Floor.{IsWhole, is_whole}
-use Rattle.rational.specs.MinMax.{abs_ℚ}
-use Rattle.rational.proofs.Comparisons.{lt_ℚ-is}
-use Rattle.rational.proofs.Floors.{is_whole-is}
+use Rattle.fractions.specs.Compare.{lt_ℚ}
+use Rattle.fractions.specs.Ends.{scaled}
+use Rattle.fractions.specs.Floor.{IsWhole, is_whole}
+use Rattle.fractions.specs.MinMax.{abs_ℚ}
+use Rattle.fractions.proofs.Comparisons.{lt_ℚ-is}
+use Rattle.fractions.proofs.Floors.{is_whole-is}
 use Rattle.fractions.specs.declared.Past.{Past}
 use Rattle.lp_model.specs.declared.program.Sense.TheVariants.{Min}
 use Rattle.lp_model.specs.Ends.{IsSided}

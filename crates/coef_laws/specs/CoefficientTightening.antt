@@ -1,12 +1,12 @@
 -- K9: the coefficient of a whole column shrinks in a row with one finite side, and the side with it. f is 1 where that side is the upper
 -- one, and -1 where it is the lower one: times f the row has an upper side.
 use Rattle.std.specs.Prelude.{◌≡◌, ◌≢◌, ℕ, ⊤, Bool, true, not, ◌&&◌, if◌then◌else◌, List, [], ◌∷◌, Option, Some, None, is_some, Result, Ok, Err}
-use Rattle.rational.specs.Number.{Number, zero_ℚ, one_ℚ, neg_ℚ, ◌+ℚ◌, ◌*ℚ◌}
-use Rattle.rational.specs.Order.{◌<ℚ◌}
-use Rattle.rational.specs.Compare.{lt_ℚ}
-use Rattle.rational.specs.Floor.{is_whole}
-use Rattle.rational.specs.Lowest.{Fits}
-use Rattle.rational.specs.MinMax.{abs_ℚ}
+use Rattle.fractions.specs.Number.{Number, zero_ℚ, one_ℚ, neg_ℚ, ◌+ℚ◌, ◌*ℚ◌}
+use Rattle.fractions.specs.Order.{◌<ℚ◌}
+use Rattle.fractions.specs.Compare.{lt_ℚ}
+use Rattle.fractions.specs.Floor.{is_whole}
+use Rattle.fractions.specs.Lowest.{Fits}
+use Rattle.fractions.specs.MinMax.{abs_ℚ}
 use Rattle.fractions.specs.FracWords.{SumFits}
 use Rattle.fractions.specs.declared.Past.{Past}
 use Rattle.undo_records.specs.declared.side.Side.{Side}

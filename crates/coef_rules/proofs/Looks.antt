@@ -1,6 +1,6 @@
 -- What the look at a row says of the rule.
 use Rattle.std.proofs.Common.{◌≡◌, ℕ, ◌&&◌, List, [], ◌∷◌, Some, is_some, sym, ap, ap₂, ◌∙◌}
-use Rattle.rational.specs.Number.{Number}
+use Rattle.fractions.specs.Number.{Number}
 use Rattle.problem_model.specs.declared.edit.Edit.{Edit}
 use Rattle.problem_model.specs.declared.edit.Edit.TheVariants.{SetEntry}
 use Rattle.problem_model.specs.Sparse.{Sparse}

@@ -1,7 +1,7 @@
 -- Columns of a row at which its coefficient is tightened.
 use Rattle.std.specs.Prelude.{ℕ, Bool, false, not, ◌&&◌, ◌||◌, List, [], ◌∷◌, map, is_some}
 use Rattle.std.specs.List.{filter}
-use Rattle.rational.specs.Number.{Number}
+use Rattle.fractions.specs.Number.{Number}
 use Rattle.lp_model.specs.declared.terms.Term.{Term}
 use Rattle.undo_records.specs.declared.side.Side.{Side}
 use Rattle.problem_model.specs.Problems.{bounds_at, column_at}

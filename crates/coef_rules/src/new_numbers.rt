@@ -1,8 +1,8 @@
 //! The coefficient and the side that a tightening gives a row.
 
 ghost use Rattle.std.specs.Prelude.{◌≡◌, ◌↔◌, IfOk, IsOk};
-ghost use Rattle.rational.specs.Lowest.{Fits};
-ghost use Rattle.rational.specs.Number.{◌*ℚ◌};
+ghost use Rattle.fractions.specs.Lowest.{Fits};
+ghost use Rattle.fractions.specs.Number.{◌*ℚ◌};
 ghost use Rattle.fractions.specs.FracWords.{SumFits};
 ghost use Rattle.coef_laws.specs.CoefficientTightening.{new_coefficient as coefficient_after, new_limit as limit_after, step as step_by, turned as times};
 

@@ -1,7 +1,7 @@
 //! Whether a coefficient is tightened, and by how much.
 
 ghost use Rattle.std.specs.Prelude.{◌≡◌, ◌&&◌, not};
-ghost use Rattle.rational.specs.MinMax.{abs_ℚ};
+ghost use Rattle.fractions.specs.MinMax.{abs_ℚ};
 ghost use Rattle.coef_laws.specs.CoefficientTightening.{best_bound as best_of, extreme_of as extreme_at, if_finite, if_short as short, left_at as left_by, next_best as next_of, one_side as sole_side, slack as slack_by, tightened_at as tightened_with, tightened_by as made_by, turned as times, whole_bounds as bounds_of};
 
 use coef_laws::Tightening;

@@ -2,13 +2,13 @@
 use Rattle.std.proofs.Common.{◌≡◌, ◌≢◌, ◌⊎◌, inl, inr, ℕ, Bool, true, false, not, ◌&&◌, ◌||◌, List, [], ◌∷◌, Option, Some, None, refl, sym, ap, ap₂, ◌∙◌, subst}
 use Rattle.std.specs.Prelude.{if◌then◌else◌}
 use Rattle.std.proofs.lemmas.Bool.{and_parts, cases_eq}
-use Rattle.rational.specs.Number.{Number, zero_ℚ}
-use Rattle.rational.specs.Order.{≤ℚ_antisym}
-use Rattle.rational.specs.Compare.{eq_ℚ, lt_ℚ}
-use Rattle.rational.specs.Ends.{less, meet_high, meet_low, minus_ends, scaled}
-use Rattle.rational.specs.Total.{put}
-use Rattle.rational.proofs.Comparisons.{eq_ℚ-is}
-use Rattle.rational.proofs.Totals.{put-same, put-other}
+use Rattle.fractions.specs.Number.{Number, zero_ℚ}
+use Rattle.fractions.specs.Order.{≤ℚ_antisym}
+use Rattle.fractions.specs.Compare.{eq_ℚ, lt_ℚ}
+use Rattle.fractions.specs.Ends.{less, meet_high, meet_low, minus_ends, scaled}
+use Rattle.fractions.specs.Total.{put}
+use Rattle.fractions.proofs.Comparisons.{eq_ℚ-is}
+use Rattle.fractions.proofs.Totals.{put-same, put-other}
 use Rattle.lp_model.specs.EndTests.{is_fixed, is_in_order}
 use Rattle.lp_model.specs.Ends.{IsSided}
 use Rattle.lp_model.specs.LinearProgram.{LinearProgram}

@@ -4,12 +4,12 @@ use Rattle.std.specs.Prelude.{if◌then◌else◌, not, nat_eq}
 use Rattle.std.specs.List.{All}
 use Rattle.std.proofs.lemmas.Bool.{and_parts, cases_eq, eqb-true}
 use Rattle.std.proofs.lemmas.List.Elements.{All-cons, All-filter, All-head, All-map, All-tail}
-use Rattle.rational.specs.Number.{Number, rational, zero_ℚ, ◌+ℚ◌, ◌-ℚ◌, ◌*ℚ◌}
-use Rattle.rational.specs.Ring.{ring, v, num, ◌:+◌, ◌:-◌, ◌:*◌}
-use Rattle.rational.specs.Division.{◌/ℚ◌}
-use Rattle.rational.specs.Total.{put, total}
-use Rattle.rational.proofs.Comparisons.{le_ℚ-is}
-use Rattle.rational.proofs.Totals.{put-same, put-other}
+use Rattle.fractions.specs.Number.{Number, rational, zero_ℚ, ◌+ℚ◌, ◌-ℚ◌, ◌*ℚ◌}
+use Rattle.fractions.specs.Ring.{ring, v, num, ◌:+◌, ◌:-◌, ◌:*◌}
+use Rattle.fractions.specs.Division.{◌/ℚ◌}
+use Rattle.fractions.specs.Total.{put, total}
+use Rattle.fractions.proofs.Comparisons.{le_ℚ-is}
+use Rattle.fractions.proofs.Totals.{put-same, put-other}
 use Rattle.lp_model.specs.Edits.{with_cost}
 use Rattle.lp_model.specs.EndTests.{is_in_order}
 use Rattle.lp_model.specs.Flags.{Flags}

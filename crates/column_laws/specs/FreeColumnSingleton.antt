@@ -1,7 +1,7 @@
 -- K13: a continuous column with one entry, whose bounds are implied by its row at the side where that is cheapest, leaves with the row.
 use Rattle.std.specs.Prelude.{ℕ, Bool, false, not, ◌&&◌, List, [], ◌∷◌, ◌++◌, Option, Some, None, unwrap_or}
-use Rattle.rational.specs.Number.{Number, zero_ℚ, ◌*ℚ◌}
-use Rattle.rational.specs.Lowest.{Fits}
+use Rattle.fractions.specs.Number.{Number, zero_ℚ, ◌*ℚ◌}
+use Rattle.fractions.specs.Lowest.{Fits}
 use Rattle.lp_substitutions.specs.FreeColumnSingleton.{cheapest_side}
 use Rattle.undo_records.specs.declared.side.Side.TheVariants.{Lower, Upper}
 use Rattle.undo_records.specs.declared.undo.Undo.{Undo}

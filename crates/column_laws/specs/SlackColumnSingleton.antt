@@ -1,10 +1,10 @@
 -- K14: a continuous column with one entry is a slack of its row: it leaves, and its bounds move the row's sides apart. Where neither side
 -- stays finite, the row leaves too.
 use Rattle.std.specs.Prelude.{ℕ, ⊤, Bool, false, not, ◌&&◌, ◌||◌, if◌then◌else◌, List, [], ◌∷◌, ◌++◌, Option, Some, None}
-use Rattle.rational.specs.Number.{Number, zero_ℚ, neg_ℚ, ◌*ℚ◌}
-use Rattle.rational.specs.Compare.{eq_ℚ, lt_ℚ}
-use Rattle.rational.specs.Ends.{minus_ends, scaled}
-use Rattle.rational.specs.Lowest.{Fits}
+use Rattle.fractions.specs.Number.{Number, zero_ℚ, neg_ℚ, ◌*ℚ◌}
+use Rattle.fractions.specs.Compare.{eq_ℚ, lt_ℚ}
+use Rattle.fractions.specs.Ends.{minus_ends, scaled}
+use Rattle.fractions.specs.Lowest.{Fits}
 use Rattle.fractions.specs.FracWords.{SumFits}
 use Rattle.lp_model.specs.EndTests.{is_fixed, is_in_order}
 use Rattle.lp_substitutions.specs.SlackColumnSingleton.{equation_offset}

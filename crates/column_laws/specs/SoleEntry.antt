@@ -1,9 +1,9 @@
 -- What the rules of a column with one entry have in common: column j leaves, and its cost is put into the other columns of row i, which
 -- holds its entry.
 use Rattle.std.specs.Prelude.{ℕ, Bool, false, ◌&&◌, nat_eq, List, [], ◌∷◌, map, All}
-use Rattle.rational.specs.Number.{Number, neg_ℚ, ◌-ℚ◌, ◌*ℚ◌}
-use Rattle.rational.specs.Division.{◌/ℚ◌}
-use Rattle.rational.specs.Lowest.{Fits}
+use Rattle.fractions.specs.Number.{Number, neg_ℚ, ◌-ℚ◌, ◌*ℚ◌}
+use Rattle.fractions.specs.Division.{◌/ℚ◌}
+use Rattle.fractions.specs.Lowest.{Fits}
 use Rattle.fractions.specs.FracWords.{SumFits}
 use Rattle.lp_model.specs.Sparse.{dense, without}
 use Rattle.lp_model.specs.declared.terms.Term.{Term}

@@ -1,6 +1,6 @@
 -- K14: the numbers that a row and the offset get.
 use Rattle.std.specs.Prelude.{◌≡◌, ℕ}
-use Rattle.rational.specs.Lowest.{Fits}
+use Rattle.fractions.specs.Lowest.{Fits}
 use Rattle.problem_model.specs.Problems.{bounds_at, sides_at}
 use Rattle.problem_model.specs.Sparse.{Sparse}
 use Rattle.column_laws.specs.SoleEntry.{entry_of}

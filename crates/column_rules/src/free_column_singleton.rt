@@ -1,8 +1,8 @@
 //! K13: a continuous column with one entry, whose bounds its row implies at the side where it is cheapest, leaves with the row.
 
 ghost use Rattle.std.specs.Prelude.{◌≡◌, ◌≢◌, ◌++◌, ◌∷◌, [], Some, true, IfOk, OnOk};
-ghost use Rattle.rational.specs.Number.{zero_ℚ};
-ghost use Rattle.rational.specs.Ends.{same_end};
+ghost use Rattle.fractions.specs.Number.{zero_ℚ};
+ghost use Rattle.fractions.specs.Ends.{same_end};
 ghost use Rattle.lp_substitutions.specs.FreeColumnSingleton.{cheapest_side as cheapest_by};
 ghost use Rattle.problem_model.specs.Parts.{contents_of};
 ghost use Rattle.problem_model.specs.Problems.{column_at, column_entries, cost_at, row_at, sides_at};

@@ -1,8 +1,8 @@
 //! K14: a continuous column with one entry leaves as a slack of its row, whose sides its bounds move apart.
 
 ghost use Rattle.std.specs.Prelude.{◌≡◌, ◌↔◌, ◌++◌, ◌∷◌, true, IfOk, IsOk, OnOk};
-ghost use Rattle.rational.specs.Ends.{minus_ends, scaled};
-ghost use Rattle.rational.specs.Lowest.{Fits};
+ghost use Rattle.fractions.specs.Ends.{minus_ends, scaled};
+ghost use Rattle.fractions.specs.Lowest.{Fits};
 ghost use Rattle.lp_substitutions.specs.SlackColumnSingleton.{equation_offset};
 ghost use Rattle.problem_model.specs.Problems.{column_at, row_at};
 ghost use Rattle.problem_model.specs.declared.edit.Edit.TheVariants as edit;

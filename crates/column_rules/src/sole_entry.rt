@@ -1,8 +1,8 @@
 //! The one entry of a column: its cost over it is put into the other columns of the row that holds it.
 
 ghost use Rattle.std.specs.Prelude.{◌≡◌, ◌≢◌, ◌↔◌, ◌++◌, ◌∷◌, [], ⊤, if◌then◌else◌, map, not, nat_eq, true, All, IfOk, IsOk, OnOk, IsErrOf};
-ghost use Rattle.rational.specs.Number.{zero_ℚ};
-ghost use Rattle.rational.specs.Lowest.{Fits};
+ghost use Rattle.fractions.specs.Number.{zero_ℚ};
+ghost use Rattle.fractions.specs.Lowest.{Fits};
 ghost use Rattle.lp_model.specs.Sparse.{has, without};
 ghost use Rattle.problem_model.specs.Problems.{column_at, column_entries, row_at};
 ghost use Rattle.problem_model.specs.declared.refusal.Refusal.TheVariants as Refusal;

@@ -4,10 +4,10 @@ use Rattle.std.specs.Prelude.{if◌then◌else◌}
 use Rattle.std.specs.List.{All, filter}
 use Rattle.std.proofs.lemmas.Bool.{and_parts, cases_eq, eq-eqb}
 use Rattle.std.proofs.lemmas.List.Elements.{All-cons, All-head}
-use Rattle.rational.specs.Number.{Number, zero_ℚ}
-use Rattle.rational.specs.Order.{◌≤ℚ◌, ≤ℚ_refl}
-use Rattle.rational.specs.Compare.{le_ℚ}
-use Rattle.rational.proofs.Comparisons.{le_ℚ-is}
+use Rattle.fractions.specs.Number.{Number, zero_ℚ}
+use Rattle.fractions.specs.Order.{◌≤ℚ◌, ≤ℚ_refl}
+use Rattle.fractions.specs.Compare.{le_ℚ}
+use Rattle.fractions.proofs.Comparisons.{le_ℚ-is}
 use Rattle.lp_model.specs.declared.terms.Term.{Term}
 use Rattle.lp_model.specs.Edits.{with_bounds}
 use Rattle.lp_model.specs.EndTests.{is_apart, is_place}

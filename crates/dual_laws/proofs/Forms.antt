@@ -1,8 +1,8 @@
 -- K10, K11 and V3 rest on what is seen of the parts that they read.
 use Rattle.std.proofs.Common.{◌≡◌, ℕ, Bool, true, false, not, ◌&&◌, ◌||◌, nat_eq, List, [], ◌∷◌, map, is_none, refl, sym, ap, ap₂, subst, true≢false}
 use Rattle.std.specs.Prelude.{⊤}
-use Rattle.rational.specs.Number.{Number, zero_ℚ}
-use Rattle.rational.specs.Compare.{le_ℚ, lt_ℚ}
+use Rattle.fractions.specs.Number.{Number, zero_ℚ}
+use Rattle.fractions.specs.Compare.{le_ℚ, lt_ℚ}
 use Rattle.lp_model.specs.declared.terms.Term.{Term}
 use Rattle.lp_model.specs.EndTests.{is_apart, is_in_order, is_place}
 use Rattle.lp_model.specs.Sparse.{dense}

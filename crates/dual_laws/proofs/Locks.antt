@@ -2,10 +2,10 @@
 use Rattle.std.proofs.Common.{◌≡◌, ◌≢◌, ◌⊎◌, inl, inr, ℕ, Bool, true, false, not, ◌||◌, List, [], ◌∷◌, map, Option, Some, None, is_none, refl, sym, ap, ap₂, ◌∙◌, subst}
 use Rattle.std.specs.Prelude.{if◌then◌else◌}
 use Rattle.std.proofs.lemmas.Bool.{and_parts, cases_eq}
-use Rattle.rational.specs.Number.{Number, zero_ℚ}
-use Rattle.rational.specs.Order.{◌≤ℚ◌, ◌<ℚ◌, ≤ℚ_refl, <ℚ-not}
-use Rattle.rational.specs.Compare.{lt_ℚ}
-use Rattle.rational.proofs.Comparisons.{lt_ℚ-is}
+use Rattle.fractions.specs.Number.{Number, zero_ℚ}
+use Rattle.fractions.specs.Order.{◌≤ℚ◌, ◌<ℚ◌, ≤ℚ_refl, <ℚ-not}
+use Rattle.fractions.specs.Compare.{lt_ℚ}
+use Rattle.fractions.proofs.Comparisons.{lt_ℚ-is}
 use Rattle.lp_model.specs.declared.terms.Term.{Term}
 use Rattle.lp_model.specs.Sparse.{dense, has}
 use Rattle.lp_columns.specs.Locks.{HasNoDownLock, HasNoUpLock}

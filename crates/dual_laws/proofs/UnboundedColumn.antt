@@ -2,10 +2,10 @@
 use Rattle.std.proofs.Common.{◌≡◌, ◌⊎◌, inl, inr, ℕ, Bool, true, false, ◌&&◌, ◌||◌, List, map, Option, None, is_none, refl, sym, ◌∙◌, subst}
 use Rattle.std.specs.Prelude.{if◌then◌else◌}
 use Rattle.std.proofs.lemmas.Bool.{and_parts}
-use Rattle.rational.specs.Number.{Number, zero_ℚ}
-use Rattle.rational.specs.Order.{◌<ℚ◌}
-use Rattle.rational.specs.Compare.{lt_ℚ}
-use Rattle.rational.proofs.Comparisons.{lt_ℚ-is}
+use Rattle.fractions.specs.Number.{Number, zero_ℚ}
+use Rattle.fractions.specs.Order.{◌<ℚ◌}
+use Rattle.fractions.specs.Compare.{lt_ℚ}
+use Rattle.fractions.proofs.Comparisons.{lt_ℚ-is}
 use Rattle.lp_model.specs.declared.program.Sense.TheVariants.{Min}
 use Rattle.lp_model.specs.declared.terms.Term.{Term}
 use Rattle.lp_model.specs.EndTests.{is_in_order}

@@ -1,8 +1,8 @@
 -- K11: a column k that another column j without an upper bound can stand in for, no dearer and no worse in any row, stays at its lower bound.
 use Rattle.std.specs.Prelude.{ℕ, ⊤, Bool, true, false, not, ◌&&◌, ◌||◌, nat_eq, nat_le, List, [], ◌∷◌, ◌++◌, length, map, is_none}
 use Rattle.std.specs.List.{filter, flat_map}
-use Rattle.rational.specs.Number.{Number}
-use Rattle.rational.specs.Compare.{le_ℚ}
+use Rattle.fractions.specs.Number.{Number}
+use Rattle.fractions.specs.Compare.{le_ℚ}
 use Rattle.lp_model.specs.declared.terms.Term.{Term}
 use Rattle.lp_model.specs.EndTests.{is_apart, is_place}
 use Rattle.lp_model.specs.Sparse.{dense, has}

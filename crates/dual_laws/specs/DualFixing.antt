@@ -1,7 +1,7 @@
 -- K10: a column that no row locks in the direction in which it doesn't cost more is fixed at its bound there.
 use Rattle.std.specs.Prelude.{ℕ, ⊤, Bool, false, not, ◌&&◌, ◌||◌, List, [], ◌∷◌, Option, if◌then◌else◌}
-use Rattle.rational.specs.Number.{Number, zero_ℚ}
-use Rattle.rational.specs.Compare.{lt_ℚ}
+use Rattle.fractions.specs.Number.{Number, zero_ℚ}
+use Rattle.fractions.specs.Compare.{lt_ℚ}
 use Rattle.lp_model.specs.declared.terms.Term.{Term}
 use Rattle.lp_model.specs.EndTests.{is_apart, is_place}
 use Rattle.undo_records.specs.declared.undo.Undo.{Undo}

@@ -6,11 +6,11 @@ use lib.Bits.{or_self, or_zero_r}
 use Rattle.std.proofs.lemmas.Nat.{or_comm, or_mod, or_shr}
 use Rattle.std.proofs.Math.Seq.{take-length}
 use Rattle.std.proofs.lemmas.Bool.{and_parts, false≢true, and_from, cases_eq, cases_order}
-use Rattle.rational.specs.Number.{Number, zero_ℚ}
-use Rattle.rational.specs.Compare.{le_ℚ, lt_ℚ}
-use Rattle.rational.proofs.Comparisons.{eq_ℚ-is, le_ℚ-is, lt_ℚ-is, lt_ℚ-not}
-use Rattle.rational.specs.Order.{≤ℚ_refl}
-use Rattle.rational.proofs.Signs.{<ℚ-≤ℚ_trans, ≤ℚ-<ℚ}
+use Rattle.fractions.specs.Number.{Number, zero_ℚ}
+use Rattle.fractions.specs.Compare.{le_ℚ, lt_ℚ}
+use Rattle.fractions.proofs.Comparisons.{eq_ℚ-is, le_ℚ-is, lt_ℚ-is, lt_ℚ-not}
+use Rattle.fractions.specs.Order.{≤ℚ_refl}
+use Rattle.fractions.proofs.Signs.{<ℚ-≤ℚ_trans, ≤ℚ-<ℚ}
 use Rattle.lp_model.specs.declared.terms.Term.{Term}
 use Rattle.lp_model.specs.Sparse.{Ascends, dense, has}
 use Rattle.problem_model.specs.declared.part.Contents.TheVariants as holding

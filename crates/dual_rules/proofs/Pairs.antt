@@ -5,8 +5,8 @@ use Rattle.std.specs.List.{All, filter, flat_map}
 use Rattle.std.proofs.lemmas.Bool.{and_parts}
 use Rattle.std.proofs.lemmas.List.Elements.{All-append, All-nil, All-cons, All-head, All-tail, filter-append}
 use Rattle.std.proofs.lemmas.List.{map-append, take_more}
-use Rattle.rational.specs.Number.{Number}
-use Rattle.rational.specs.Compare.{le_ℚ}
+use Rattle.fractions.specs.Number.{Number}
+use Rattle.fractions.specs.Compare.{le_ℚ}
 use Rattle.lp_model.specs.declared.terms.Term.{Term}
 use Rattle.lp_model.specs.EndTests.{is_apart, is_in_order, is_place}
 use Rattle.lp_model.specs.Sparse.{dense, has}

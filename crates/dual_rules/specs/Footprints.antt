@@ -1,8 +1,8 @@
 -- What a column asks of all that stand beside it, in a set of 64 bits each way.
 use Rattle.std.specs.Prelude.{◌≡◌, ℕ, ◌+◌, ◌*◌, ◌/◌, ◌%◌, ◌^◌, Bool, not, ◌&&◌, ◌||◌, List, [], ◌∷◌, Option, is_none, if◌then◌else◌, unsigned_abs, bit_or}
-use Rattle.rational.specs.Number.{Number, zero_ℚ}
-use Rattle.rational.specs.Compare.{lt_ℚ}
-use Rattle.rational.specs.Lowest.{over_of}
+use Rattle.fractions.specs.Number.{Number, zero_ℚ}
+use Rattle.fractions.specs.Compare.{lt_ℚ}
+use Rattle.fractions.specs.Lowest.{over_of}
 use Rattle.lp_model.specs.declared.terms.Term.{Term}
 use Rattle.problem_model.specs.Problems.{sides_at}
 use Rattle.problem_model.specs.Sparse.{Sparse}

@@ -1,8 +1,8 @@
 -- Pairs of columns of a row.
 use Rattle.std.specs.Prelude.{◌≡◌, ℕ, Bool, true, not, ◌&&◌, ◌||◌, nat_eq, nat_le, List, [], ◌∷◌, length, map, is_none, IfSome, if◌then◌else◌}
 use Rattle.std.specs.List.{filter, flat_map}
-use Rattle.rational.specs.Number.{Number}
-use Rattle.rational.specs.Compare.{le_ℚ}
+use Rattle.fractions.specs.Number.{Number}
+use Rattle.fractions.specs.Compare.{le_ℚ}
 use Rattle.lp_model.specs.declared.terms.Term.{Term}
 use Rattle.lp_model.specs.EndTests.{is_apart, is_place}
 use Rattle.problem_model.specs.declared.line.Sides.{Sides}

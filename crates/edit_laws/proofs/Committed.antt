@@ -1,7 +1,7 @@
 -- What a commit of edits keeps and makes: what its edits do, since numbers of changes are nothing that is shown or written.
 use Rattle.std.proofs.Common.{◌≡◌, List, ◌∙◌}
 use Rattle.std.specs.List.{All}
-use Rattle.rational.specs.Number.{◌+ℚ◌}
+use Rattle.fractions.specs.Number.{◌+ℚ◌}
 use Rattle.fractions.specs.declared.Numbers.{Numbers}
 use Rattle.problem_model.specs.declared.edit.Edit.{Edit}
 use Rattle.problem_model.specs.Allowed.{AreAllowed}

@@ -3,8 +3,8 @@ use Rattle.std.proofs.Common.{◌≡◌, ℕ, zero, suc, Bool, true, false, ◌|
 use Rattle.std.specs.List.{All}
 use Rattle.std.proofs.lemmas.List.{length-set, length-map, map-set}
 use Rattle.std.proofs.lemmas.List.Elements.{All-head, All-tail}
-use Rattle.rational.specs.Number.{Number, rational, zero_ℚ, ◌+ℚ◌}
-use Rattle.rational.specs.Ring.{ring, v, num, ◌:+◌}
+use Rattle.fractions.specs.Number.{Number, rational, zero_ℚ, ◌+ℚ◌}
+use Rattle.fractions.specs.Ring.{ring, v, num, ◌:+◌}
 use Rattle.fractions.specs.declared.Numbers.{Numbers}
 use Rattle.problem_model.specs.declared.line.Line.{Line}
 use Rattle.problem_model.specs.declared.part.Part.{Part}

@@ -1,7 +1,7 @@
 -- Edits leave all numbers of changes as they are, and let nothing live again.
 use Rattle.std.proofs.Common.{◌≡◌, ℕ, ◌<◌, true, List, [], ◌∷◌, length, refl, sym, ap, ◌∙◌, Option}
-use Rattle.rational.specs.Number.{Number}
-use Rattle.rational.proofs.Totals.{at_or_off}
+use Rattle.fractions.specs.Number.{Number}
+use Rattle.fractions.proofs.Totals.{at_or_off}
 use Rattle.problem_model.specs.declared.edit.Edit.{Edit}
 use Rattle.problem_model.specs.declared.edit.Edit.TheVariants.{DeleteRow, DeleteColumn, SetSides, SetBounds, AddOffset, SetCost, SetEntry}
 use Rattle.problem_model.specs.declared.line.Line.{Line}

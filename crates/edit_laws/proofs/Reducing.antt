@@ -1,7 +1,7 @@
 -- What edits make of the linear program that is shown, where that is known.
 use Rattle.std.proofs.Common.{◌≡◌, ℕ, ◌<◌, Bool, true, false, List, [], ◌∷◌, refl, sym, ◌∙◌, subst, nat_eq, if◌then◌else◌, Option, None}
-use Rattle.rational.specs.Number.{Number}
-use Rattle.rational.specs.Total.{put}
+use Rattle.fractions.specs.Number.{Number}
+use Rattle.fractions.specs.Total.{put}
 use Rattle.lp_model.specs.declared.program.Sense.TheVariants.{Min}
 use Rattle.lp_model.specs.LinearProgram.{LinearProgram}
 use Rattle.lp_model.specs.Optimality.{Continuous}

@@ -1,11 +1,11 @@
 -- The test whether two contents are the same.
 use Rattle.std.proofs.Common.{◌≡◌, ◌≢◌, ℕ, nat_eq, Bool, true, false, ◌&&◌, List, [], ◌∷◌, Option, refl, sym, ap, ap₂, ◌∙◌, ◌⊎◌, inl, inr}
 use Rattle.std.proofs.lemmas.Bool.{eq-eqb, cases_eq, ne_eqb}
-use Rattle.rational.specs.Number.{Number}
-use Rattle.rational.specs.Compare.{eq_ℚ}
-use Rattle.rational.specs.Ends.{same_end}
-use Rattle.rational.proofs.Comparisons.{eq_ℚ-is}
-use Rattle.rational.proofs.EndLaws.{same_end-is}
+use Rattle.fractions.specs.Number.{Number}
+use Rattle.fractions.specs.Compare.{eq_ℚ}
+use Rattle.fractions.specs.Ends.{same_end}
+use Rattle.fractions.proofs.Comparisons.{eq_ℚ-is}
+use Rattle.fractions.proofs.EndLaws.{same_end-is}
 use Rattle.lp_model.specs.declared.terms.Term.{Term}
 use Rattle.problem_model.specs.declared.part.Contents.{Contents}
 use Rattle.problem_model.specs.declared.part.Contents.TheVariants as holds

@@ -3,7 +3,7 @@ use Rattle.std.proofs.Common.{◌≡◌, ◌≢◌, ℕ, pred, nat_eq, Bool, tru
 use Rattle.std.specs.Prelude.{if◌then◌else◌}
 use Rattle.std.proofs.lemmas.Bool.{eq-eqb}
 use Rattle.std.proofs.lemmas.List.{get_or-set_other}
-use Rattle.rational.specs.Number.{Number, zero_ℚ, ◌+ℚ◌}
+use Rattle.fractions.specs.Number.{Number, zero_ℚ, ◌+ℚ◌}
 use Rattle.lp_model.specs.Sparse.{has}
 use Rattle.problem_model.specs.declared.line.Line.{Line}
 use Rattle.problem_model.specs.declared.part.Part.{Part}

@@ -1,7 +1,7 @@
 //! What commits of edits keep and make, and what they tell by numbers of changes.
 
 ghost use Rattle.std.specs.Prelude.{◌≡◌, ◌+◌, ◌≤◌, List, All, length, false};
-ghost use Rattle.rational.specs.Number.{◌+ℚ◌};
+ghost use Rattle.fractions.specs.Number.{◌+ℚ◌};
 ghost use Rattle.fractions.specs.declared.Numbers.{Numbers};
 ghost use Rattle.problem_model.specs.declared.edit.Edit.{Edit};
 ghost use Rattle.problem_model.specs.declared.part.Part.{Part};

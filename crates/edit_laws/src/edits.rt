@@ -1,7 +1,7 @@
 //! What edits of a problem, one after the other, keep, and what they make of what it shows.
 
 ghost use Rattle.std.specs.Prelude.{◌≡◌, ◌++◌, List, All, false};
-ghost use Rattle.rational.specs.Number.{◌+ℚ◌};
+ghost use Rattle.fractions.specs.Number.{◌+ℚ◌};
 ghost use Rattle.fractions.specs.declared.Numbers.{Numbers};
 ghost use Rattle.problem_model.specs.declared.edit.Edit.{Edit};
 ghost use Rattle.problem_model.specs.declared.part.Part.{Part};

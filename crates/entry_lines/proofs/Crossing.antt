@@ -5,7 +5,7 @@ use Rattle.std.specs.List.{All}
 use Rattle.std.proofs.lemmas.Bool.{cases_lt}
 use Rattle.std.proofs.lemmas.List.{append-nil, append_assoc, length-map, length-take-le, get_or_past, take_more}
 use Rattle.std.proofs.lemmas.List.Elements.{All-head, All-tail}
-use Rattle.rational.specs.Number.{zero_ℚ}
+use Rattle.fractions.specs.Number.{zero_ℚ}
 use Rattle.lp_model.specs.declared.terms.Term.{Term}
 use Rattle.lp_model.specs.declared.program.ColumnDef.{ColumnDef}
 use Rattle.lp_model.specs.Sparse.{Ascends, dense, has}

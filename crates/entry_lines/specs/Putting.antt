@@ -1,7 +1,7 @@
 -- Terms and lines with other numbers at ids, and what stood there before.
 use Rattle.std.specs.Prelude.{◌≡◌, ℕ, suc, ◌<◌, ◌≤◌, nat_eq, List, [], ◌∷◌, length, map, slice_set, if◌then◌else◌}
 use Rattle.std.specs.List.{All}
-use Rattle.rational.specs.Number.{Number}
+use Rattle.fractions.specs.Number.{Number}
 use Rattle.lp_model.specs.declared.terms.Term.{Term}
 use Rattle.problem_model.specs.declared.line.Line.{Line}
 use Rattle.problem_model.specs.Edits.{entry_set, line_put}

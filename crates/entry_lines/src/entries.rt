@@ -2,7 +2,7 @@
 
 ghost use Rattle.std.specs.Prelude.{◌≡◌, ◌++◌, ◌+◌, ◌-◌, ◌<◌, ◌≤◌, [], suc, length, take, drop, IfOk, OnOk};
 ghost use Rattle.std.specs.List.{All};
-ghost use Rattle.rational.specs.Number.{Number};
+ghost use Rattle.fractions.specs.Number.{Number};
 ghost use Rattle.problem_model.specs.Edits.{line_put};
 ghost use Rattle.problem_model.specs.Entries.{led_by, put_term};
 ghost use Rattle.problem_model.specs.Matrices.{line_at};

@@ -17,7 +17,7 @@ pub struct Lines<'a> {
 impl<'a> Model for Lines<'a> {
     ghost use Rattle.std.specs.Prelude.{List};
     ghost use Rattle.std.specs.Coded.{codes};
-    ghost use Rattle.rational.specs.Lowest.{number_code};
+    ghost use Rattle.fractions.specs.Lowest.{number_code};
     ghost use Rattle.problem_model.specs.declared.line.Line.{Line};
 
     ghost Value = { List Line };

@@ -1,6 +1,6 @@
 -- What is answered at the end of a run.
 use Rattle.std.proofs.Common.{◌≡◌, inr, ℕ, List, Some, length, refl, sym, ◌∙◌}
-use Rattle.rational.specs.Number.{Number, zero_ℚ}
+use Rattle.fractions.specs.Number.{Number, zero_ℚ}
 use Rattle.lp_model.specs.Vectors.{vector_of}
 use Rattle.lp_model.specs.LinearProgram.{cost_at}
 use Rattle.lp_model.specs.ProgramData.{ProgramData}

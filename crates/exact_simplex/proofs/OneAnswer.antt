@@ -1,7 +1,7 @@
 -- A program has one answer.
 use Rattle.std.proofs.Common.{◌≡◌, inl, inr, ℕ, ◌<◌, List, Some, length, sym, refl, ap, ap₂, ◌∙◌, subst}
 use Rattle.std.proofs.lemmas.List.{ext_get_or}
-use Rattle.rational.specs.Number.{Number, zero_ℚ}
+use Rattle.fractions.specs.Number.{Number, zero_ℚ}
 use Rattle.lp_model.specs.declared.point.Pair.{Pair}
 use Rattle.lp_model.specs.Vectors.{vector_of}
 use Rattle.lp_model.specs.LinearProgram.{cost_at}

@@ -1,6 +1,6 @@
 -- What is answered of a program.
 use Rattle.std.specs.Prelude.{◌≡◌, ⊤, ℕ, List, Some, length}
-use Rattle.rational.specs.Number.{Number}
+use Rattle.fractions.specs.Number.{Number}
 use Rattle.lp_model.specs.Vectors.{vector_of}
 use Rattle.lp_model.specs.LinearProgram.{cost_at}
 use Rattle.lp_model.specs.ProgramData.{ProgramData}

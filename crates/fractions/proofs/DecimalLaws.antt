@@ -4,10 +4,10 @@ use Prim.Native.Nat.{◌∣◌}
 use Rattle.std.specs.Prelude.{is_some, ◌&&◌}
 use Rattle.std.proofs.lemmas.Bool.{eqb-true, false≢true, lt-ltb, and_parts}
 use native.Mathlib.Nat.{dvd-mul_left, div-mul_cancel}
-use Rattle.rational.specs.Number.{Number}
-use Rattle.rational.specs.Lowest.{over_of, under_of}
-use Rattle.rational.specs.Decimal.{HasPlaces, Decimal}
-use Rattle.rational.proofs.Decimals.{HasPlaces-lowest}
+use Rattle.fractions.specs.Number.{Number}
+use Rattle.fractions.specs.Lowest.{over_of, under_of}
+use Rattle.fractions.specs.Decimal.{HasPlaces, Decimal}
+use Rattle.fractions.proofs.Decimals.{HasPlaces-lowest}
 use Rattle.fractions.specs.Places.{has_room, places_of, is_decimal}
 use Rattle.fractions.proofs.Placing.{room_of}
 use Rattle.fractions.proofs.Least.{least_place, no_place}

@@ -3,10 +3,10 @@ use Rattle.std.proofs.Common.{◌≡◌, ◌≢◌, ℕ, zero, suc, ◌<◌, ◌
 use mathlib.Core.Quot.{sound}
 use Rattle.std.proofs.Math.IntN.{zero-*ℤ}
 use Rattle.std.proofs.lemmas.Int.{ints}
-use Rattle.rational.specs.Number.{of_ℤ}
-use Rattle.rational.specs.Gcd.{gcd, coprime_comm}
-use Rattle.rational.specs.Lowest.{ratio, ratio-is, IsLowest, over_of-ratio, under_of-ratio}
-use Rattle.rational.specs.Division.{inv_ℚ, inverse_by}
+use Rattle.fractions.specs.Number.{of_ℤ}
+use Rattle.fractions.specs.Gcd.{gcd, coprime_comm}
+use Rattle.fractions.specs.Lowest.{ratio, ratio-is, IsLowest, over_of-ratio, under_of-ratio}
+use Rattle.fractions.specs.Division.{inv_ℚ, inverse_by}
 
 pub inv_ℚ-ratio : (n : ℤ) (d : ℕ) → IsLowest n d → inv_ℚ (ratio n d) ≡ inverse_by n d
 unfolding inv_ℚ

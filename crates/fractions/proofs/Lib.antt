@@ -1,3 +1,11 @@
+pub mod Signs
+pub mod Comparisons
+pub mod MinMaxLaws
+pub mod EndLaws
+pub mod Floors
+pub mod Decimals
+pub mod Totals
+pub mod Quotients
 pub mod GcdSteps
 pub mod SumSteps
 pub mod Reducing

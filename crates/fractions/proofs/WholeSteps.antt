@@ -2,13 +2,13 @@
 use Rattle.std.proofs.Common.{◌≡◌, ℕ, ◌<◌, ◌^◌, ℤ, pos, ◌+ℤ◌, ◌*ℤ◌, ◌<ℤ◌, ◌*◌, ◌/◌, nat_abs, sym, refl, ap, ap₂, ◌∙◌, subst, arith, lit<, ◌↔◌, Bool, IsTrue}
 use Rattle.std.specs.Cmp.{both_ways}
 use Rattle.std.specs.Ordering.{int_cmp}
-use Rattle.rational.specs.Gcd.{gcd}
-use Rattle.rational.specs.Number.{Number, zero_ℚ, ◌+ℚ◌, ◌*ℚ◌}
-use Rattle.rational.specs.Compare.{lt_ℚ, number_cmp, number_cmp-ratio}
-use Rattle.rational.specs.Lowest.{ratio, IsLowest}
-use Rattle.rational.proofs.Comparisons.{lt_ℚ-is, cmp-Less}
-use Rattle.rational.proofs.Floors.{IsLowest-whole}
-use Rattle.rational.proofs.Quotients.{of_whole}
+use Rattle.fractions.specs.Gcd.{gcd}
+use Rattle.fractions.specs.Number.{Number, zero_ℚ, ◌+ℚ◌, ◌*ℚ◌}
+use Rattle.fractions.specs.Compare.{lt_ℚ, number_cmp, number_cmp-ratio}
+use Rattle.fractions.specs.Lowest.{ratio, IsLowest}
+use Rattle.fractions.proofs.Comparisons.{lt_ℚ-is, cmp-Less}
+use Rattle.fractions.proofs.Floors.{IsLowest-whole}
+use Rattle.fractions.proofs.Quotients.{of_whole}
 use Rattle.fractions.specs.FracWords.{StepsFit}
 use Rattle.fractions.proofs.LowestTerms.{int_cmp-Less}
 use Rattle.fractions.proofs.ProductSteps.{IsProduct, product_lowest}

@@ -1,8 +1,8 @@
 -- When the ends that are computed have room.
 use Rattle.std.specs.Prelude.{⊤, Option, Some, None}
-use Rattle.rational.specs.Number.{Number, neg_ℚ}
-use Rattle.rational.specs.Division.{◌/ℚ◌}
-use Rattle.rational.specs.Lowest.{Fits}
+use Rattle.fractions.specs.Number.{Number, neg_ℚ}
+use Rattle.fractions.specs.Division.{◌/ℚ◌}
+use Rattle.fractions.specs.Lowest.{Fits}
 use Rattle.fractions.specs.FracWords.{SumFits}
 
 -- an end over a number, where there is an end

@@ -1,6 +1,6 @@
 -- The fields of a `Frac` from its number.
 use Rattle.std.proofs.Common.{◌≡◌}
-use Rattle.rational.specs.Lowest.{ratio, IsLowest, over_of, under_of, over_of-ratio, under_of-ratio}
+use Rattle.fractions.specs.Lowest.{ratio, IsLowest, over_of, under_of, over_of-ratio, under_of-ratio}
 use Rattle.fractions.specs.declared.frac.Frac.TheInside.{Inside}
 
 -- lowest terms give the fields back

@@ -1,8 +1,8 @@
 -- What contracts say of a `Frac`.
 use Rattle.std.specs.Prelude.{ℕ, ◌*◌, ◌/◌, ◌^◌, ◌<◌, ℤ, pos, ◌+ℤ◌, ◌*ℤ◌, unsigned_abs}
-use Rattle.rational.specs.Gcd.{gcd}
-use Rattle.rational.specs.Number.{Number}
-use Rattle.rational.specs.Lowest.{over_of, under_of}
+use Rattle.fractions.specs.Gcd.{gcd}
+use Rattle.fractions.specs.Number.{Number}
+use Rattle.fractions.specs.Lowest.{over_of, under_of}
 
 -- the steps of the sum of a/b and c/d, each in range
 pub record StepsFit (a : ℤ) (b : ℕ) (c : ℤ) (d : ℕ) : Type 0 where

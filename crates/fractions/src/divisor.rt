@@ -1,7 +1,7 @@
 //! The greatest common divisor.
 
 ghost use Rattle.std.specs.Prelude.{◌≡◌, ℕ, ◌<◌, ◌≤◌, ◌^◌, ◌/◌, ◌%◌};
-ghost use Rattle.rational.specs.Gcd.{gcd as gcd_of};
+ghost use Rattle.fractions.specs.Gcd.{gcd as gcd_of};
 
 use crate::fives::is_power_of_five;
 

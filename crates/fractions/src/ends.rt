@@ -2,8 +2,8 @@
 
 ghost use Rattle.std.specs.Prelude.{◌≡◌, ◌≢◌, IfOk, IsOk, ◌↔◌};
 ghost use Rattle.fractions.specs.EndWords.{LessFits, OverFits};
-ghost use Rattle.rational.specs.Ends.{less as less_of, meet_high, meet_low, over as over_of};
-ghost use Rattle.rational.specs.Number.{zero_ℚ};
+ghost use Rattle.fractions.specs.Ends.{less as less_of, meet_high, meet_low, over as over_of};
+ghost use Rattle.fractions.specs.Number.{zero_ℚ};
 
 use crate::Past;
 use crate::ext::Ext;

@@ -15,8 +15,8 @@ pub struct Ext {
 impl Model for Ext {
     ghost use Rattle.std.specs.Prelude.{Option};
     ghost use Rattle.std.specs.Coded.{codes};
-    ghost use Rattle.rational.specs.Number.{Number};
-    ghost use Rattle.rational.specs.Lowest.{number_code};
+    ghost use Rattle.fractions.specs.Number.{Number};
+    ghost use Rattle.fractions.specs.Lowest.{number_code};
 
     ghost Value = { Option Number };
 

@@ -1,4 +1,4 @@
-//! Exact numbers: fractions in lowest terms, of 127 bits.
+//! Exact numbers: fractions in lowest terms, of 127 bits, and the rational numbers of contracts, which have no bound.
 #![tactic(auto)]
 
 ghost use Rattle.std.specs.Prelude.{◌≡◌, ℕ, ◌<◌, ◌≤◌, ◌^◌, ◌*◌, OkIff, IfOk, IsOk, ◌↔◌, unsigned_abs};
@@ -9,6 +9,7 @@ pub mod ends;
 pub mod ext;
 mod fives;
 pub mod frac;
+pub mod number_laws;
 pub mod parts;
 pub mod places;
 pub mod scaling;

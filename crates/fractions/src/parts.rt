@@ -3,10 +3,10 @@
 ghost use Rattle.std.specs.Prelude.{◌≡◌, ◌≢◌, ℕ, ◌^◌, ◌<◌, ◌*ℤ◌, pos, unsigned_abs, IfOk, IfSome, IsOk, ◌↔◌};
 ghost use Rattle.std.specs.Ordering.{int_cmp};
 ghost use Rattle.fractions.specs.FracWords.{StepsFit};
-ghost use Rattle.rational.specs.Lowest.{ratio, IsLowest, Fits};
-ghost use Rattle.rational.specs.Division.{inv_ℚ};
-ghost use Rattle.rational.specs.Floor.{floor_by};
-ghost use Rattle.rational.specs.Number.{◌+ℚ◌, ◌*ℚ◌, of_ℤ};
+ghost use Rattle.fractions.specs.Lowest.{ratio, IsLowest, Fits};
+ghost use Rattle.fractions.specs.Division.{inv_ℚ};
+ghost use Rattle.fractions.specs.Floor.{floor_by};
+ghost use Rattle.fractions.specs.Number.{◌+ℚ◌, ◌*ℚ◌, of_ℤ};
 
 use crate::compare::compare_products;
 use crate::divisor::{gcd, quotient};

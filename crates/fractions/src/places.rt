@@ -1,8 +1,8 @@
 //! The number of decimals that shows a number exactly.
 
 ghost use Rattle.std.specs.Prelude.{◌≡◌, ℕ, ◌^◌, ◌<◌, ◌≤◌, ◌*◌, ◌/◌, IfSome, IsTrue, ◌↔◌};
-ghost use Rattle.rational.specs.Number.{Number};
-ghost use Rattle.rational.specs.Decimal.{HasPlaces, Decimal};
+ghost use Rattle.fractions.specs.Number.{Number};
+ghost use Rattle.fractions.specs.Decimal.{HasPlaces, Decimal};
 ghost use Rattle.fractions.specs.Places.{has_room, place_of, places_of, is_decimal};
 
 use crate::frac::Frac;

@@ -1,7 +1,7 @@
 //! Whole numbers times powers of ten.
 
 ghost use Rattle.std.specs.Prelude.{◌^◌, ◌<◌, OkIff, unsigned_abs};
-ghost use Rattle.rational.specs.Lowest.{Fits};
+ghost use Rattle.fractions.specs.Lowest.{Fits};
 ghost use Rattle.fractions.specs.Scaled.{scaled};
 
 use crate::Past;

@@ -1,6 +1,6 @@
 -- What a book means, and that a commit keeps what a book keeps.
 use Rattle.std.proofs.Common.{◌≡◌, ℕ, ◌+◌, ◌<◌, true, List, [], ◌∷◌, ◌++◌, length, Option, Some, None, IfSome, sym, ap, ap₂, ◌∙◌, subst, arith, length-append}
-use Rattle.rational.specs.Number.{◌-ℚ◌}
+use Rattle.fractions.specs.Number.{◌-ℚ◌}
 use Rattle.lp_model.specs.declared.program.Sense.TheVariants.{Min}
 use Rattle.lp_model.specs.Optimality.{Continuous}
 use Rattle.lp_model.specs.Reductions.{Reduces, ReducesPairs}

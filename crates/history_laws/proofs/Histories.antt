@@ -1,7 +1,7 @@
 -- Histories by induction.
 use Rattle.std.proofs.Common.{◌≡◌, List, [], ◌∷◌, ◌++◌, refl, ap, ◌∙◌, subst, pos}
-use Rattle.rational.specs.Ring.{ring, v, num, ◌:+◌, ◌:-◌}
-use Rattle.rational.specs.Number.{rational, ◌+ℚ◌, ◌-ℚ◌}
+use Rattle.fractions.specs.Ring.{ring, v, num, ◌:+◌, ◌:-◌}
+use Rattle.fractions.specs.Number.{rational, ◌+ℚ◌, ◌-ℚ◌}
 use Rattle.fractions.specs.declared.Numbers.{Numbers}
 use Rattle.lp_model.specs.declared.program.Sense.TheVariants.{Min}
 use Rattle.lp_model.specs.Reductions.{Reduces}

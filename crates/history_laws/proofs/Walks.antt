@@ -2,9 +2,9 @@
 use Rattle.std.proofs.Common.{◌≡◌, ℕ, suc, nat_eq, ◌+◌, ◌<◌, Bool, true, false, All, List, [], ◌∷◌, length, map, replicate, sym, refl, ap, ap₂, ◌∙◌, subst, pos, if◌then◌else◌, drop, get_or, arith}
 use Rattle.std.proofs.lemmas.List.{length-map}
 use Rattle.std.proofs.lemmas.Bool.{true≢false}
-use Rattle.rational.specs.Ring.{ring, v, num, ◌:+◌, ◌:-◌}
-use Rattle.rational.specs.Number.{Number, rational, zero_ℚ, neg_ℚ, ◌+ℚ◌, ◌-ℚ◌}
-use Rattle.rational.specs.Total.{put}
+use Rattle.fractions.specs.Ring.{ring, v, num, ◌:+◌, ◌:-◌}
+use Rattle.fractions.specs.Number.{Number, rational, zero_ℚ, neg_ℚ, ◌+ℚ◌, ◌-ℚ◌}
+use Rattle.fractions.specs.Total.{put}
 use Rattle.fractions.specs.declared.Numbers.{Numbers}
 use Rattle.lp_model.specs.declared.program.Sense.{Sense}
 use Rattle.lp_model.specs.declared.program.Sense.TheVariants.{Min, Max}

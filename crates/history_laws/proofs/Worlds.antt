@@ -1,7 +1,7 @@
 -- Whatever workers do, the book stands.
 use Rattle.std.proofs.Common.{◌≡◌, ℕ, Bool, true, false, List, [], ◌∷◌, ◌++◌, Option, Some, None, sym, refl, ◌∙◌, subst, nat_eq, if◌then◌else◌}
 use Rattle.std.specs.Prelude.{⊤}
-use Rattle.rational.specs.Total.{put}
+use Rattle.fractions.specs.Total.{put}
 use Rattle.presolve_model.specs.declared.outcome.Outcome.{Outcome}
 use Rattle.presolve_model.specs.declared.outcome.Outcome.TheVariants.{Closed, Full, Stale, Past, NotDecimal, Applied, NoMemory}
 use Rattle.presolve_model.specs.declared.instance.Instance.{Instance}

@@ -1,6 +1,6 @@
 -- What a book means.
 use Rattle.std.specs.Prelude.{IfSome}
-use Rattle.rational.specs.Number.{◌-ℚ◌}
+use Rattle.fractions.specs.Number.{◌-ℚ◌}
 use Rattle.lp_model.specs.declared.program.Sense.TheVariants.{Min}
 use Rattle.lp_model.specs.Optimality.{Continuous}
 use Rattle.lp_model.specs.Reductions.{Reduces, ReducesPairs}

@@ -19,7 +19,7 @@ pub struct Proposal {
 
 impl Model for Proposal {
     ghost use Rattle.std.specs.Coded.{codes};
-    ghost use Rattle.rational.specs.Lowest.{number_code};
+    ghost use Rattle.fractions.specs.Lowest.{number_code};
     ghost use Rattle.presolve_model.specs.Given.{Proposed};
 
     ghost Value = { Proposed };

@@ -21,7 +21,7 @@ pub struct Reading {
 impl Model for Reading {
     ghost use Rattle.std.specs.Prelude.{List};
     ghost use Rattle.std.specs.Coded.{codes};
-    ghost use Rattle.rational.specs.Lowest.{number_code};
+    ghost use Rattle.fractions.specs.Lowest.{number_code};
     ghost use Rattle.problem_model.specs.declared.part.Read.{Read};
 
     ghost Value = { List Read };

@@ -20,7 +20,7 @@ pub struct Version {
 
 impl Model for Version {
     ghost use Rattle.std.specs.Coded.{codes};
-    ghost use Rattle.rational.specs.Lowest.{number_code};
+    ghost use Rattle.fractions.specs.Lowest.{number_code};
     ghost use Rattle.line_groups.specs.Groups.{AreGroupsOf};
     ghost use Rattle.presolve_model.specs.Worlds.{Version as Frozen};
 

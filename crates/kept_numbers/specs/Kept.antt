@@ -1,7 +1,7 @@
 -- The number that a form of the code holds.
 use Rattle.std.specs.Prelude.{◌+◌, Option, Some, None}
-use Rattle.rational.specs.Number.{Number, zero_ℚ}
-use Rattle.rational.specs.Lowest.{ratio}
+use Rattle.fractions.specs.Number.{Number, zero_ℚ}
+use Rattle.fractions.specs.Lowest.{ratio}
 use Rattle.kept_numbers.specs.declared.kept.Form.{Form}
 use Rattle.kept_numbers.specs.declared.kept.Form.TheVariants.{Nothing, Whole, Quotient, Long}
 

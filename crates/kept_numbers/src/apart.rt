@@ -16,8 +16,8 @@ pub struct NumberApart {
 }
 
 impl Model for NumberApart {
-    ghost use Rattle.rational.specs.Number.{Number};
-    ghost use Rattle.rational.specs.Lowest.{number_code};
+    ghost use Rattle.fractions.specs.Number.{Number};
+    ghost use Rattle.fractions.specs.Lowest.{number_code};
 
     ghost Value = { Number };
 
@@ -53,8 +53,8 @@ pub struct EndApart {
 impl Model for EndApart {
     ghost use Rattle.std.specs.Prelude.{Option};
     ghost use Rattle.std.specs.Coded.{codes};
-    ghost use Rattle.rational.specs.Number.{Number};
-    ghost use Rattle.rational.specs.Lowest.{number_code};
+    ghost use Rattle.fractions.specs.Number.{Number};
+    ghost use Rattle.fractions.specs.Lowest.{number_code};
 
     ghost Value = { Option Number };
 
@@ -90,7 +90,7 @@ pub struct TermsApart {
 impl Model for TermsApart {
     ghost use Rattle.std.specs.Prelude.{List};
     ghost use Rattle.std.specs.Coded.{codes};
-    ghost use Rattle.rational.specs.Lowest.{number_code};
+    ghost use Rattle.fractions.specs.Lowest.{number_code};
     ghost use Rattle.lp_model.specs.declared.terms.Term.{Term};
 
     ghost Value = { List Term };

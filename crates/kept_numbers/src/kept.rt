@@ -1,8 +1,8 @@
 //! Numbers as records keep them: in sixteen bytes each, and those with long parts on the heap.
 
 ghost use Rattle.std.specs.Prelude.{◌≡◌, ◌^◌, ◌<◌, ◌+◌, ◌-◌, ℤ, pos, neg_ℤ, IfOk, IfSome, Some, unsigned_abs};
-ghost use Rattle.rational.specs.Lowest.{over_of, under_of, ratio};
-ghost use Rattle.rational.specs.Number.{Number};
+ghost use Rattle.fractions.specs.Lowest.{over_of, under_of, ratio};
+ghost use Rattle.fractions.specs.Number.{Number};
 ghost use Rattle.kept_numbers.specs.Kept.{number_of_form};
 
 use lp_model::fractions::ext::Ext;
@@ -32,8 +32,8 @@ pub struct KeptNumber {
 }
 
 impl Model for KeptNumber {
-    ghost use Rattle.rational.specs.Number.{Number};
-    ghost use Rattle.rational.specs.Lowest.{number_code};
+    ghost use Rattle.fractions.specs.Number.{Number};
+    ghost use Rattle.fractions.specs.Lowest.{number_code};
 
     ghost Value = { Number };
 
@@ -73,8 +73,8 @@ pub struct KeptEnd {
 impl Model for KeptEnd {
     ghost use Rattle.std.specs.Prelude.{Option};
     ghost use Rattle.std.specs.Coded.{codes};
-    ghost use Rattle.rational.specs.Number.{Number};
-    ghost use Rattle.rational.specs.Lowest.{number_code};
+    ghost use Rattle.fractions.specs.Number.{Number};
+    ghost use Rattle.fractions.specs.Lowest.{number_code};
 
     ghost Value = { Option Number };
 

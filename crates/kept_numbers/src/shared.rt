@@ -16,7 +16,7 @@ pub struct SharedTerms {
 impl Model for SharedTerms {
     ghost use Rattle.std.specs.Prelude.{List};
     ghost use Rattle.std.specs.Coded.{codes};
-    ghost use Rattle.rational.specs.Lowest.{number_code};
+    ghost use Rattle.fractions.specs.Lowest.{number_code};
     ghost use Rattle.lp_model.specs.declared.terms.Term.{Term};
 
     ghost Value = { List Term };

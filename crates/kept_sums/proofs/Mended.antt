@@ -1,6 +1,6 @@
 -- Ends of a row in two pieces, and a sum with one more at the end.
 use Rattle.std.proofs.Common.{◌≡◌, List, [], ◌∷◌, ◌++◌, Option, refl, ap, sym, subst}
-use Rattle.rational.specs.Number.{Number}
+use Rattle.fractions.specs.Number.{Number}
 use Rattle.row_spans.specs.declared.span.Span.{Span}
 use Rattle.row_spans.specs.declared.span.Extreme.{Extreme}
 use Rattle.row_spans.specs.Spans.{end_at, ends_at}

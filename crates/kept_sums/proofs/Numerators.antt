@@ -5,11 +5,11 @@ use Prim.Native.Nat.{◌∣◌}
 use native.Mathlib.Nat.{dvd_trans, dvd-mul_right, div-mul_cancel}
 use Rattle.std.proofs.Math.Nat.{mul-div_cancel_left}
 use Rattle.std.proofs.lemmas.Int.{ints, unsigned_abs-mul}
-use Rattle.rational.specs.Ring.{ring, whole, v, num, ◌:+◌, ◌:*◌}
-use Rattle.rational.specs.Number.{Number, ◌+ℚ◌, zero_ℚ, of_ℤ}
-use Rattle.rational.specs.Gcd.{gcd, gcd-IsGcd}
-use Rattle.rational.specs.Divisors.{quotient_pos}
-use Rattle.rational.specs.Lowest.{over_of, under_of, under_of_positive, lowest_under, lowest_over, ratio, ratio-is}
+use Rattle.fractions.specs.Ring.{ring, whole, v, num, ◌:+◌, ◌:*◌}
+use Rattle.fractions.specs.Number.{Number, ◌+ℚ◌, zero_ℚ, of_ℤ}
+use Rattle.fractions.specs.Gcd.{gcd, gcd-IsGcd}
+use Rattle.fractions.specs.Divisors.{quotient_pos}
+use Rattle.fractions.specs.Lowest.{over_of, under_of, under_of_positive, lowest_under, lowest_over, ratio, ratio-is}
 use Rattle.fractions.specs.declared.Past.{Past}
 use Rattle.row_spans.specs.Exact.{fits, sum_fits, if_room, exact_sum, as_end}
 use Rattle.row_spans.specs.RowSums.{all_finite, continued, plus_end, sum_from, row_sum}

@@ -6,11 +6,11 @@ use Rattle.std.proofs.Math.Nat.{mul-div_cancel_left}
 use Rattle.std.proofs.lemmas.Nat.Gcd.{le_of_dvd}
 use Rattle.std.proofs.lemmas.Int.{ints, unsigned_abs-mul}
 use mathlib.Core.Quot.{sound}
-use Rattle.rational.specs.Ring.{ring, whole, v, ◌:+◌, ◌:*◌}
-use Rattle.rational.specs.Number.{Number, Fraction, fraction, ◌+ℚ◌, lift2}
-use Rattle.rational.specs.Gcd.{gcd, gcd-IsGcd, gcd-times}
-use Rattle.rational.specs.Divisors.{gcd_pos_l, quotient_pos}
-use Rattle.rational.specs.Lowest.{over_of, under_of, under_of_positive, fraction-shown, lowest_over, lowest_under, over-is, under-is, lowest_positive}
+use Rattle.fractions.specs.Ring.{ring, whole, v, ◌:+◌, ◌:*◌}
+use Rattle.fractions.specs.Number.{Number, Fraction, fraction, ◌+ℚ◌, lift2}
+use Rattle.fractions.specs.Gcd.{gcd, gcd-IsGcd, gcd-times}
+use Rattle.fractions.specs.Divisors.{gcd_pos_l, quotient_pos}
+use Rattle.fractions.specs.Lowest.{over_of, under_of, under_of_positive, fraction-shown, lowest_over, lowest_under, over-is, under-is, lowest_positive}
 use Rattle.fractions.specs.FracWords.{StepsFit}
 use Rattle.row_spans.specs.Exact.{fits, sum_fits}
 use Rattle.row_spans.proofs.Rooms.{fits-is, sum_fits-is}

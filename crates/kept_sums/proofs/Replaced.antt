@@ -3,9 +3,9 @@ use Rattle.std.proofs.Common.{◌≡◌, ℕ, zero, suc, ◌*◌, ◌/◌, ◌<�
 use Prim.Native.Nat.{◌∣◌}
 use native.Mathlib.Nat.{dvd-mul_right}
 use mathlib.Core.Quot.{sound}
-use Rattle.rational.specs.Ring.{ring, whole, v, ◌:*◌}
-use Rattle.rational.specs.Number.{Number, ◌+ℚ◌, ◌*ℚ◌, lift2}
-use Rattle.rational.specs.Lowest.{over_of, under_of, under_of_positive, fraction-shown, ratio, ratio-is}
+use Rattle.fractions.specs.Ring.{ring, whole, v, ◌:*◌}
+use Rattle.fractions.specs.Number.{Number, ◌+ℚ◌, ◌*ℚ◌, lift2}
+use Rattle.fractions.specs.Lowest.{over_of, under_of, under_of_positive, fraction-shown, ratio, ratio-is}
 use Rattle.kept_sums.specs.CommonSums.{IsCommonSum}
 use Rattle.row_spans.specs.RowSums.{row_sum}
 use Rattle.kept_sums.specs.KeptSides.{EndIs, IsNumerator, IsWith}

@@ -4,9 +4,9 @@ use Prim.Native.Nat.{◌∣◌}
 use native.Mathlib.Nat.{dvd_trans, dvd-mul_right}
 use Rattle.std.proofs.lemmas.Nat.Gcd.{le_of_dvd}
 use Rattle.std.proofs.lemmas.Bool.{true≢false}
-use Rattle.rational.specs.Number.{Number}
-use Rattle.rational.specs.Gcd.{gcd}
-use Rattle.rational.specs.Lowest.{under_of}
+use Rattle.fractions.specs.Number.{Number}
+use Rattle.fractions.specs.Gcd.{gcd}
+use Rattle.fractions.specs.Lowest.{under_of}
 use Rattle.fractions.specs.declared.Past.{Past}
 use Rattle.row_spans.specs.Exact.{fits, if_room, as_end, exact_end}
 use Rattle.row_spans.specs.Spans.{end_at}

@@ -1,8 +1,8 @@
 -- Sums of fractions over one denominator that have room in whatever order they are made.
 use Rattle.std.specs.Prelude.{◌≡◌, ℕ, ◌+◌, ◌/◌, ◌^◌, ◌<◌, ℤ, pos, ◌+ℤ◌, ◌*ℤ◌, unsigned_abs, ⊤, Option, Some, None, List, [], ◌∷◌}
 use Prim.Native.Nat.{◌∣◌}
-use Rattle.rational.specs.Number.{Number}
-use Rattle.rational.specs.Lowest.{over_of, under_of}
+use Rattle.fractions.specs.Number.{Number}
+use Rattle.fractions.specs.Lowest.{over_of, under_of}
 use Rattle.kept_sums.specs.declared.common.CommonSum.{CommonSum}
 
 -- the numerator of a number that is written over d; an infinite term has none

@@ -1,9 +1,9 @@
 -- Sides that a row keeps with one of its columns at its other end.
 use Rattle.std.specs.Prelude.{◌≡◌, ◌⊎◌, ℕ, ℤ, ⊤, Option, Some, None, Result, Ok}
 use Prim.Native.Nat.{◌∣◌}
-use Rattle.rational.specs.Number.{Number, ◌+ℚ◌}
-use Rattle.rational.specs.Lowest.{under_of}
-use Rattle.rational.specs.Order.{◌≤ℚ◌}
+use Rattle.fractions.specs.Number.{Number, ◌+ℚ◌}
+use Rattle.fractions.specs.Lowest.{under_of}
+use Rattle.fractions.specs.Order.{◌≤ℚ◌}
 use Rattle.fractions.specs.declared.Past.{Past}
 use Rattle.row_spans.specs.declared.span.Span.{Span}
 use Rattle.row_spans.specs.declared.span.Extreme.{Extreme}

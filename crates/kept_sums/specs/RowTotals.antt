@@ -1,7 +1,7 @@
 -- What the terms of a row come to, over the least denominator that they have in common.
 use Rattle.std.specs.Prelude.{◌≡◌, ℕ, ◌+◌, ◌^◌, ◌<◌, ◌≤◌, pos, ◌+ℤ◌, unsigned_abs, Option, List, ◌++◌}
 use Prim.Native.Nat.{◌∣◌}
-use Rattle.rational.specs.Number.{Number}
+use Rattle.fractions.specs.Number.{Number}
 use Rattle.row_spans.specs.declared.span.Span.{Span}
 use Rattle.row_spans.specs.declared.span.Extreme.TheVariants.{Least, Greatest}
 use Rattle.row_spans.specs.Spans.{ends_at}

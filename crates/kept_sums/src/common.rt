@@ -1,7 +1,7 @@
 //! Sums of fractions over one denominator that have room in whatever order they are made.
 
 ghost use Rattle.std.specs.Prelude.{◌≡◌, ◌<◌, ◌^◌, ◌++◌, ◌∷◌, [], ◌+ℤ◌, neg_ℤ, List, Option, IfSome, Some, None, Ok};
-ghost use Rattle.rational.specs.Number.{Number, ◌*ℚ◌};
+ghost use Rattle.fractions.specs.Number.{Number, ◌*ℚ◌};
 ghost use Rattle.row_spans.specs.Spans.{end_at, ends_at};
 ghost use Rattle.row_spans.specs.RowSums.{row_sum};
 ghost use Rattle.kept_sums.specs.CommonSums.{HasRoom, numerator, IsCommonMultiple, IsCommonSum};

@@ -2,9 +2,9 @@
 
 ghost use Rattle.std.specs.Prelude.{◌≡◌, ◌<◌, ◌^◌, ◌++◌, ◌∷◌, ◌*ℤ◌, pos, List, Option, None, Ok, IfSome, IsTrue};
 ghost use Rattle.std.specs.Ordering.{int_cmp};
-ghost use Rattle.rational.specs.Number.{Number, ◌*ℚ◌};
-ghost use Rattle.rational.specs.Compare.{le_ℚ};
-ghost use Rattle.rational.specs.Lowest.{ratio};
+ghost use Rattle.fractions.specs.Number.{Number, ◌*ℚ◌};
+ghost use Rattle.fractions.specs.Compare.{le_ℚ};
+ghost use Rattle.fractions.specs.Lowest.{ratio};
 ghost use Rattle.row_spans.specs.RowSums.{row_sum};
 ghost use Rattle.row_spans.specs.Spans.{end_at};
 ghost use Rattle.row_spans.specs.declared.span.Span.{Span as SpanValue};

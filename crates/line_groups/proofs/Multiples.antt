@@ -3,12 +3,12 @@ use Rattle.std.proofs.Common.{◌≡◌, ◌≢◌, ℕ, true, not, ◌&&◌, na
 use Rattle.std.specs.List.{All}
 use Rattle.std.proofs.lemmas.Bool.{and_parts, eqb-true}
 use Rattle.std.proofs.lemmas.List.Elements.{All-head}
-use Rattle.rational.specs.Number.{Number, rational, zero_ℚ, ◌*ℚ◌}
-use Rattle.rational.specs.Ring.{ring, v, num, ◌:*◌}
-use Rattle.rational.specs.Compare.{eq_ℚ}
-use Rattle.rational.specs.Division.{◌/ℚ◌}
-use Rattle.rational.proofs.Comparisons.{eq_ℚ-is}
-use Rattle.rational.proofs.Signs.{over-times, times-over}
+use Rattle.fractions.specs.Number.{Number, rational, zero_ℚ, ◌*ℚ◌}
+use Rattle.fractions.specs.Ring.{ring, v, num, ◌:*◌}
+use Rattle.fractions.specs.Compare.{eq_ℚ}
+use Rattle.fractions.specs.Division.{◌/ℚ◌}
+use Rattle.fractions.proofs.Comparisons.{eq_ℚ-is}
+use Rattle.fractions.proofs.Signs.{over-times, times-over}
 use Rattle.lp_model.specs.declared.terms.Term.{Term}
 use Rattle.rule_words.specs.Entries.{has_none}
 use Rattle.rule_words.proofs.EndTestsSay.{not_true}

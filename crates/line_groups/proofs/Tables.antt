@@ -11,7 +11,7 @@ use Rattle.std.proofs.lemmas.List.Kept.{Contains-dedup_nat}
 use Rattle.std.proofs.lemmas.List.Sorted.{Contains-permutation}
 use Rattle.std.proofs.lemmas.Bool.{cases_eq, cases_lt, eq-eqb}
 use Rattle.std.proofs.lemmas.List.{length-set, get_or-set_same, get_or-set_other, get_or_append_left, get_or_push, get_or_past}
-use Rattle.rational.proofs.Totals.{at_or_off}
+use Rattle.fractions.proofs.Totals.{at_or_off}
 use Rattle.problem_model.specs.declared.part.Contents.TheVariants.{Entries, Column, Gone}
 use Rattle.problem_model.specs.declared.part.Part.{Part}
 use Rattle.problem_model.specs.Parts.{contents_of}

@@ -1,8 +1,8 @@
 -- Keys of rows and columns: where one is a multiple of another, their keys are the same.
 use Rattle.std.specs.Prelude.{ℕ, ◌+◌, ◌*◌, ◌%◌, ◌^◌, ℤ, pos, negsuc, unsigned_abs, List, [], ◌∷◌, Option, Some, None, if◌then◌else◌}
-use Rattle.rational.specs.Number.{Number, zero_ℚ}
-use Rattle.rational.specs.Division.{◌/ℚ◌}
-use Rattle.rational.specs.Lowest.{over_of, under_of}
+use Rattle.fractions.specs.Number.{Number, zero_ℚ}
+use Rattle.fractions.specs.Division.{◌/ℚ◌}
+use Rattle.fractions.specs.Lowest.{over_of, under_of}
 use Rattle.lp_model.specs.declared.terms.Term.{Term}
 use Rattle.problem_model.specs.declared.part.Contents.{Contents}
 use Rattle.problem_model.specs.declared.part.Contents.TheVariants.{Gone, Entries, Sides, Column, Bounds, Semi}

@@ -2,9 +2,9 @@
 
 ghost use Rattle.std.specs.Prelude.{◌≡◌, ◌≢◌, ◌%◌, ◌^◌, ◌∷◌, List, true};
 ghost use Rattle.std.specs.List.{All};
-ghost use Rattle.rational.specs.Number.{zero_ℚ};
-ghost use Rattle.rational.specs.Lowest.{over_of, under_of};
-ghost use Rattle.rational.specs.Division.{◌/ℚ◌};
+ghost use Rattle.fractions.specs.Number.{zero_ℚ};
+ghost use Rattle.fractions.specs.Lowest.{over_of, under_of};
+ghost use Rattle.fractions.specs.Division.{◌/ℚ◌};
 ghost use Rattle.lp_model.specs.declared.terms.Term.{Term as ATerm};
 ghost use Rattle.problem_model.specs.Matrices.{live_only};
 ghost use Rattle.problem_model.specs.declared.part.Part.TheVariants as part;

@@ -1,7 +1,7 @@
 -- A column breaks one limit, and then it does not keep them.
 use Rattle.std.proofs.Common.{rules, ◌≡◌, ◌≢◌, ◌⊎◌, inl, inr, refl, Bool, true, false, Option, Some, None}
-use Rattle.rational.specs.Number.{Number, zero_ℚ}
-use Rattle.rational.specs.Ends.{AtLeast, AtMost, Between}
+use Rattle.fractions.specs.Number.{Number, zero_ℚ}
+use Rattle.fractions.specs.Ends.{AtLeast, AtMost, Between}
 use Rattle.lp_model.specs.Gaps.{Gap, OffGap, Clears, gap_of, reach_lower, reach_upper}
 use Rattle.lp_check.specs.declared.verdicts.Limit.{Limit}
 use Rattle.lp_check.specs.declared.verdicts.Limit.TheVariants.{Below, Above, NotWhole}

@@ -1,8 +1,8 @@
 -- There is one verdict on a point with duals.
 use Rattle.std.proofs.Common.{rules, ◌≡◌, ◌⊎◌, inl, inr, ℕ, ◌<◌, ◌≤◌, Option, sym, ap, ◌∙◌, subst, arith}
 use Rattle.std.proofs.lemmas.Bool.{cases_lt}
-use Rattle.rational.specs.Number.{Number}
-use Rattle.rational.specs.Order.{◌<ℚ◌, <ℚ-not, <ℚ-≤ℚ}
+use Rattle.fractions.specs.Number.{Number}
+use Rattle.fractions.specs.Order.{◌<ℚ◌, <ℚ-not, <ℚ-≤ℚ}
 use Rattle.lp_model.specs.declared.program.Sense.{Sense}
 use Rattle.lp_model.specs.declared.program.Sense.TheVariants.{Min, Max}
 use Rattle.lp_model.specs.LinearProgram.{LinearProgram, value_at}

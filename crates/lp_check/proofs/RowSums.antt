@@ -2,8 +2,8 @@
 use Rattle.std.proofs.Common.{◌≡◌, ℕ, ◌+◌, ◌<◌, List, ◌++◌, length, map, take, drop, get_or, refl, sym, ap, ◌∙◌, subst, arith}
 use Rattle.std.proofs.lemmas.List.{get_or-map, length-map}
 use Rattle.std.proofs.Math.Seq.{take-append_seam}
-use Rattle.rational.specs.Number.{Number}
-use Rattle.rational.specs.Total.{total}
+use Rattle.fractions.specs.Number.{Number}
+use Rattle.fractions.specs.Total.{total}
 use Rattle.lp_model.specs.Vectors.{Vector}
 use Rattle.lp_model.specs.Sparse.{dense}
 use Rattle.lp_model.specs.ProgramData.{ProgramData}

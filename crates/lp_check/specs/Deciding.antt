@@ -1,6 +1,6 @@
 -- Which item of a program decides on a point.
 use Rattle.std.specs.Prelude.{◌≡◌, ℕ, ◌<◌, false}
-use Rattle.rational.specs.Number.{Number}
+use Rattle.fractions.specs.Number.{Number}
 use Rattle.lp_model.specs.Vectors.{Vector}
 use Rattle.lp_model.specs.LinearProgram.{LinearProgram, value_at, cost_at}
 use Rattle.lp_model.specs.Room.{ValueFits, CostFits}

@@ -1,9 +1,9 @@
 -- The limits of one value.
 use Rattle.std.specs.Prelude.{◌≡◌, ◌≢◌, Bool, IsTrue, Option, Some, None}
-use Rattle.rational.specs.Number.{Number, zero_ℚ}
-use Rattle.rational.specs.Order.{◌<ℚ◌}
-use Rattle.rational.specs.Ends.{AtLeast, Between}
-use Rattle.rational.specs.Floor.{IsWhole}
+use Rattle.fractions.specs.Number.{Number, zero_ℚ}
+use Rattle.fractions.specs.Order.{◌<ℚ◌}
+use Rattle.fractions.specs.Ends.{AtLeast, Between}
+use Rattle.fractions.specs.Floor.{IsWhole}
 use Rattle.lp_check.specs.declared.verdicts.Limit.{Limit}
 use Rattle.lp_check.specs.declared.verdicts.Limit.TheVariants.{Below, Above, NotWhole}
 use Rattle.lp_model.specs.Gaps.{Gap, Lies}

@@ -1,7 +1,7 @@
 -- The end that the sign of a multiplier asks for.
 use Rattle.std.specs.Prelude.{◌≡◌, Option, Some}
-use Rattle.rational.specs.Number.{Number, zero_ℚ}
-use Rattle.rational.specs.Order.{◌<ℚ◌}
+use Rattle.fractions.specs.Number.{Number, zero_ℚ}
+use Rattle.fractions.specs.Order.{◌<ℚ◌}
 use Rattle.lp_model.specs.declared.program.Sense.{Sense}
 use Rattle.lp_model.specs.declared.program.Sense.TheVariants.{Min, Max}
 use Rattle.lp_check.specs.declared.pair_verdicts.End.{End}

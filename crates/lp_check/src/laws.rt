@@ -1,7 +1,7 @@
 //! What a verdict says of a point, and of a point with duals. The functions do nothing when they run: each states a law, and its check proves it.
 
 ghost use Rattle.std.specs.Prelude.{◌≡◌, ℕ};
-ghost use Rattle.rational.specs.Number.{Number};
+ghost use Rattle.fractions.specs.Number.{Number};
 ghost use Rattle.lp_model.specs.declared.program.Sense.{Sense};
 ghost use Rattle.lp_model.specs.Vectors.{Vector};
 ghost use Rattle.lp_model.specs.LinearProgram.{LinearProgram, cost_at, Feasible};

@@ -1,9 +1,9 @@
 //! The limits of one value.
 
 ghost use Rattle.std.specs.Prelude.{◌≡◌, ◌↔◌, IsTrue, Some, MatchOption};
-ghost use Rattle.rational.specs.Order.{◌<ℚ◌};
-ghost use Rattle.rational.specs.Ends.{AtLeast, AtMost};
-ghost use Rattle.rational.specs.Floor.{IsWhole};
+ghost use Rattle.fractions.specs.Order.{◌<ℚ◌};
+ghost use Rattle.fractions.specs.Ends.{AtLeast, AtMost};
+ghost use Rattle.fractions.specs.Floor.{IsWhole};
 ghost use Rattle.lp_check.specs.Limits.{Keeps, Breaks};
 
 use crate::verdicts::Limit;

@@ -1,14 +1,14 @@
 -- A column fixed at its best place.
 use Rattle.std.proofs.Common.{◌≡◌, ℕ, ◌<◌, pos, sym, refl, ap, [], ◌∷◌, subst, Option, Some, None, IsTrue}
-use Rattle.rational.specs.Ring.{ring, v, num, ◌:+◌, ◌:-◌, ◌:*◌}
-use Rattle.rational.specs.Number.{Number, rational, zero_ℚ, one_ℚ, ◌+ℚ◌, ◌-ℚ◌, ◌*ℚ◌}
-use Rattle.rational.specs.Order.{◌≤ℚ◌, ◌<ℚ◌, ≤ℚ_refl, ≤ℚ_antisym, ≤ℚ-by}
-use Rattle.rational.specs.Linear.{linear, fact, clash}
-use Rattle.rational.specs.Floor.{IsWhole}
-use Rattle.rational.specs.Total.{total, put}
-use Rattle.rational.specs.Ends.{Between}
-use Rattle.rational.proofs.Totals.{put-same, put-other, at_or_off, total-*, total-put_point}
-use Rattle.rational.proofs.Signs.{≤ℚ-cancel, ≤ℚ-cancel_down}
+use Rattle.fractions.specs.Ring.{ring, v, num, ◌:+◌, ◌:-◌, ◌:*◌}
+use Rattle.fractions.specs.Number.{Number, rational, zero_ℚ, one_ℚ, ◌+ℚ◌, ◌-ℚ◌, ◌*ℚ◌}
+use Rattle.fractions.specs.Order.{◌≤ℚ◌, ◌<ℚ◌, ≤ℚ_refl, ≤ℚ_antisym, ≤ℚ-by}
+use Rattle.fractions.specs.Linear.{linear, fact, clash}
+use Rattle.fractions.specs.Floor.{IsWhole}
+use Rattle.fractions.specs.Total.{total, put}
+use Rattle.fractions.specs.Ends.{Between}
+use Rattle.fractions.proofs.Totals.{put-same, put-other, at_or_off, total-*, total-put_point}
+use Rattle.fractions.proofs.Signs.{≤ℚ-cancel, ≤ℚ-cancel_down}
 use Rattle.lp_model.specs.declared.program.Sense.TheVariants.{Min}
 use Rattle.lp_model.specs.Vectors.{Vector}
 use Rattle.lp_model.specs.LinearProgram.{LinearProgram, value_at, cost_at, Feasible}

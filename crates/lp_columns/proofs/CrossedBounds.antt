@@ -1,8 +1,8 @@
 -- Crossed bounds.
 use Rattle.std.proofs.Common.{ℕ, Option, Some, None}
-use Rattle.rational.specs.Number.{Number}
-use Rattle.rational.specs.Order.{≤ℚ_trans, <ℚ-not}
-use Rattle.rational.specs.Ends.{Between}
+use Rattle.fractions.specs.Number.{Number}
+use Rattle.fractions.specs.Order.{≤ℚ_trans, <ℚ-not}
+use Rattle.fractions.specs.Ends.{Between}
 use Rattle.lp_model.specs.LinearProgram.{LinearProgram}
 use Rattle.lp_model.specs.Verdicts.{NoPoint}
 use Rattle.lp_theory.specs.Crossed.{AreCrossed}

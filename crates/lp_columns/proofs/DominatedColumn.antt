@@ -1,15 +1,15 @@
 -- A dominated column stays at its lower bound.
 use Rattle.std.proofs.Common.{◌≡◌, ◌≢◌, ℕ, ◌<◌, pos, sym, refl, ap, ap₂, ◌∙◌, [], ◌∷◌, inl, inr, subst, Option, Some, None, IsTrue}
-use Rattle.rational.specs.Ring.{ring, v, num, ◌:+◌, ◌:-◌, ◌:*◌}
-use Rattle.rational.specs.Number.{Number, rational, zero_ℚ, ◌+ℚ◌, ◌-ℚ◌, ◌*ℚ◌, +ℚ_comm}
-use Rattle.rational.specs.Order.{◌≤ℚ◌, ◌<ℚ◌, ≤ℚ_refl, ≤ℚ_antisym, ≤ℚ_cases, <ℚ-≤ℚ, <ℚ-not}
-use Rattle.rational.specs.Linear.{linear, fact}
-use Rattle.rational.specs.Floor.{IsWhole}
-use Rattle.rational.specs.Total.{total, put}
-use Rattle.rational.specs.Ends.{AtLeast, AtMost, Between}
-use Rattle.rational.proofs.Floors.{IsWhole-+ℚ, IsWhole-neg_ℚ}
-use Rattle.rational.proofs.Totals.{put-same, put-other, at_or_off, total_same, total-+, total-put_point}
-use Rattle.rational.proofs.Signs.{≤ℚ-same, *ℚ_pos, *ℚ_pos_neg, *ℚ_neg}
+use Rattle.fractions.specs.Ring.{ring, v, num, ◌:+◌, ◌:-◌, ◌:*◌}
+use Rattle.fractions.specs.Number.{Number, rational, zero_ℚ, ◌+ℚ◌, ◌-ℚ◌, ◌*ℚ◌, +ℚ_comm}
+use Rattle.fractions.specs.Order.{◌≤ℚ◌, ◌<ℚ◌, ≤ℚ_refl, ≤ℚ_antisym, ≤ℚ_cases, <ℚ-≤ℚ, <ℚ-not}
+use Rattle.fractions.specs.Linear.{linear, fact}
+use Rattle.fractions.specs.Floor.{IsWhole}
+use Rattle.fractions.specs.Total.{total, put}
+use Rattle.fractions.specs.Ends.{AtLeast, AtMost, Between}
+use Rattle.fractions.proofs.Floors.{IsWhole-+ℚ, IsWhole-neg_ℚ}
+use Rattle.fractions.proofs.Totals.{put-same, put-other, at_or_off, total_same, total-+, total-put_point}
+use Rattle.fractions.proofs.Signs.{≤ℚ-same, *ℚ_pos, *ℚ_pos_neg, *ℚ_neg}
 use Rattle.lp_model.specs.declared.program.Sense.TheVariants.{Min}
 use Rattle.lp_model.specs.Vectors.{Vector}
 use Rattle.lp_model.specs.LinearProgram.{LinearProgram, value_at, cost_at, Feasible}

@@ -1,13 +1,13 @@
 -- A column whose bounds are one number.
 use Rattle.std.proofs.Common.{◌≡◌, ◌≢◌, ℕ, ◌<◌, sym, refl, ap, ap₂, ◌∙◌, [], ◌∷◌, subst, Option, Some, None, false, IsTrue}
-use Rattle.rational.specs.Ring.{ring, v, ◌:+◌, ◌:-◌}
-use Rattle.rational.specs.Number.{Number, rational, zero_ℚ, ◌+ℚ◌, ◌-ℚ◌, ◌*ℚ◌}
-use Rattle.rational.specs.Order.{◌<ℚ◌, ≤ℚ_refl}
-use Rattle.rational.specs.Floor.{IsWhole}
-use Rattle.rational.specs.Total.{total, put}
-use Rattle.rational.specs.Ends.{Between, less}
-use Rattle.rational.proofs.Totals.{put-same, put-other, at_or_off, total_same, total-put_both}
-use Rattle.rational.proofs.EndLaws.{less-low, less-high}
+use Rattle.fractions.specs.Ring.{ring, v, ◌:+◌, ◌:-◌}
+use Rattle.fractions.specs.Number.{Number, rational, zero_ℚ, ◌+ℚ◌, ◌-ℚ◌, ◌*ℚ◌}
+use Rattle.fractions.specs.Order.{◌<ℚ◌, ≤ℚ_refl}
+use Rattle.fractions.specs.Floor.{IsWhole}
+use Rattle.fractions.specs.Total.{total, put}
+use Rattle.fractions.specs.Ends.{Between, less}
+use Rattle.fractions.proofs.Totals.{put-same, put-other, at_or_off, total_same, total-put_both}
+use Rattle.fractions.proofs.EndLaws.{less-low, less-high}
 use Rattle.lp_model.specs.declared.program.Sense.{Sense}
 use Rattle.lp_model.specs.declared.program.Sense.TheVariants.{Min}
 use Rattle.lp_model.specs.Vectors.{Vector}

@@ -1,21 +1,21 @@
 -- Parallel columns: points.
 use Rattle.std.proofs.Common.{◌≡◌, ◌≢◌, ℕ, ◌<◌, pos, sym, refl, ap, ap₂, ◌∙◌, [], ◌∷◌, inl, inr, subst, Option, Some, None, true, false, IsTrue}
 use Rattle.std.specs.Prelude.{IfSome, if◌then◌else◌}
-use Rattle.rational.specs.Ring.{ring, v, num, ◌:+◌, ◌:-◌, ◌:*◌, inv}
-use Rattle.rational.specs.Number.{Number, rational, zero_ℚ, one_ℚ, ◌+ℚ◌, ◌-ℚ◌, ◌*ℚ◌}
-use Rattle.rational.specs.Linear.{linear, fact}
-use Rattle.rational.specs.Floor.{IsWhole}
-use Rattle.rational.specs.Division.{◌/ℚ◌}
-use Rattle.rational.specs.Total.{total, put}
-use Rattle.rational.specs.Ends.{AtLeast, AtMost, Between, plus, minus_ends, meet_low, meet_high, over}
-use Rattle.rational.proofs.Floors.{IsWhole-+ℚ, IsWhole-*ℚ, IsWhole-neg_ℚ}
-use Rattle.rational.proofs.Totals.{put-same, put-other, at_or_off, total-put_point, total-put_both, total-put_factor}
-use Rattle.rational.proofs.Signs.{times-over}
+use Rattle.fractions.specs.Ring.{ring, v, num, ◌:+◌, ◌:-◌, ◌:*◌, inv}
+use Rattle.fractions.specs.Number.{Number, rational, zero_ℚ, one_ℚ, ◌+ℚ◌, ◌-ℚ◌, ◌*ℚ◌}
+use Rattle.fractions.specs.Linear.{linear, fact}
+use Rattle.fractions.specs.Floor.{IsWhole}
+use Rattle.fractions.specs.Division.{◌/ℚ◌}
+use Rattle.fractions.specs.Total.{total, put}
+use Rattle.fractions.specs.Ends.{AtLeast, AtMost, Between, plus, minus_ends, meet_low, meet_high, over}
+use Rattle.fractions.proofs.Floors.{IsWhole-+ℚ, IsWhole-*ℚ, IsWhole-neg_ℚ}
+use Rattle.fractions.proofs.Totals.{put-same, put-other, at_or_off, total-put_point, total-put_both, total-put_factor}
+use Rattle.fractions.proofs.Signs.{times-over}
 use Rattle.lp_model.specs.declared.program.Sense.{Sense}
 use Rattle.lp_model.specs.Vectors.{Vector}
 use Rattle.lp_model.specs.LinearProgram.{LinearProgram, cost_at, Feasible}
 use Rattle.lp_model.specs.Reductions.{Reduces}
-use Rattle.rational.specs.Compare.{lt_ℚ}
+use Rattle.fractions.specs.Compare.{lt_ℚ}
 use Rattle.lp_theory.specs.Activities.{least_term, greatest_term}
 use Rattle.lp_theory.specs.MetEnds.{lower_over, upper_over}
 use Rattle.lp_theory.specs.Nearest.{InOrder}

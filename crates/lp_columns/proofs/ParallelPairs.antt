@@ -1,13 +1,13 @@
 -- Parallel columns: pairs.
 use Rattle.std.proofs.Common.{◌≡◌, ◌≢◌, ℕ, ◌<◌, sym, refl, ap, ap₂, ◌∙◌, [], ◌∷◌, inl, inr, subst, Option, Some, None, false}
-use Rattle.rational.specs.Ring.{ring, v, ◌:+◌, ◌:-◌, ◌:*◌}
-use Rattle.rational.specs.Number.{Number, rational, zero_ℚ, ◌+ℚ◌, ◌-ℚ◌, ◌*ℚ◌}
-use Rattle.rational.specs.Order.{◌≤ℚ◌, ◌<ℚ◌, ≤ℚ_antisym, ≤ℚ_cases, <ℚ-≤ℚ, <ℚ-not}
-use Rattle.rational.specs.Linear.{linear, fact}
-use Rattle.rational.specs.Total.{total, put}
-use Rattle.rational.specs.Ends.{AtLeast, AtMost, Between, plus}
-use Rattle.rational.proofs.Totals.{put-same, put-other, at_or_off, total_same, total-*}
-use Rattle.rational.proofs.Signs.{≤ℚ-same}
+use Rattle.fractions.specs.Ring.{ring, v, ◌:+◌, ◌:-◌, ◌:*◌}
+use Rattle.fractions.specs.Number.{Number, rational, zero_ℚ, ◌+ℚ◌, ◌-ℚ◌, ◌*ℚ◌}
+use Rattle.fractions.specs.Order.{◌≤ℚ◌, ◌<ℚ◌, ≤ℚ_antisym, ≤ℚ_cases, <ℚ-≤ℚ, <ℚ-not}
+use Rattle.fractions.specs.Linear.{linear, fact}
+use Rattle.fractions.specs.Total.{total, put}
+use Rattle.fractions.specs.Ends.{AtLeast, AtMost, Between, plus}
+use Rattle.fractions.proofs.Totals.{put-same, put-other, at_or_off, total_same, total-*}
+use Rattle.fractions.proofs.Signs.{≤ℚ-same}
 use Rattle.lp_model.specs.declared.program.Sense.TheVariants.{Min}
 use Rattle.lp_model.specs.Vectors.{Vector}
 use Rattle.lp_model.specs.LinearProgram.{LinearProgram}

@@ -1,11 +1,11 @@
 -- The bounds of a whole column, rounded.
 use Rattle.std.proofs.Common.{ℕ, sym, subst, Option, Some, None}
-use Rattle.rational.specs.Number.{Number, zero_ℚ, of_ℤ}
-use Rattle.rational.specs.Order.{◌≤ℚ◌, ≤ℚ_trans}
-use Rattle.rational.specs.Floor.{IsWhole, floor_of, ceil_of}
-use Rattle.rational.specs.Ends.{AtLeast, AtMost, Between}
-use Rattle.rational.proofs.Totals.{put-same}
-use Rattle.rational.proofs.Floors.{floor_of-≤, floor_of_greatest, ≤-ceil_of, ceil_of_least, of_ℤ-≤}
+use Rattle.fractions.specs.Number.{Number, zero_ℚ, of_ℤ}
+use Rattle.fractions.specs.Order.{◌≤ℚ◌, ≤ℚ_trans}
+use Rattle.fractions.specs.Floor.{IsWhole, floor_of, ceil_of}
+use Rattle.fractions.specs.Ends.{AtLeast, AtMost, Between}
+use Rattle.fractions.proofs.Totals.{put-same}
+use Rattle.fractions.proofs.Floors.{floor_of-≤, floor_of_greatest, ≤-ceil_of, ceil_of_least, of_ℤ-≤}
 use Rattle.lp_model.specs.declared.program.Sense.{Sense}
 use Rattle.lp_model.specs.LinearProgram.{LinearProgram}
 use Rattle.lp_model.specs.Reductions.{Reduces}

@@ -1,12 +1,12 @@
 -- What a move leaves between its ends, and the signs of factors.
 use Rattle.std.proofs.Common.{◌≡◌, ℕ, ◌<◌, pos, sym, refl, ap, ◌∙◌, subst, [], ◌∷◌, inl, inr, Option, Some, None}
-use Rattle.rational.specs.Ring.{ring, v, num, ◌:+◌, ◌:-◌, ◌:*◌}
-use Rattle.rational.specs.Number.{Number, rational, zero_ℚ, ◌+ℚ◌, ◌-ℚ◌, ◌*ℚ◌, *ℚ_comm}
-use Rattle.rational.specs.Order.{◌≤ℚ◌, ◌<ℚ◌, ≤ℚ_trans, ≤ℚ_antisym, ≤ℚ-by, ≤ℚ_cases, <ℚ-≤ℚ, <ℚ-not}
-use Rattle.rational.specs.Ends.{AtLeast, AtMost, Between}
-use Rattle.rational.specs.Total.{total}
-use Rattle.rational.proofs.Totals.{total-zero, total-≤}
-use Rattle.rational.proofs.Signs.{≤ℚ-same, *ℚ_pos, *ℚ_pos_neg, *ℚ_neg}
+use Rattle.fractions.specs.Ring.{ring, v, num, ◌:+◌, ◌:-◌, ◌:*◌}
+use Rattle.fractions.specs.Number.{Number, rational, zero_ℚ, ◌+ℚ◌, ◌-ℚ◌, ◌*ℚ◌, *ℚ_comm}
+use Rattle.fractions.specs.Order.{◌≤ℚ◌, ◌<ℚ◌, ≤ℚ_trans, ≤ℚ_antisym, ≤ℚ-by, ≤ℚ_cases, <ℚ-≤ℚ, <ℚ-not}
+use Rattle.fractions.specs.Ends.{AtLeast, AtMost, Between}
+use Rattle.fractions.specs.Total.{total}
+use Rattle.fractions.proofs.Totals.{total-zero, total-≤}
+use Rattle.fractions.proofs.Signs.{≤ℚ-same, *ℚ_pos, *ℚ_pos_neg, *ℚ_neg}
 use Rattle.lp_theory.proofs.Pairs.{below_if_not}
 
 pub more_than : (y d : Number) → zero_ℚ ≤ℚ d → y ≤ℚ (y +ℚ d)

@@ -1,18 +1,18 @@
 -- A column that can go on for ever.
 use Rattle.std.proofs.Common.{◌≡◌, ℕ, ◌<◌, pos, sym, refl, ◌∙◌, [], ◌∷◌, inl, inr, subst, None, IsTrue}
-use Rattle.rational.specs.Ring.{ring, v, num, ◌:+◌, ◌:-◌, ◌:*◌, inv}
-use Rattle.rational.specs.Number.{Number, rational, zero_ℚ, one_ℚ, ◌+ℚ◌, ◌-ℚ◌, ◌*ℚ◌, neg_ℚ, of_ℤ}
-use Rattle.rational.specs.Order.{◌≤ℚ◌, ◌<ℚ◌, ≤ℚ_trans, <ℚ-≤ℚ, <ℚ-not}
-use Rattle.rational.specs.Linear.{linear, fact, clash}
-use Rattle.rational.specs.Division.{◌/ℚ◌}
-use Rattle.rational.specs.Floor.{IsWhole, ceil_of}
-use Rattle.rational.specs.MinMax.{max_ℚ}
-use Rattle.rational.specs.Total.{put}
-use Rattle.rational.specs.Ends.{Between}
-use Rattle.rational.proofs.Floors.{≤-ceil_of, IsWhole-+ℚ, IsWhole-*ℚ, IsWhole-neg_ℚ}
-use Rattle.rational.proofs.MinMaxLaws.{≤ℚ-max_ℚ_left, ≤ℚ-max_ℚ_right}
-use Rattle.rational.proofs.Signs.{≤ℚ-*ℚ_down, over-times, <ℚ-≢'}
-use Rattle.rational.proofs.Totals.{put-same, put-other, at_or_off}
+use Rattle.fractions.specs.Ring.{ring, v, num, ◌:+◌, ◌:-◌, ◌:*◌, inv}
+use Rattle.fractions.specs.Number.{Number, rational, zero_ℚ, one_ℚ, ◌+ℚ◌, ◌-ℚ◌, ◌*ℚ◌, neg_ℚ, of_ℤ}
+use Rattle.fractions.specs.Order.{◌≤ℚ◌, ◌<ℚ◌, ≤ℚ_trans, <ℚ-≤ℚ, <ℚ-not}
+use Rattle.fractions.specs.Linear.{linear, fact, clash}
+use Rattle.fractions.specs.Division.{◌/ℚ◌}
+use Rattle.fractions.specs.Floor.{IsWhole, ceil_of}
+use Rattle.fractions.specs.MinMax.{max_ℚ}
+use Rattle.fractions.specs.Total.{put}
+use Rattle.fractions.specs.Ends.{Between}
+use Rattle.fractions.proofs.Floors.{≤-ceil_of, IsWhole-+ℚ, IsWhole-*ℚ, IsWhole-neg_ℚ}
+use Rattle.fractions.proofs.MinMaxLaws.{≤ℚ-max_ℚ_left, ≤ℚ-max_ℚ_right}
+use Rattle.fractions.proofs.Signs.{≤ℚ-*ℚ_down, over-times, <ℚ-≢'}
+use Rattle.fractions.proofs.Totals.{put-same, put-other, at_or_off}
 use Rattle.lp_model.specs.declared.program.Sense.TheVariants.{Min}
 use Rattle.lp_model.specs.Vectors.{Vector}
 use Rattle.lp_model.specs.LinearProgram.{LinearProgram, value_at, cost_at, Feasible}

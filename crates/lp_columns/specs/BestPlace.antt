@@ -1,9 +1,9 @@
 -- A column fixed at its best place: no other number between its bounds costs less or helps a row.
 use Rattle.std.specs.Prelude.{◌≡◌, ℕ, ◌<◌, IsTrue, Some, None}
-use Rattle.rational.specs.Number.{Number, zero_ℚ, ◌+ℚ◌, ◌-ℚ◌, ◌*ℚ◌}
-use Rattle.rational.specs.Order.{◌≤ℚ◌}
-use Rattle.rational.specs.Ends.{Between}
-use Rattle.rational.specs.Floor.{IsWhole}
+use Rattle.fractions.specs.Number.{Number, zero_ℚ, ◌+ℚ◌, ◌-ℚ◌, ◌*ℚ◌}
+use Rattle.fractions.specs.Order.{◌≤ℚ◌}
+use Rattle.fractions.specs.Ends.{Between}
+use Rattle.fractions.specs.Floor.{IsWhole}
 use Rattle.lp_model.specs.LinearProgram.{LinearProgram}
 use Rattle.lp_model.specs.Edits.{with_bounds}
 

@@ -1,9 +1,9 @@
 -- K11: a column k that another column j without an upper bound can stand in for, no dearer and no worse in any row, stays at its
 -- lower bound.
 use Rattle.std.specs.Prelude.{◌≡◌, ◌≢◌, ℕ, ◌<◌, IsTrue, Some, None}
-use Rattle.rational.specs.Number.{Number}
-use Rattle.rational.specs.Order.{◌≤ℚ◌, ◌<ℚ◌}
-use Rattle.rational.specs.Floor.{IsWhole}
+use Rattle.fractions.specs.Number.{Number}
+use Rattle.fractions.specs.Order.{◌≤ℚ◌, ◌<ℚ◌}
+use Rattle.fractions.specs.Floor.{IsWhole}
 use Rattle.lp_model.specs.LinearProgram.{LinearProgram}
 use Rattle.lp_columns.specs.BestPlace.{column_fixed_at}
 

@@ -1,9 +1,9 @@
 -- K17: a column without entries is fixed where its cost is best.
 use Rattle.std.specs.Prelude.{◌≡◌, ℕ, ◌<◌, IsTrue, if◌then◌else◌, Option, Some, None}
-use Rattle.rational.specs.Number.{Number, zero_ℚ}
-use Rattle.rational.specs.Order.{◌<ℚ◌}
-use Rattle.rational.specs.Compare.{lt_ℚ}
-use Rattle.rational.specs.Floor.{IsWhole}
+use Rattle.fractions.specs.Number.{Number, zero_ℚ}
+use Rattle.fractions.specs.Order.{◌<ℚ◌}
+use Rattle.fractions.specs.Compare.{lt_ℚ}
+use Rattle.fractions.specs.Floor.{IsWhole}
 use Rattle.lp_model.specs.LinearProgram.{LinearProgram}
 use Rattle.lp_columns.specs.BestPlace.{column_fixed_at}
 

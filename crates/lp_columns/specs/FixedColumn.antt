@@ -1,8 +1,8 @@
 -- K3: a column whose bounds are one number v is deleted, with x_j = v.
 use Rattle.std.specs.Prelude.{◌≡◌, ℕ, ◌<◌, IsTrue, Some, None}
-use Rattle.rational.specs.Number.{Number, ◌*ℚ◌}
-use Rattle.rational.specs.Floor.{IsWhole}
-use Rattle.rational.specs.Total.{put}
+use Rattle.fractions.specs.Number.{Number, ◌*ℚ◌}
+use Rattle.fractions.specs.Floor.{IsWhole}
+use Rattle.fractions.specs.Total.{put}
 use Rattle.lp_model.specs.Vectors.{Vector}
 use Rattle.lp_model.specs.LinearProgram.{LinearProgram}
 use Rattle.lp_model.specs.Optimality.{reduced_cost}

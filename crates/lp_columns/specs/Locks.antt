@@ -1,7 +1,7 @@
 -- The rows that lock a column: those that a move of the column down, or up, can bring out of their sides.
 use Rattle.std.specs.Prelude.{◌≡◌, ℕ, ◌<◌, None}
-use Rattle.rational.specs.Number.{zero_ℚ}
-use Rattle.rational.specs.Order.{◌<ℚ◌}
+use Rattle.fractions.specs.Number.{zero_ℚ}
+use Rattle.fractions.specs.Order.{◌<ℚ◌}
 use Rattle.lp_model.specs.LinearProgram.{LinearProgram}
 
 -- no row locks column j downwards: each entry a > 0 stands in a row without a lower side, each a < 0 in one without an upper side

@@ -1,9 +1,9 @@
 -- K16: a column j that is s times another column k, in its entries and in its cost, joins it.
 use Rattle.std.specs.Prelude.{◌≡◌, ◌≢◌, ◌⊎◌, ℕ, ◌<◌, false, IsTrue, Option, Some, None, IfSome}
-use Rattle.rational.specs.Number.{Number, zero_ℚ, one_ℚ, ◌-ℚ◌, ◌*ℚ◌, neg_ℚ}
-use Rattle.rational.specs.Floor.{IsWhole}
-use Rattle.rational.specs.Total.{put}
-use Rattle.rational.specs.Ends.{plus, minus_ends, meet_low, meet_high}
+use Rattle.fractions.specs.Number.{Number, zero_ℚ, one_ℚ, ◌-ℚ◌, ◌*ℚ◌, neg_ℚ}
+use Rattle.fractions.specs.Floor.{IsWhole}
+use Rattle.fractions.specs.Total.{put}
+use Rattle.fractions.specs.Ends.{plus, minus_ends, meet_low, meet_high}
 use Rattle.lp_model.specs.Vectors.{Vector}
 use Rattle.lp_model.specs.LinearProgram.{LinearProgram}
 use Rattle.lp_model.specs.Reductions.{Priced}

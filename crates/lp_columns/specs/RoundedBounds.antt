@@ -1,7 +1,7 @@
 -- K4: the bounds of a whole column become whole.
 use Rattle.std.specs.Prelude.{ℕ, ◌<◌, IsTrue, Option, Some, None}
-use Rattle.rational.specs.Number.{Number, of_ℤ}
-use Rattle.rational.specs.Floor.{floor_of, ceil_of}
+use Rattle.fractions.specs.Number.{Number, of_ℤ}
+use Rattle.fractions.specs.Floor.{floor_of, ceil_of}
 use Rattle.lp_model.specs.LinearProgram.{LinearProgram}
 use Rattle.lp_model.specs.Edits.{with_bounds}
 

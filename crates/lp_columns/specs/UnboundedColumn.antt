@@ -1,7 +1,7 @@
 -- V3: a column without a bound in the direction in which it costs less, that no row locks there, lets the cost pass every number.
 use Rattle.std.specs.Prelude.{◌≡◌, ◌⊎◌, ℕ, ◌<◌, None}
-use Rattle.rational.specs.Number.{zero_ℚ}
-use Rattle.rational.specs.Order.{◌<ℚ◌}
+use Rattle.fractions.specs.Number.{zero_ℚ}
+use Rattle.fractions.specs.Order.{◌<ℚ◌}
 use Rattle.lp_model.specs.LinearProgram.{LinearProgram}
 use Rattle.lp_columns.specs.Locks.{HasNoDownLock, HasNoUpLock}
 

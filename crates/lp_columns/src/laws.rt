@@ -1,7 +1,7 @@
 //! Each reduction keeps what it has to. The functions do nothing when they run: each states a law, and its check proves it.
 
 ghost use Rattle.std.specs.Prelude.{ℕ};
-ghost use Rattle.rational.specs.Number.{Number, zero_ℚ};
+ghost use Rattle.fractions.specs.Number.{Number, zero_ℚ};
 ghost use Rattle.lp_model.specs.declared.program.Sense.{Sense};
 ghost use Rattle.lp_model.specs.declared.program.Sense.TheVariants.{Min};
 ghost use Rattle.lp_model.specs.LinearProgram.{LinearProgram};

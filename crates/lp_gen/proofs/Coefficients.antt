@@ -5,9 +5,9 @@ use Rattle.std.specs.Option.{option_map}
 use Rattle.std.specs.List.{range_with_len, cons_option, sum}
 use Rattle.std.proofs.lemmas.Bool.{cases_eq}
 use Rattle.std.proofs.lemmas.List.FromFn.{sum_by-map-range_with_len_more}
-use Rattle.rational.specs.Number.{zero_ℚ, ◌+ℚ◌, of_ℤ-+ℤ}
-use Rattle.rational.specs.Total.{total, put}
-use Rattle.rational.proofs.Totals.{put-same, put-other}
+use Rattle.fractions.specs.Number.{zero_ℚ, ◌+ℚ◌, of_ℤ-+ℤ}
+use Rattle.fractions.specs.Total.{total, put}
+use Rattle.fractions.proofs.Totals.{put-same, put-other}
 use Rattle.lp_model.specs.Sparse.{dense}
 use Rattle.lp_model.specs.Vectors.{Vector}
 use Rattle.lp_gen.specs.Columns.{whole, term}

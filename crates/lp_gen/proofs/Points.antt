@@ -3,15 +3,15 @@ use Rattle.std.proofs.Common.{◌≡◌, ℕ, ◌+◌, ◌<◌, ℤ, pos, ◌-�
 use Rattle.std.specs.Prelude.{unwrap_or}
 use Rattle.std.proofs.lemmas.Int.{ints}
 use Rattle.std.proofs.lemmas.List.FromFn.{length-map-range_with_len, get_or-map-range_with_len}
-use Rattle.rational.specs.Ring.{ring, v, num, ◌:+◌, ◌:*◌}
-use Rattle.rational.specs.Number.{Number, rational, of_ℤ, zero_ℚ, one_ℚ, ◌*ℚ◌}
-use Rattle.rational.specs.Order.{◌≤ℚ◌, ≤ℚ_refl, <ℚ-not}
-use Rattle.rational.specs.Total.{total}
-use Rattle.rational.specs.Ends as ends
-use Rattle.rational.specs.Ends.{Between}
-use Rattle.rational.proofs.Floors.{of_ℤ-≤}
-use Rattle.rational.proofs.Signs.{*ℚ_pos}
-use Rattle.rational.proofs.Totals.{total_same, total-zero, total-≤}
+use Rattle.fractions.specs.Ring.{ring, v, num, ◌:+◌, ◌:*◌}
+use Rattle.fractions.specs.Number.{Number, rational, of_ℤ, zero_ℚ, one_ℚ, ◌*ℚ◌}
+use Rattle.fractions.specs.Order.{◌≤ℚ◌, ≤ℚ_refl, <ℚ-not}
+use Rattle.fractions.specs.Total.{total}
+use Rattle.fractions.specs.Ends as ends
+use Rattle.fractions.specs.Ends.{Between}
+use Rattle.fractions.proofs.Floors.{of_ℤ-≤}
+use Rattle.fractions.proofs.Signs.{*ℚ_pos}
+use Rattle.fractions.proofs.Totals.{total_same, total-zero, total-≤}
 use Rattle.lp_model.specs.declared.program.Sense.TheVariants.{Min}
 use Rattle.lp_model.specs.declared.program.RowDef.{RowDef}
 use Rattle.lp_model.specs.declared.program.ColumnDef.{ColumnDef}

@@ -5,12 +5,12 @@ use Rattle.std.specs.Option.{option_map}
 use Rattle.std.proofs.lemmas.Int.{ints}
 use Rattle.std.proofs.lemmas.List.Elements.{All-nil, All-cons}
 use Rattle.std.proofs.lemmas.List.FromFn.{length-map-range_with_len}
-use Rattle.rational.specs.Ring.{ring, v, num, ◌:*◌}
-use Rattle.rational.specs.Number.{rational, integral, of_ℤ, zero_ℚ, neg_ℚ, ◌+ℚ◌, lift2}
-use Rattle.rational.specs.Gcd.{gcd, coprime_by}
-use Rattle.rational.specs.Lowest.{Fits, of_lowest, over_of, under_of}
-use Rattle.rational.specs.Order.{non_neg_ℚ, ≤ℚ_refl}
-use Rattle.rational.specs.Decimal as decimals
+use Rattle.fractions.specs.Ring.{ring, v, num, ◌:*◌}
+use Rattle.fractions.specs.Number.{rational, integral, of_ℤ, zero_ℚ, neg_ℚ, ◌+ℚ◌, lift2}
+use Rattle.fractions.specs.Gcd.{gcd, coprime_by}
+use Rattle.fractions.specs.Lowest.{Fits, of_lowest, over_of, under_of}
+use Rattle.fractions.specs.Order.{non_neg_ℚ, ≤ℚ_refl}
+use Rattle.fractions.specs.Decimal as decimals
 use Rattle.fractions.specs.declared.Numbers.{Numbers}
 use Rattle.fractions.specs.declared.Numbers.TheVariants.{Decimal, Fractions}
 use Rattle.lp_model.specs.declared.program.ColumnDef.{ColumnDef}

@@ -3,7 +3,7 @@ use Rattle.std.specs.Prelude.{ℕ, zero, suc, ◌+◌, ◌*◌, List, ◌++◌, 
 use Rattle.std.specs.Option.{option_or, option_map}
 use Rattle.std.specs.List.{filter_map, range_with_len, sum}
 use Rattle.std.specs.Fmt.{decimal}
-use Rattle.rational.specs.Number.{Number, of_ℤ, zero_ℚ}
+use Rattle.fractions.specs.Number.{Number, of_ℤ, zero_ℚ}
 use Rattle.lp_model.specs.declared.terms.Term.{Term}
 use Rattle.lp_model.specs.declared.program.ColumnDef.{ColumnDef}
 use Rattle.lp_gen.specs.Draws.{state_after, drawn}

@@ -1,7 +1,7 @@
 -- The program that is made from a seed.
 use Rattle.std.specs.Prelude.{ℕ, ◌+◌, ◌*◌, map, codes}
 use Rattle.std.specs.List.{range_with_len}
-use Rattle.rational.specs.Number.{zero_ℚ, one_ℚ}
+use Rattle.fractions.specs.Number.{zero_ℚ, one_ℚ}
 use Rattle.lp_model.specs.declared.program.Sense.TheVariants.{Min}
 use Rattle.lp_model.specs.declared.program.RowDef.{RowDef}
 use Rattle.lp_model.specs.ProgramData.{ProgramData}

@@ -1,7 +1,7 @@
 -- Rows by their type, the sum of their coefficients, and a draw.
 use Rattle.std.specs.Prelude.{ℕ, zero, suc, ◌+◌, ◌++◌, codes, pos, ◌-ℤ◌, Option, Some, None}
 use Rattle.std.specs.Fmt.{decimal}
-use Rattle.rational.specs.Number.{Number, of_ℤ}
+use Rattle.fractions.specs.Number.{Number, of_ℤ}
 use Rattle.lp_model.specs.declared.program.RowDef.{RowDef}
 use Rattle.lp_gen.specs.declared.rows.RowKind.{RowKind}
 use Rattle.lp_gen.specs.declared.rows.RowKind.TheVariants.{AtMost, AtLeast, Equal}

@@ -1,8 +1,8 @@
 //! What is true of each program that is made from a seed. The function does nothing when it runs: it states laws, and its check proves them.
 
 ghost use Rattle.std.specs.Prelude.{ℕ};
-ghost use Rattle.rational.specs.Number.{zero_ℚ};
-ghost use Rattle.rational.specs.Order.{◌≤ℚ◌};
+ghost use Rattle.fractions.specs.Number.{zero_ℚ};
+ghost use Rattle.fractions.specs.Order.{◌≤ℚ◌};
 ghost use Rattle.lp_model.specs.declared.program.Sense.TheVariants.{Min};
 ghost use Rattle.lp_model.specs.LinearProgram.{Feasible, cost_at};
 ghost use Rattle.lp_model.specs.Meaning.{meaning};

@@ -2,7 +2,7 @@
 
 ghost use Rattle.std.specs.Prelude.{◌≡◌, ◌∷◌, ◌<◌, ◌^◌, false, pos, ◌-ℤ◌, IfOk};
 ghost use Rattle.std.specs.Fmt.{decimal};
-ghost use Rattle.rational.specs.Number.{of_ℤ};
+ghost use Rattle.fractions.specs.Number.{of_ℤ};
 ghost use Rattle.lp_model.specs.Name.{is_break};
 ghost use Rattle.lp_gen.specs.Columns.{whole};
 

@@ -1,12 +1,12 @@
 -- A column's bounds, and its reach and its gap, ask the same of a value.
 use Rattle.std.proofs.Common.{◌≡◌, ◌≢◌, ◌⊎◌, inl, inr, refl, sym, ap, subst, Bool, true, false, IsTrue, Option, Some, None}
 use Rattle.std.specs.Prelude.{if◌then◌else◌}
-use Rattle.rational.specs.Number.{Number, zero_ℚ}
-use Rattle.rational.specs.Order.{◌≤ℚ◌, ◌<ℚ◌, ≤ℚ_refl, ≤ℚ_trans, ≤ℚ_cases, <ℚ-not}
-use Rattle.rational.specs.Ends.{AtLeast, AtMost, Between}
-use Rattle.rational.specs.MinMax.{min_ℚ, max_ℚ}
-use Rattle.rational.proofs.MinMaxLaws.{min_ℚ-≤_left, min_ℚ-≤_right, ≤ℚ-max_ℚ_left, ≤ℚ-max_ℚ_right}
-use Rattle.rational.proofs.Comparisons.{lt_ℚ-is}
+use Rattle.fractions.specs.Number.{Number, zero_ℚ}
+use Rattle.fractions.specs.Order.{◌≤ℚ◌, ◌<ℚ◌, ≤ℚ_refl, ≤ℚ_trans, ≤ℚ_cases, <ℚ-not}
+use Rattle.fractions.specs.Ends.{AtLeast, AtMost, Between}
+use Rattle.fractions.specs.MinMax.{min_ℚ, max_ℚ}
+use Rattle.fractions.proofs.MinMaxLaws.{min_ℚ-≤_left, min_ℚ-≤_right, ≤ℚ-max_ℚ_left, ≤ℚ-max_ℚ_right}
+use Rattle.fractions.proofs.Comparisons.{lt_ℚ-is}
 use Rattle.lp_model.specs.EndTests.{is_crossed}
 use Rattle.lp_model.specs.Gaps.{Gap, OffGap, Lies, Clears, gap_of, low_or_zero, high_or_zero, hull_lower, hull_upper, reach_lower, reach_upper}
 

@@ -1,8 +1,8 @@
 -- The elementary changes of a linear program, each by original ids: a row or column that is deleted keeps its id.
 use Rattle.std.specs.Prelude.{ℕ, false, Option, None}
-use Rattle.rational.specs.Number.{Number, zero_ℚ, ◌*ℚ◌}
-use Rattle.rational.specs.Total.{put}
-use Rattle.rational.specs.Ends.{less}
+use Rattle.fractions.specs.Number.{Number, zero_ℚ, ◌*ℚ◌}
+use Rattle.fractions.specs.Total.{put}
+use Rattle.fractions.specs.Ends.{less}
 use Rattle.lp_model.specs.LinearProgram.{LinearProgram}
 
 -- row i deleted: no coefficients, no sides

@@ -1,8 +1,8 @@
 -- Tests of a lower and an upper end; none is infinite.
 use Rattle.std.specs.Prelude.{Bool, true, false, not, ◌&&◌, ◌||◌, Option, Some, None}
-use Rattle.rational.specs.Number.{Number, zero_ℚ}
-use Rattle.rational.specs.Compare.{le_ℚ, lt_ℚ, eq_ℚ}
-use Rattle.rational.specs.Floor.{is_whole}
+use Rattle.fractions.specs.Number.{Number, zero_ℚ}
+use Rattle.fractions.specs.Compare.{le_ℚ, lt_ℚ, eq_ℚ}
+use Rattle.fractions.specs.Floor.{is_whole}
 
 -- l is at most u
 abbrev pub is_in_order : Option Number → Option Number → Bool

@@ -1,7 +1,7 @@
 -- Two ends of a row's sides or of a column's bounds; none is infinite. Their width, and when they have room and can be written.
 use Rattle.std.specs.Prelude.{◌≢◌, ⊤, Option, Some, None, IfSome, if◌then◌else◌}
-use Rattle.rational.specs.Number.{Number, ◌-ℚ◌, neg_ℚ}
-use Rattle.rational.specs.Compare.{eq_ℚ}
+use Rattle.fractions.specs.Number.{Number, ◌-ℚ◌, neg_ℚ}
+use Rattle.fractions.specs.Compare.{eq_ℚ}
 use Rattle.fractions.specs.declared.Numbers.{Numbers}
 use Rattle.fractions.specs.FracWords.{SumFits}
 use Rattle.lp_model.specs.Writable.{IsNear, WritableNumber}

@@ -1,8 +1,8 @@
 -- Semi-continuous columns: 0, or a number between two ends.
 use Rattle.std.specs.Prelude.{◌≡◌, ◌⊎◌, Bool, IsTrue, Option, Some, None, IfSome, if◌then◌else◌}
-use Rattle.rational.specs.Number.{Number, zero_ℚ}
-use Rattle.rational.specs.Ends.{Between}
-use Rattle.rational.specs.MinMax.{min_ℚ, max_ℚ}
+use Rattle.fractions.specs.Number.{Number, zero_ℚ}
+use Rattle.fractions.specs.Ends.{Between}
+use Rattle.fractions.specs.MinMax.{min_ℚ, max_ℚ}
 use Rattle.lp_model.specs.EndTests.{is_crossed}
 
 -- the ends between which the column lies where it is not 0

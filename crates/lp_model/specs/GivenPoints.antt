@@ -1,6 +1,6 @@
 -- The points of a program as it is given.
 use Rattle.std.specs.Prelude.{ℕ, ◌<◌, length}
-use Rattle.rational.specs.Ends.{Between}
+use Rattle.fractions.specs.Ends.{Between}
 use Rattle.lp_model.specs.Vectors.{Vector}
 use Rattle.lp_model.specs.LinearProgram.{value_at}
 use Rattle.lp_model.specs.Meaning.{meaning, row_at, column_at}

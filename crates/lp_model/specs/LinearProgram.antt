@@ -1,9 +1,9 @@
 -- Linear programs with whole and semi-continuous columns, as functions of row and column ids, and their points.
 use Rattle.std.specs.Prelude.{ℕ, ◌<◌, Bool, IsTrue, Option}
-use Rattle.rational.specs.Number.{Number, ◌+ℚ◌, ◌*ℚ◌}
-use Rattle.rational.specs.Total.{total}
-use Rattle.rational.specs.Ends.{Between}
-use Rattle.rational.specs.Floor.{IsWhole}
+use Rattle.fractions.specs.Number.{Number, ◌+ℚ◌, ◌*ℚ◌}
+use Rattle.fractions.specs.Total.{total}
+use Rattle.fractions.specs.Ends.{Between}
+use Rattle.fractions.specs.Floor.{IsWhole}
 use Rattle.lp_model.specs.Vectors.{Vector}
 use Rattle.lp_model.specs.Gaps.{Gap, Clears}
 

@@ -1,6 +1,6 @@
 -- What a program's data mean.
 use Rattle.std.specs.Prelude.{ℕ, false, [], length, slice_index_or, None}
-use Rattle.rational.specs.Number.{zero_ℚ}
+use Rattle.fractions.specs.Number.{zero_ℚ}
 use Rattle.lp_model.specs.declared.program.RowDef.{RowDef}
 use Rattle.lp_model.specs.declared.program.ColumnDef.{ColumnDef}
 use Rattle.lp_model.specs.Sparse.{dense}

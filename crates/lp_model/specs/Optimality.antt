@@ -1,8 +1,8 @@
 -- The optimality conditions of linear programming duality.
 use Rattle.std.specs.Prelude.{◌≡◌, ℕ, ◌<◌, false, None}
-use Rattle.rational.specs.Number.{Number, ◌-ℚ◌, ◌*ℚ◌}
+use Rattle.fractions.specs.Number.{Number, ◌-ℚ◌, ◌*ℚ◌}
 use Rattle.lp_model.specs.declared.program.Sense.{Sense}
-use Rattle.rational.specs.Total.{total}
+use Rattle.fractions.specs.Total.{total}
 use Rattle.lp_model.specs.Vectors.{Vector}
 use Rattle.lp_model.specs.LinearProgram.{LinearProgram, value_at, Feasible}
 use Rattle.lp_model.specs.Senses.{Sits}

@@ -1,6 +1,6 @@
 -- What a reduction of M to R keeps, where `lift` undoes it.
 use Rattle.std.specs.Prelude.{◌≡◌, ℕ, ◌<◌}
-use Rattle.rational.specs.Number.{Number, ◌+ℚ◌}
+use Rattle.fractions.specs.Number.{Number, ◌+ℚ◌}
 use Rattle.lp_model.specs.declared.program.Sense.{Sense}
 use Rattle.lp_model.specs.Vectors.{Vector}
 use Rattle.lp_model.specs.LinearProgram.{LinearProgram, cost_at, Feasible}

@@ -1,8 +1,8 @@
 -- When a sum of products that is made term by term, by ascending id, has room.
 use Rattle.std.specs.Prelude.{ℕ, zero, suc, ◌<◌}
-use Rattle.rational.specs.Number.{◌*ℚ◌}
-use Rattle.rational.specs.Lowest.{Fits}
-use Rattle.rational.specs.Total.{total}
+use Rattle.fractions.specs.Number.{◌*ℚ◌}
+use Rattle.fractions.specs.Lowest.{Fits}
+use Rattle.fractions.specs.Total.{total}
 use Rattle.fractions.specs.FracWords.{SumFits}
 use Rattle.lp_model.specs.Vectors.{Vector}
 use Rattle.lp_model.specs.LinearProgram.{LinearProgram}

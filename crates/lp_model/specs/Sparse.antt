@@ -1,9 +1,9 @@
 -- Lists of terms: numbers at ids.
 use Rattle.std.specs.Prelude.{◌≢◌, ℕ, suc, ◌<◌, ◌≤◌, Bool, false, ◌||◌, not, nat_eq, List, [], ◌∷◌}
 use Rattle.std.specs.List.{filter}
-use Rattle.rational.specs.Number.{Number, zero_ℚ, ◌+ℚ◌, ◌*ℚ◌}
+use Rattle.fractions.specs.Number.{Number, zero_ℚ, ◌+ℚ◌, ◌*ℚ◌}
 use Rattle.lp_model.specs.declared.terms.Term.{Term}
-use Rattle.rational.specs.Total.{put}
+use Rattle.fractions.specs.Total.{put}
 use Rattle.lp_model.specs.Vectors.{Vector}
 
 -- the number at each id: that of the first term with it, 0 where none has it

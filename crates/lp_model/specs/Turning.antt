@@ -1,5 +1,5 @@
 -- The minimizing sense and the sense of a file.
-use Rattle.rational.specs.Number.{Number, neg_ℚ}
+use Rattle.fractions.specs.Number.{Number, neg_ℚ}
 use Rattle.lp_model.specs.declared.program.Sense.{Sense}
 use Rattle.lp_model.specs.declared.program.Sense.TheVariants.{Min, Max}
 use Rattle.lp_model.specs.LinearProgram.{LinearProgram}

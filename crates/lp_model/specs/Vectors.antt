@@ -1,6 +1,6 @@
 -- Numbers by id.
 use Rattle.std.specs.Prelude.{ℕ, List, slice_index_or}
-use Rattle.rational.specs.Number.{Number, zero_ℚ}
+use Rattle.fractions.specs.Number.{Number, zero_ℚ}
 
 -- a number for each id: a point has one for each column, duals have one for each row
 abbrev pub Vector : Type 0

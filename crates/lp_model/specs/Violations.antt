@@ -1,12 +1,12 @@
 -- What a point does not meet.
 use Rattle.std.specs.Prelude.{◌≡◌, ◌≢◌, ◌⊎◌, ℕ, ◌<◌, IsTrue, Option, Some, None, IfSome}
-use Rattle.rational.specs.Number.{Number, zero_ℚ}
-use Rattle.rational.specs.Order.{◌<ℚ◌}
+use Rattle.fractions.specs.Number.{Number, zero_ℚ}
+use Rattle.fractions.specs.Order.{◌<ℚ◌}
 use Rattle.lp_model.specs.declared.plain.Violation.{Violation}
 use Rattle.lp_model.specs.declared.plain.Violation.TheVariants.{Side, Bound, Broken}
 use Rattle.lp_model.specs.declared.program.ColumnDef.{ColumnDef}
-use Rattle.rational.specs.Ends.{Between}
-use Rattle.rational.specs.Floor.{IsWhole}
+use Rattle.fractions.specs.Ends.{Between}
+use Rattle.fractions.specs.Floor.{IsWhole}
 use Rattle.lp_model.specs.Vectors.{Vector}
 use Rattle.lp_model.specs.Gaps.{Lies, Clears, given_lower, given_upper}
 use Rattle.lp_model.specs.LinearProgram.{LinearProgram, value_at, Feasible}

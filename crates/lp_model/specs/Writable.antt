@@ -1,10 +1,10 @@
 -- Programs that can be written as MPS text. A side or a bound that is infinite is none.
 use Rattle.std.specs.Prelude.{◌≢◌, length, pos, ◌^◌, Option, Some, None, IfSome}
 use Rattle.std.specs.List.{All}
-use Rattle.rational.specs.Number.{Number, ◌-ℚ◌, neg_ℚ, of_ℤ}
-use Rattle.rational.specs.Order.{◌≤ℚ◌, ◌<ℚ◌}
-use Rattle.rational.specs.Lowest.{Fits}
-use Rattle.rational.specs.Decimal as decimals
+use Rattle.fractions.specs.Number.{Number, ◌-ℚ◌, neg_ℚ, of_ℤ}
+use Rattle.fractions.specs.Order.{◌≤ℚ◌, ◌<ℚ◌}
+use Rattle.fractions.specs.Lowest.{Fits}
+use Rattle.fractions.specs.Decimal as decimals
 use Rattle.fractions.specs.FracWords.{SumFits}
 use Rattle.fractions.specs.declared.Numbers.{Numbers}
 use Rattle.fractions.specs.declared.Numbers.TheVariants.{Decimal, Fractions}

@@ -1,13 +1,13 @@
 //! A plain and slow program that judges a point of a small model: each value is the sum over all columns.
 
 ghost use Rattle.std.specs.Prelude.{◌≡◌, ◌↔◌, ◌⊎◌, ◌∷◌, ℕ, ◌<◌, length, All, IsTrue, IfOk, IsOk, Option, Some, None, MatchOption, ◌≢◌, slice_index_or};
-ghost use Rattle.rational.specs.Number.{◌+ℚ◌, ◌*ℚ◌};
-ghost use Rattle.rational.specs.Lowest.{Fits};
+ghost use Rattle.fractions.specs.Number.{◌+ℚ◌, ◌*ℚ◌};
+ghost use Rattle.fractions.specs.Lowest.{Fits};
 ghost use Rattle.fractions.specs.FracWords.{SumFits};
 ghost use Rattle.lp_model.specs.Room.{ValueFits, ValuesFit, CostFits};
-ghost use Rattle.rational.specs.Order.{◌≤ℚ◌, ◌<ℚ◌};
-ghost use Rattle.rational.specs.Ends.{AtLeast, AtMost, Between};
-ghost use Rattle.rational.specs.Floor.{IsWhole};
+ghost use Rattle.fractions.specs.Order.{◌≤ℚ◌, ◌<ℚ◌};
+ghost use Rattle.fractions.specs.Ends.{AtLeast, AtMost, Between};
+ghost use Rattle.fractions.specs.Floor.{IsWhole};
 ghost use Rattle.lp_model.specs.LinearProgram.{value_at, cost_at, Feasible};
 ghost use Rattle.lp_model.specs.Meaning.{no_row, no_column, meaning};
 ghost use Rattle.lp_model.specs.Name.{IsName};

@@ -14,8 +14,8 @@ pub struct Point {
 impl Model for Point {
     ghost use Rattle.std.specs.Prelude.{List};
     ghost use Rattle.std.specs.Coded.{codes};
-    ghost use Rattle.rational.specs.Lowest.{number_code};
-    ghost use Rattle.rational.specs.Number.{Number};
+    ghost use Rattle.fractions.specs.Lowest.{number_code};
+    ghost use Rattle.fractions.specs.Number.{Number};
 
     ghost Value = { List Number };
 
@@ -56,8 +56,8 @@ pub struct Duals {
 impl Model for Duals {
     ghost use Rattle.std.specs.Prelude.{List};
     ghost use Rattle.std.specs.Coded.{codes};
-    ghost use Rattle.rational.specs.Lowest.{number_code};
-    ghost use Rattle.rational.specs.Number.{Number};
+    ghost use Rattle.fractions.specs.Lowest.{number_code};
+    ghost use Rattle.fractions.specs.Number.{Number};
 
     ghost Value = { List Number };
 

@@ -46,7 +46,7 @@ pub struct Rows {
 impl Model for Rows {
     ghost use Rattle.std.specs.Prelude.{List};
     ghost use Rattle.std.specs.Coded.{codes};
-    ghost use Rattle.rational.specs.Lowest.{number_code};
+    ghost use Rattle.fractions.specs.Lowest.{number_code};
     ghost use Rattle.lp_model.specs.declared.program.RowDef.{RowDef};
 
     ghost Value = { List RowDef };
@@ -88,7 +88,7 @@ pub struct Columns {
 impl Model for Columns {
     ghost use Rattle.std.specs.Prelude.{List};
     ghost use Rattle.std.specs.Coded.{codes};
-    ghost use Rattle.rational.specs.Lowest.{number_code};
+    ghost use Rattle.fractions.specs.Lowest.{number_code};
     ghost use Rattle.lp_model.specs.declared.program.ColumnDef.{ColumnDef};
 
     ghost Value = { List ColumnDef };
@@ -134,7 +134,7 @@ pub struct Program {
 
 impl Model for Program {
     ghost use Rattle.std.specs.Coded.{codes};
-    ghost use Rattle.rational.specs.Lowest.{number_code};
+    ghost use Rattle.fractions.specs.Lowest.{number_code};
     ghost use Rattle.lp_model.specs.ProgramData.{ProgramData};
     ghost use Rattle.lp_model.specs.Names.{WellNamed};
 

@@ -22,7 +22,7 @@ pub struct Terms {
 impl Model for Terms {
     ghost use Rattle.std.specs.Prelude.{List};
     ghost use Rattle.std.specs.Coded.{codes};
-    ghost use Rattle.rational.specs.Lowest.{number_code};
+    ghost use Rattle.fractions.specs.Lowest.{number_code};
     ghost use Rattle.lp_model.specs.declared.terms.Term.{Term};
 
     ghost Value = { List Term };

@@ -1,7 +1,7 @@
 //! Tests of numbers and ends that are to be written.
 
 ghost use Rattle.std.specs.Prelude.{◌≡◌, ◌↔◌, IsTrue, Some, IfSome, IfOk, IsOk};
-ghost use Rattle.rational.specs.Order.{◌<ℚ◌};
+ghost use Rattle.fractions.specs.Order.{◌<ℚ◌};
 ghost use Rattle.lp_model.specs.Writable.{IsNear, WritableNumber};
 ghost use Rattle.lp_model.specs.Ends.{width, AreNear, IsWritten, WidthFits};
 

@@ -1,10 +1,10 @@
 -- Lists of ids that ascend, and sums over them.
 use Rattle.std.proofs.Common.{◌≡◌, ◌≢◌, ℕ, zero, suc, ◌<◌, ◌≤◌, List, [], ◌∷◌, length, slice_index, pos, sym, refl, ap, ap₂, ◌∙◌, arith, ◌⊎◌, inl, inr, subst}
 use Rattle.std.proofs.lemmas.Bool.{cases_eq}
-use Rattle.rational.specs.Ring.{ring, v, num, ◌:+◌, ◌:-◌}
-use Rattle.rational.specs.Number.{rational, zero_ℚ, ◌+ℚ◌, ◌-ℚ◌}
-use Rattle.rational.specs.Total.{total}
-use Rattle.rational.proofs.Totals.{put-same, put-other, total_same, total-zero, total-put}
+use Rattle.fractions.specs.Ring.{ring, v, num, ◌:+◌, ◌:-◌}
+use Rattle.fractions.specs.Number.{rational, zero_ℚ, ◌+ℚ◌, ◌-ℚ◌}
+use Rattle.fractions.specs.Total.{total}
+use Rattle.fractions.proofs.Totals.{put-same, put-other, total_same, total-zero, total-put}
 use Rattle.lp_model.specs.Vectors.{Vector}
 use Rattle.lp_passages.specs.Renumbering.{IdsFrom, IsLeftOut, gathered, spread}
 

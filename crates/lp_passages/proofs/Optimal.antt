@@ -1,12 +1,12 @@
 -- Optimality conditions are a proof that no feasible point costs less; and the sense of a program.
 use Rattle.std.proofs.Common.{◌≡◌, ℕ, ◌<◌, pos, sym, refl, ap, ap₂, ◌∙◌, [], ◌∷◌, inl, inr, subst, Option, Some}
-use Rattle.rational.specs.Ring.{ring, v, num, ◌:+◌, ◌:-◌, ◌:*◌, inv}
-use Rattle.rational.specs.Order.{◌≤ℚ◌, ◌<ℚ◌, ≤ℚ_antisym, ≤ℚ-by, ≤ℚ-*ℚ, ≤ℚ_cases, <ℚ-≤ℚ, ≤ℚ-+ℚ}
-use Rattle.rational.specs.Number.{Number, rational, ◌+ℚ◌, ◌-ℚ◌, ◌*ℚ◌, neg_ℚ, of_ℤ, zero_ℚ}
-use Rattle.rational.specs.Total.{total}
+use Rattle.fractions.specs.Ring.{ring, v, num, ◌:+◌, ◌:-◌, ◌:*◌, inv}
+use Rattle.fractions.specs.Order.{◌≤ℚ◌, ◌<ℚ◌, ≤ℚ_antisym, ≤ℚ-by, ≤ℚ-*ℚ, ≤ℚ_cases, <ℚ-≤ℚ, ≤ℚ-+ℚ}
+use Rattle.fractions.specs.Number.{Number, rational, ◌+ℚ◌, ◌-ℚ◌, ◌*ℚ◌, neg_ℚ, of_ℤ, zero_ℚ}
+use Rattle.fractions.specs.Total.{total}
 use Rattle.lp_model.specs.LinearProgram.{LinearProgram, value_at, cost_at, Feasible}
 use Rattle.lp_model.specs.Vectors.{Vector}
-use Rattle.rational.specs.Ends.{AtLeast, AtMost, Between}
+use Rattle.fractions.specs.Ends.{AtLeast, AtMost, Between}
 use Rattle.lp_model.specs.Reductions.{Priced}
 use Rattle.lp_theory.proofs.Carrying.{Carries, carries_of}
 use Rattle.lp_model.specs.Turning.{negated}
@@ -15,8 +15,8 @@ use Rattle.lp_model.specs.declared.program.Sense.{Sense}
 use Rattle.lp_model.specs.declared.program.Sense.TheVariants.{Min, Max}
 use Rattle.lp_model.specs.Senses.{NoWorse}
 use Rattle.lp_model.specs.Optimality.{reduced_cost, Meets}
-use Rattle.rational.proofs.Totals.{total_same, total-zero, total-+, total-*, total-≤, total_swap}
-use Rattle.rational.proofs.Signs.{≤ℚ-same, ≤ℚ-*ℚ_down}
+use Rattle.fractions.proofs.Totals.{total_same, total-zero, total-+, total-*, total-≤, total_swap}
+use Rattle.fractions.proofs.Signs.{≤ℚ-same, ≤ℚ-*ℚ_down}
 
 -- a price times what another value has more
 term_ge : (z x w : Number) (l u : Option Number) → (zero_ℚ <ℚ z → l ≡ Some x) → (z <ℚ zero_ℚ → u ≡ Some x) → Between l u w → zero_ℚ ≤ℚ (z *ℚ (w -ℚ x))

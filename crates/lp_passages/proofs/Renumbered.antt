@@ -1,11 +1,11 @@
 -- The written program has the same points and pairs as the program with original ids.
 use Rattle.std.proofs.Common.{◌≡◌, ℕ, zero, ◌<◌, List, [], ◌∷◌, length, slice_index, pos, sym, refl, ap, ap₂, ◌∙◌, inl, inr, subst, Option, None, false, IsTrue}
-use Rattle.rational.specs.Ring.{ring, v, num, ◌:-◌, ◌:*◌}
-use Rattle.rational.specs.Number.{Number, rational, zero_ℚ, ◌+ℚ◌, ◌-ℚ◌, ◌*ℚ◌}
-use Rattle.rational.specs.Order.{◌<ℚ◌, ≤ℚ_antisym, ≤ℚ_cases}
-use Rattle.rational.specs.Ends.{Between}
-use Rattle.rational.specs.Floor.{IsWhole}
-use Rattle.rational.proofs.Totals.{total_same, total-zero}
+use Rattle.fractions.specs.Ring.{ring, v, num, ◌:-◌, ◌:*◌}
+use Rattle.fractions.specs.Number.{Number, rational, zero_ℚ, ◌+ℚ◌, ◌-ℚ◌, ◌*ℚ◌}
+use Rattle.fractions.specs.Order.{◌<ℚ◌, ≤ℚ_antisym, ≤ℚ_cases}
+use Rattle.fractions.specs.Ends.{Between}
+use Rattle.fractions.specs.Floor.{IsWhole}
+use Rattle.fractions.proofs.Totals.{total_same, total-zero}
 use Rattle.lp_model.specs.declared.program.Sense.{Sense}
 use Rattle.lp_model.specs.declared.program.Sense.TheVariants.{Min, Max}
 use Rattle.lp_model.specs.Vectors.{Vector}

@@ -1,7 +1,7 @@
 -- Passing from original ids to the ids of the written program, which leaves deleted rows and columns out, and back.
 use Rattle.std.specs.Prelude.{◌≡◌, ◌≢◌, ℕ, zero, suc, ◌<◌, ◌≤◌, false, List, [], ◌∷◌, length, slice_index, None}
-use Rattle.rational.specs.Number.{zero_ℚ}
-use Rattle.rational.specs.Total.{put}
+use Rattle.fractions.specs.Number.{zero_ℚ}
+use Rattle.fractions.specs.Total.{put}
 use Rattle.lp_model.specs.Vectors.{Vector}
 use Rattle.lp_model.specs.LinearProgram.{LinearProgram}
 use Rattle.lp_model.specs.Reductions.{Priced}

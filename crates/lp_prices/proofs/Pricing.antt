@@ -2,10 +2,10 @@
 use Rattle.std.proofs.Common.{get_or, Bool, ◌↔◌, ◌≡◌, ◌≢◌, ℕ, zero, suc, ◌+◌, ◌-◌, ◌<◌, ◌≤◌, List, [], ◌∷◌, length, Some, refl, sym, ap, ◌∙◌, subst, arith, add-one}
 use Rattle.std.specs.Bool.{IsTrue}
 use Rattle.std.proofs.lemmas.List.{get_or_default}
-use Rattle.rational.specs.Number.{Number, neg_ℚ, zero_ℚ, ◌+ℚ◌, ◌*ℚ◌, zero-*ℚ, *ℚ_comm, +ℚ_comm, zero-+ℚ}
-use Rattle.rational.specs.Lowest.{Fits}
-use Rattle.rational.specs.Total.{total}
-use Rattle.rational.proofs.Totals.{put-same, put-other}
+use Rattle.fractions.specs.Number.{Number, neg_ℚ, zero_ℚ, ◌+ℚ◌, ◌*ℚ◌, zero-*ℚ, *ℚ_comm, +ℚ_comm, zero-+ℚ}
+use Rattle.fractions.specs.Lowest.{Fits}
+use Rattle.fractions.specs.Total.{total}
+use Rattle.fractions.proofs.Totals.{put-same, put-other}
 use Rattle.fractions.specs.FracWords.{SumFits}
 use Rattle.lp_model.specs.declared.terms.Term.{Term}
 use Rattle.lp_model.specs.declared.program.ColumnDef.{ColumnDef}

@@ -1,10 +1,10 @@
 -- A sum with 0 has room where its other number has.
 use Rattle.std.proofs.Common.{◌≡◌, ℕ, ◌/◌, ◌<◌, ◌^◌, ℤ, pos, ◌+ℤ◌, ◌*ℤ◌, nat_abs, refl, lit<, [], ◌∷◌, mul-one, zero-mul}
 use Rattle.std.proofs.Math.Nat.{div-one}
-use Rattle.rational.specs.Ring.{ring, whole, v, num, ◌:+◌, ◌:*◌}
-use Rattle.rational.specs.Gcd.{gcd, coprime_by}
-use Rattle.rational.specs.Number.{Number, zero_ℚ, of_ℤ}
-use Rattle.rational.specs.Lowest.{over_of, under_of, of_lowest, Fits}
+use Rattle.fractions.specs.Ring.{ring, whole, v, num, ◌:+◌, ◌:*◌}
+use Rattle.fractions.specs.Gcd.{gcd, coprime_by}
+use Rattle.fractions.specs.Number.{Number, zero_ℚ, of_ℤ}
+use Rattle.fractions.specs.Lowest.{over_of, under_of, of_lowest, Fits}
 use Rattle.fractions.specs.FracWords.{StepsFit, SumFits}
 
 gcd-one : (n : ℕ) → gcd n 1 ≡ 1

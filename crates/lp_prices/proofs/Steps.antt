@@ -1,8 +1,8 @@
 -- One more product in a sum.
 use Rattle.std.proofs.Common.{◌≡◌, ℕ, ◌+◌, ◌↔◌, Option, Some, None, Result, Ok, Err, IfOk, IsOk, refl, sym, ap, ◌∙◌, subst, add-one}
 use Rattle.std.specs.Result.{result_ok}
-use Rattle.rational.specs.Number.{Number, zero_ℚ, ◌+ℚ◌, ◌*ℚ◌, zero-*ℚ, +ℚ_comm, zero-+ℚ}
-use Rattle.rational.specs.Lowest.{Fits}
+use Rattle.fractions.specs.Number.{Number, zero_ℚ, ◌+ℚ◌, ◌*ℚ◌, zero-*ℚ, +ℚ_comm, zero-+ℚ}
+use Rattle.fractions.specs.Lowest.{Fits}
 use Rattle.fractions.specs.FracWords.{SumFits}
 use Rattle.lp_model.specs.Vectors.{Vector}
 use Rattle.lp_model.specs.Room.{ProductsFit}

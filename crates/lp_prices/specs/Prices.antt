@@ -1,8 +1,8 @@
 -- Sums of products that have room, and the reduced costs of columns made of them.
 use Rattle.std.specs.Prelude.{◌≡◌, ℕ, ◌<◌, Option, Some, None}
-use Rattle.rational.specs.Number.{Number, neg_ℚ, ◌*ℚ◌}
-use Rattle.rational.specs.Lowest.{Fits}
-use Rattle.rational.specs.Total.{total}
+use Rattle.fractions.specs.Number.{Number, neg_ℚ, ◌*ℚ◌}
+use Rattle.fractions.specs.Lowest.{Fits}
+use Rattle.fractions.specs.Total.{total}
 use Rattle.fractions.specs.FracWords.{SumFits}
 use Rattle.lp_model.specs.Vectors.{Vector}
 use Rattle.lp_model.specs.Room.{ProductsFit}

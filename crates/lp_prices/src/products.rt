@@ -1,8 +1,8 @@
 //! Sums of products.
 
 ghost use Rattle.std.specs.Prelude.{◌≡◌, ◌↔◌, IfOk, IsOk};
-ghost use Rattle.rational.specs.Number.{◌+ℚ◌, ◌*ℚ◌};
-ghost use Rattle.rational.specs.Lowest.{Fits};
+ghost use Rattle.fractions.specs.Number.{◌+ℚ◌, ◌*ℚ◌};
+ghost use Rattle.fractions.specs.Lowest.{Fits};
 ghost use Rattle.fractions.specs.FracWords.{SumFits};
 
 use fractions::Past;

@@ -1,8 +1,8 @@
 //! The columns' reduced costs.
 
 ghost use Rattle.std.specs.Prelude.{◌≡◌, ◌<◌, ◌↔◌, length, IfOk, IsOk};
-ghost use Rattle.rational.specs.Number.{◌*ℚ◌};
-ghost use Rattle.rational.specs.Total.{total};
+ghost use Rattle.fractions.specs.Number.{◌*ℚ◌};
+ghost use Rattle.fractions.specs.Total.{total};
 ghost use Rattle.lp_model.specs.Vectors.{vector_of};
 ghost use Rattle.lp_model.specs.Sparse.{dense, Ascends};
 ghost use Rattle.lp_model.specs.Room.{ProductsFit};

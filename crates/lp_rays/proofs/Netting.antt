@@ -1,11 +1,11 @@
 -- The net of a column's rows, as a loop makes it.
 use Rattle.std.proofs.Common.{◌≡◌, ◌↔◌, ℕ, suc, ◌<◌, List, [], ◌∷◌, length, pos, sym, refl, ◌∙◌, subst, arith}
-use Rattle.rational.specs.Ring.{ring, v, num, ◌:+◌, ◌:*◌}
-use Rattle.rational.specs.Number.{Number, rational, zero_ℚ, ◌+ℚ◌, ◌-ℚ◌}
+use Rattle.fractions.specs.Ring.{ring, v, num, ◌:+◌, ◌:*◌}
+use Rattle.fractions.specs.Number.{Number, rational, zero_ℚ, ◌+ℚ◌, ◌-ℚ◌}
 use Rattle.lp_model.specs.declared.terms.Term.{Term}
-use Rattle.rational.specs.Number.{◌*ℚ◌, *ℚ_comm}
-use Rattle.rational.specs.Total.{total}
-use Rattle.rational.proofs.Totals.{total_same}
+use Rattle.fractions.specs.Number.{◌*ℚ◌, *ℚ_comm}
+use Rattle.fractions.specs.Total.{total}
+use Rattle.fractions.proofs.Totals.{total_same}
 use Rattle.lp_model.specs.Sparse.{Ascends, dense}
 use Rattle.lp_theory.proofs.SparseSums.{sparse-dense}
 use Rattle.lp_rays.specs.Ray.{Weights}

@@ -1,7 +1,7 @@
 -- The net of a column's rows over a list of its entries, and when the numbers on the way to it have room.
 use Rattle.std.specs.Prelude.{List, [], ◌∷◌, ⊤}
-use Rattle.rational.specs.Number.{Number, neg_ℚ, ◌+ℚ◌, ◌-ℚ◌, ◌*ℚ◌}
-use Rattle.rational.specs.Lowest.{Fits}
+use Rattle.fractions.specs.Number.{Number, neg_ℚ, ◌+ℚ◌, ◌-ℚ◌, ◌*ℚ◌}
+use Rattle.fractions.specs.Lowest.{Fits}
 use Rattle.fractions.specs.FracWords.{SumFits}
 use Rattle.lp_model.specs.declared.terms.Term.{Term}
 use Rattle.lp_model.specs.Sparse.{sparse_total}

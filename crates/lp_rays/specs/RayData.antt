@@ -1,6 +1,6 @@
 -- The numbers of a ray.
 use Rattle.std.specs.Prelude.{◌≡◌, ℕ, List, length}
-use Rattle.rational.specs.Number.{Number}
+use Rattle.fractions.specs.Number.{Number}
 use Rattle.lp_model.specs.Vectors.{vector_of}
 use Rattle.lp_rays.specs.Ray.{Weights}
 

@@ -1,10 +1,10 @@
 -- The steps back of rays, by reduction: what becomes of the weights of the program after it. `low` and `high` say whether the lower
 -- and the upper end that a reduction met with others moved.
 use Rattle.std.specs.Prelude.{ℕ, Bool, if◌then◌else◌}
-use Rattle.rational.specs.Number.{Number, zero_ℚ, neg_ℚ, ◌+ℚ◌, ◌-ℚ◌, ◌*ℚ◌}
-use Rattle.rational.specs.Compare.{lt_ℚ}
-use Rattle.rational.specs.Division.{◌/ℚ◌}
-use Rattle.rational.specs.Total.{total, put}
+use Rattle.fractions.specs.Number.{Number, zero_ℚ, neg_ℚ, ◌+ℚ◌, ◌-ℚ◌, ◌*ℚ◌}
+use Rattle.fractions.specs.Compare.{lt_ℚ}
+use Rattle.fractions.specs.Division.{◌/ℚ◌}
+use Rattle.fractions.specs.Total.{total, put}
 use Rattle.lp_model.specs.Vectors.{Vector}
 use Rattle.lp_rays.specs.Ray.{Weights}
 use Rattle.lp_rays.specs.Handing.{kept_of, handed_of, lower_share, upper_share, lower_part, upper_part, image_low_part, image_high_part, pushed_low, pushed_high, pulled_low, pulled_high, ratio_at_greatest, low_at_greatest, high_at_greatest, ratio_at_least, low_at_least, high_at_least}

@@ -1,7 +1,7 @@
 //! The net of a column's rows.
 
 ghost use Rattle.std.specs.Prelude.{◌≡◌, ◌<◌, length, IfOk, IsOk, ◌↔◌};
-ghost use Rattle.rational.specs.Number.{zero_ℚ, ◌+ℚ◌};
+ghost use Rattle.fractions.specs.Number.{zero_ℚ, ◌+ℚ◌};
 ghost use Rattle.lp_model.specs.Sparse.{Ascends};
 ghost use Rattle.lp_rays.specs.Nets.{NetFits, TermFits, net_of, net_term};
 ghost use Rattle.lp_rays.specs.RayData.{weights_of};

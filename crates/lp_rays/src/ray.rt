@@ -1,8 +1,8 @@
 //! The numbers of a ray.
 
 ghost use Rattle.std.specs.Prelude.{◌≡◌, ℕ, ◌<◌, length, replicate, IfOk};
-ghost use Rattle.rational.specs.Number.{zero_ℚ};
-ghost use Rattle.rational.specs.Total.{put};
+ghost use Rattle.fractions.specs.Number.{zero_ℚ};
+ghost use Rattle.fractions.specs.Total.{put};
 ghost use Rattle.lp_model.specs.Vectors.{vector_of};
 ghost use Rattle.lp_rays.specs.RayData.{IsSized, weights_of};
 ghost use Rattle.lp_rays.specs.Starts.{no_weights};
@@ -22,7 +22,7 @@ pub struct Ray {
 
 impl Model for Ray {
     ghost use Rattle.std.specs.Coded.{codes};
-    ghost use Rattle.rational.specs.Lowest.{number_code};
+    ghost use Rattle.fractions.specs.Lowest.{number_code};
     ghost use Rattle.lp_rays.specs.RayData.{RayData};
 
     ghost Value = { RayData };

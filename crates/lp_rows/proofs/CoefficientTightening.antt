@@ -2,19 +2,19 @@
 use Rattle.std.proofs.Common.{◌≡◌, ◌≢◌, ℕ, ◌<◌, ℤ, pos, ◌+ℤ◌, ◌≤ℤ◌, sym, refl, ap, ◌∙◌, arith, [], ◌∷◌, ◌⊎◌, inl, inr, subst, Bool, true, false, ◌↔◌}
 use Rattle.std.specs.Prelude.{if◌then◌else◌}
 use Rattle.std.proofs.lemmas.Int.{ints}
-use Rattle.rational.specs.Ring.{ring, v, num, ◌:+◌, ◌:-◌, ◌:*◌, inv}
-use Rattle.rational.specs.Number.{Number, rational, zero_ℚ, one_ℚ, neg_ℚ, of_ℤ, of_ℤ-+ℤ, ◌+ℚ◌, ◌-ℚ◌, ◌*ℚ◌}
-use Rattle.rational.specs.Order.{◌≤ℚ◌, ◌<ℚ◌, ≤ℚ_antisym, ≤ℚ-by, ≤ℚ-*ℚ, <ℚ-≤ℚ}
-use Rattle.rational.specs.Linear.{linear, fact}
-use Rattle.rational.specs.Compare.{lt_ℚ}
-use Rattle.rational.specs.Floor.{IsWhole}
-use Rattle.rational.specs.MinMax.{abs_ℚ}
-use Rattle.rational.specs.Total.{total, put}
-use Rattle.rational.specs.Ends.{AtLeast, AtMost, Between}
-use Rattle.rational.proofs.Floors.{of_ℤ-≤}
-use Rattle.rational.proofs.MinMaxLaws.{abs_ℚ-is, abs_ℚ-neg}
-use Rattle.rational.proofs.Totals.{put-same, put-other, at_or_off}
-use Rattle.rational.proofs.Signs.{≤ℚ-same, ≤ℚ-*ℚ_down}
+use Rattle.fractions.specs.Ring.{ring, v, num, ◌:+◌, ◌:-◌, ◌:*◌, inv}
+use Rattle.fractions.specs.Number.{Number, rational, zero_ℚ, one_ℚ, neg_ℚ, of_ℤ, of_ℤ-+ℤ, ◌+ℚ◌, ◌-ℚ◌, ◌*ℚ◌}
+use Rattle.fractions.specs.Order.{◌≤ℚ◌, ◌<ℚ◌, ≤ℚ_antisym, ≤ℚ-by, ≤ℚ-*ℚ, <ℚ-≤ℚ}
+use Rattle.fractions.specs.Linear.{linear, fact}
+use Rattle.fractions.specs.Compare.{lt_ℚ}
+use Rattle.fractions.specs.Floor.{IsWhole}
+use Rattle.fractions.specs.MinMax.{abs_ℚ}
+use Rattle.fractions.specs.Total.{total, put}
+use Rattle.fractions.specs.Ends.{AtLeast, AtMost, Between}
+use Rattle.fractions.proofs.Floors.{of_ℤ-≤}
+use Rattle.fractions.proofs.MinMaxLaws.{abs_ℚ-is, abs_ℚ-neg}
+use Rattle.fractions.proofs.Totals.{put-same, put-other, at_or_off}
+use Rattle.fractions.proofs.Signs.{≤ℚ-same, ≤ℚ-*ℚ_down}
 use Rattle.lp_model.specs.declared.program.Sense.{Sense}
 use Rattle.lp_model.specs.Vectors.{Vector}
 use Rattle.lp_model.specs.LinearProgram.{LinearProgram, value_at}

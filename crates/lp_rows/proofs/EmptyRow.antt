@@ -1,9 +1,9 @@
 -- Rows without entries.
 use Rattle.std.proofs.Common.{◌≡◌, ℕ, pos, sym, refl, ap, [], ◌∷◌, ◌∙◌, subst}
-use Rattle.rational.specs.Ring.{ring, v, num, ◌:*◌}
-use Rattle.rational.specs.Number.{rational, zero_ℚ, ◌*ℚ◌}
-use Rattle.rational.specs.Ends.{Between}
-use Rattle.rational.proofs.Totals.{total-zero}
+use Rattle.fractions.specs.Ring.{ring, v, num, ◌:*◌}
+use Rattle.fractions.specs.Number.{rational, zero_ℚ, ◌*ℚ◌}
+use Rattle.fractions.specs.Ends.{Between}
+use Rattle.fractions.proofs.Totals.{total-zero}
 use Rattle.lp_model.specs.declared.program.Sense.{Sense}
 use Rattle.lp_model.specs.declared.program.Sense.TheVariants.{Min}
 use Rattle.lp_model.specs.Vectors.{Vector}

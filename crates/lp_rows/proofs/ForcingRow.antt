@@ -2,16 +2,16 @@
 use Rattle.std.proofs.Common.{◌≡◌, ◌≢◌, ◌⊎◌, ℕ, zero, suc, ◌<◌, pos, sym, refl, ap, ap₂, ◌∙◌, arith, [], ◌∷◌, inl, inr, subst, Option, Some, None, Bool, true, false}
 use Rattle.std.specs.Prelude.{if◌then◌else◌}
 use Rattle.std.proofs.lemmas.Bool.{cases_eq}
-use Rattle.rational.specs.Ring.{ring, v, num, ◌:-◌, ◌:*◌}
-use Rattle.rational.specs.Number.{Number, rational, zero_ℚ, ◌-ℚ◌, ◌*ℚ◌}
-use Rattle.rational.specs.Order.{◌≤ℚ◌, ◌<ℚ◌, ≤ℚ_refl, ≤ℚ_trans, ≤ℚ_antisym, ≤ℚ-*ℚ, ≤ℚ_cases, <ℚ-≤ℚ, <ℚ-not}
-use Rattle.rational.specs.Linear.{linear, fact}
-use Rattle.rational.specs.Compare.{lt_ℚ}
-use Rattle.rational.specs.Division.{◌/ℚ◌}
-use Rattle.rational.specs.Total.{total}
-use Rattle.rational.specs.Ends.{AtLeast, AtMost, Between, plus, scaled}
-use Rattle.rational.proofs.MinMaxLaws.{min_ℚ_one, max_ℚ_one, ≤ℚ-max_ℚ_left, ≤ℚ-max_ℚ_right, min_ℚ-≤_left, min_ℚ-≤_right}
-use Rattle.rational.proofs.Signs.{≤ℚ-same, ≤ℚ-*ℚ_down, over-times, <ℚ-≢, <ℚ-≢'}
+use Rattle.fractions.specs.Ring.{ring, v, num, ◌:-◌, ◌:*◌}
+use Rattle.fractions.specs.Number.{Number, rational, zero_ℚ, ◌-ℚ◌, ◌*ℚ◌}
+use Rattle.fractions.specs.Order.{◌≤ℚ◌, ◌<ℚ◌, ≤ℚ_refl, ≤ℚ_trans, ≤ℚ_antisym, ≤ℚ-*ℚ, ≤ℚ_cases, <ℚ-≤ℚ, <ℚ-not}
+use Rattle.fractions.specs.Linear.{linear, fact}
+use Rattle.fractions.specs.Compare.{lt_ℚ}
+use Rattle.fractions.specs.Division.{◌/ℚ◌}
+use Rattle.fractions.specs.Total.{total}
+use Rattle.fractions.specs.Ends.{AtLeast, AtMost, Between, plus, scaled}
+use Rattle.fractions.proofs.MinMaxLaws.{min_ℚ_one, max_ℚ_one, ≤ℚ-max_ℚ_left, ≤ℚ-max_ℚ_right, min_ℚ-≤_left, min_ℚ-≤_right}
+use Rattle.fractions.proofs.Signs.{≤ℚ-same, ≤ℚ-*ℚ_down, over-times, <ℚ-≢, <ℚ-≢'}
 use Rattle.lp_model.specs.declared.program.Sense.{Sense}
 use Rattle.lp_model.specs.declared.program.Sense.TheVariants.{Min}
 use Rattle.lp_model.specs.Vectors.{Vector}

@@ -1,9 +1,9 @@
 -- A multiplier that is set to 0 and then grows by d is d.
 use Rattle.std.proofs.Common.{◌≡◌, ℕ, pos, sym, refl, ap, ◌∙◌, [], ◌∷◌}
-use Rattle.rational.specs.Ring.{ring, v, num, ◌:+◌}
-use Rattle.rational.specs.Number.{Number, rational, zero_ℚ, ◌+ℚ◌}
-use Rattle.rational.specs.Total.{put}
-use Rattle.rational.proofs.Totals.{put-same, put-other, at_or_off}
+use Rattle.fractions.specs.Ring.{ring, v, num, ◌:+◌}
+use Rattle.fractions.specs.Number.{Number, rational, zero_ℚ, ◌+ℚ◌}
+use Rattle.fractions.specs.Total.{put}
+use Rattle.fractions.proofs.Totals.{put-same, put-other, at_or_off}
 use Rattle.lp_model.specs.Vectors.{Vector}
 
 pub set_from_zero : (y : Vector) (i : ℕ) (d : Number) → put (put y i zero_ℚ) i (put y i zero_ℚ i +ℚ d) ≡ put y i d

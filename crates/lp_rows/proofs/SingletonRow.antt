@@ -2,16 +2,16 @@
 use Rattle.std.proofs.Common.{◌≡◌, ◌≢◌, ℕ, ◌<◌, pos, sym, refl, ap, ◌∙◌, [], ◌∷◌, inl, inr, subst, Option, Some, Bool, true, false, not, ◌&&◌}
 use Rattle.std.specs.Prelude.{if◌then◌else◌}
 use Rattle.std.proofs.lemmas.Bool.{and_parts, or_cases}
-use Rattle.rational.specs.Ring.{ring, v, num, ◌:+◌, ◌:-◌, ◌:*◌}
-use Rattle.rational.specs.Number.{Number, rational, zero_ℚ, ◌+ℚ◌, ◌-ℚ◌, ◌*ℚ◌}
-use Rattle.rational.specs.Order.{◌<ℚ◌, <ℚ-≤ℚ, <ℚ-not}
-use Rattle.rational.specs.Compare.{lt_ℚ}
-use Rattle.rational.specs.Division.{◌/ℚ◌}
-use Rattle.rational.specs.Total.{put}
-use Rattle.rational.specs.Ends.{Between, over, same_end}
-use Rattle.rational.proofs.Totals.{put-same, put-other, at_or_off, total_same, total-zero, total-put}
-use Rattle.rational.proofs.Signs.{over-times}
-use Rattle.rational.proofs.EndLaws.{meet_low-is, meet_high-is, same_end-is}
+use Rattle.fractions.specs.Ring.{ring, v, num, ◌:+◌, ◌:-◌, ◌:*◌}
+use Rattle.fractions.specs.Number.{Number, rational, zero_ℚ, ◌+ℚ◌, ◌-ℚ◌, ◌*ℚ◌}
+use Rattle.fractions.specs.Order.{◌<ℚ◌, <ℚ-≤ℚ, <ℚ-not}
+use Rattle.fractions.specs.Compare.{lt_ℚ}
+use Rattle.fractions.specs.Division.{◌/ℚ◌}
+use Rattle.fractions.specs.Total.{put}
+use Rattle.fractions.specs.Ends.{Between, over, same_end}
+use Rattle.fractions.proofs.Totals.{put-same, put-other, at_or_off, total_same, total-zero, total-put}
+use Rattle.fractions.proofs.Signs.{over-times}
+use Rattle.fractions.proofs.EndLaws.{meet_low-is, meet_high-is, same_end-is}
 use Rattle.lp_model.specs.declared.program.Sense.{Sense}
 use Rattle.lp_model.specs.declared.program.Sense.TheVariants.{Min}
 use Rattle.lp_model.specs.Vectors.{Vector}

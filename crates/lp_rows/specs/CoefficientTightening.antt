@@ -1,11 +1,11 @@
 -- K9: the coefficient of a whole column in a row with one side shrinks by what the row can never use.
 use Rattle.std.specs.Prelude.{◌≡◌, ℕ, ◌<◌, IsTrue, if◌then◌else◌, Option, Some, None}
-use Rattle.rational.specs.Number.{Number, zero_ℚ, one_ℚ, neg_ℚ, ◌+ℚ◌, ◌-ℚ◌, ◌*ℚ◌}
-use Rattle.rational.specs.Order.{◌<ℚ◌}
-use Rattle.rational.specs.Compare.{lt_ℚ}
-use Rattle.rational.specs.Floor.{IsWhole}
-use Rattle.rational.specs.MinMax.{abs_ℚ}
-use Rattle.rational.specs.Ends.{scaled}
+use Rattle.fractions.specs.Number.{Number, zero_ℚ, one_ℚ, neg_ℚ, ◌+ℚ◌, ◌-ℚ◌, ◌*ℚ◌}
+use Rattle.fractions.specs.Order.{◌<ℚ◌}
+use Rattle.fractions.specs.Compare.{lt_ℚ}
+use Rattle.fractions.specs.Floor.{IsWhole}
+use Rattle.fractions.specs.MinMax.{abs_ℚ}
+use Rattle.fractions.specs.Ends.{scaled}
 use Rattle.lp_model.specs.LinearProgram.{LinearProgram}
 use Rattle.lp_theory.specs.Activities.{least_rest, greatest_rest}
 use Rattle.lp_model.specs.Edits.{with_coefficient, with_sides}

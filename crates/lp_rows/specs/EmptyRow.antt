@@ -1,8 +1,8 @@
 -- K1: a row without entries whose sides let 0 through asks nothing.
 use Rattle.std.specs.Prelude.{◌≡◌, ℕ, ◌<◌}
-use Rattle.rational.specs.Number.{zero_ℚ}
-use Rattle.rational.specs.Total.{put}
-use Rattle.rational.specs.Ends.{Between}
+use Rattle.fractions.specs.Number.{zero_ℚ}
+use Rattle.fractions.specs.Total.{put}
+use Rattle.fractions.specs.Ends.{Between}
 use Rattle.lp_model.specs.LinearProgram.{LinearProgram}
 use Rattle.lp_model.specs.Reductions.{Priced}
 use Rattle.lp_model.specs.Edits.{without_row}

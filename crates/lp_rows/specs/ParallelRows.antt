@@ -1,9 +1,9 @@
 -- K15: of two rows of which one is s times the other, the other takes over its sides.
 use Rattle.std.specs.Prelude.{◌≡◌, ◌≢◌, ℕ, ◌<◌, if◌then◌else◌, Option}
-use Rattle.rational.specs.Number.{Number, zero_ℚ, ◌*ℚ◌}
-use Rattle.rational.specs.Division.{◌/ℚ◌}
-use Rattle.rational.specs.Total.{total, put}
-use Rattle.rational.specs.Ends.{meet_low, meet_high}
+use Rattle.fractions.specs.Number.{Number, zero_ℚ, ◌*ℚ◌}
+use Rattle.fractions.specs.Division.{◌/ℚ◌}
+use Rattle.fractions.specs.Total.{total, put}
+use Rattle.fractions.specs.Ends.{meet_low, meet_high}
 use Rattle.lp_model.specs.Vectors.{Vector}
 use Rattle.lp_model.specs.LinearProgram.{LinearProgram}
 use Rattle.lp_model.specs.Reductions.{Priced}

@@ -1,8 +1,8 @@
 -- K5: a row whose sides its columns' bounds already keep asks nothing.
 use Rattle.std.specs.Prelude.{ℕ, ◌<◌}
-use Rattle.rational.specs.Number.{zero_ℚ}
-use Rattle.rational.specs.Total.{put}
-use Rattle.rational.specs.Ends.{LowBelow, HighAbove}
+use Rattle.fractions.specs.Number.{zero_ℚ}
+use Rattle.fractions.specs.Total.{put}
+use Rattle.fractions.specs.Ends.{LowBelow, HighAbove}
 use Rattle.lp_model.specs.LinearProgram.{LinearProgram}
 use Rattle.lp_model.specs.Reductions.{Priced}
 use Rattle.lp_theory.specs.Activities.{least, greatest}

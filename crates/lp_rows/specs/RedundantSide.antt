@@ -1,6 +1,6 @@
 -- K6: a side that the columns' bounds already keep is dropped.
 use Rattle.std.specs.Prelude.{ℕ, ◌<◌, None}
-use Rattle.rational.specs.Ends.{LowBelow, HighAbove}
+use Rattle.fractions.specs.Ends.{LowBelow, HighAbove}
 use Rattle.lp_model.specs.LinearProgram.{LinearProgram}
 use Rattle.lp_theory.specs.Activities.{least, greatest}
 use Rattle.lp_model.specs.Edits.{with_sides}

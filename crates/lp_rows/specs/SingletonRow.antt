@@ -1,9 +1,9 @@
 -- K2: a row with one entry a at column j becomes bounds of the column.
 use Rattle.std.specs.Prelude.{◌≡◌, ◌≢◌, ℕ, ◌<◌, if◌then◌else◌, Option}
-use Rattle.rational.specs.Number.{Number, zero_ℚ}
-use Rattle.rational.specs.Division.{◌/ℚ◌}
-use Rattle.rational.specs.Total.{put}
-use Rattle.rational.specs.Ends.{meet_low, meet_high}
+use Rattle.fractions.specs.Number.{Number, zero_ℚ}
+use Rattle.fractions.specs.Division.{◌/ℚ◌}
+use Rattle.fractions.specs.Total.{put}
+use Rattle.fractions.specs.Ends.{meet_low, meet_high}
 use Rattle.lp_model.specs.LinearProgram.{LinearProgram}
 use Rattle.lp_model.specs.Reductions.{Priced}
 use Rattle.lp_model.specs.Edits.{without_row, with_bounds}

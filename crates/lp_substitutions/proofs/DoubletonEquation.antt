@@ -1,18 +1,18 @@
 -- A column substituted by an equation of two.
 use Rattle.std.proofs.Common.{◌≡◌, ◌≢◌, ℕ, ◌<◌, pos, sym, refl, ap, ap₂, ◌∙◌, [], ◌∷◌, subst, Option, Some, None, Bool, true, false, IsTrue}
 use Rattle.std.specs.Prelude.{if◌then◌else◌}
-use Rattle.rational.specs.Ring.{ring, v, num, ◌:+◌, ◌:-◌, ◌:*◌}
-use Rattle.rational.specs.Number.{Number, rational, zero_ℚ, ◌+ℚ◌, ◌-ℚ◌, ◌*ℚ◌}
-use Rattle.rational.specs.Order.{◌≤ℚ◌, ◌<ℚ◌, ≤ℚ_refl, ≤ℚ_antisym, ≤ℚ-by, ≤ℚ-*ℚ, <ℚ-≤ℚ}
-use Rattle.rational.specs.Division.{inv_ℚ, ◌/ℚ◌, *ℚ-inv_ℚ}
-use Rattle.rational.specs.Compare.{lt_ℚ}
-use Rattle.rational.specs.Floor.{IsWhole}
-use Rattle.rational.specs.Total.{total, put}
-use Rattle.rational.specs.Ends.{AtLeast, AtMost, Between, less, meet_low, meet_high}
-use Rattle.rational.proofs.Totals.{put-same, put-other, at_or_off}
-use Rattle.rational.proofs.Signs.{≤ℚ-*ℚ_down, times-over, over-times, ≤ℚ-cancel, ≤ℚ-cancel_down}
-use Rattle.rational.proofs.EndLaws.{meet_low-is, meet_high-is}
-use Rattle.rational.proofs.Floors.{IsWhole-+ℚ, IsWhole-*ℚ, IsWhole-neg_ℚ}
+use Rattle.fractions.specs.Ring.{ring, v, num, ◌:+◌, ◌:-◌, ◌:*◌}
+use Rattle.fractions.specs.Number.{Number, rational, zero_ℚ, ◌+ℚ◌, ◌-ℚ◌, ◌*ℚ◌}
+use Rattle.fractions.specs.Order.{◌≤ℚ◌, ◌<ℚ◌, ≤ℚ_refl, ≤ℚ_antisym, ≤ℚ-by, ≤ℚ-*ℚ, <ℚ-≤ℚ}
+use Rattle.fractions.specs.Division.{inv_ℚ, ◌/ℚ◌, *ℚ-inv_ℚ}
+use Rattle.fractions.specs.Compare.{lt_ℚ}
+use Rattle.fractions.specs.Floor.{IsWhole}
+use Rattle.fractions.specs.Total.{total, put}
+use Rattle.fractions.specs.Ends.{AtLeast, AtMost, Between, less, meet_low, meet_high}
+use Rattle.fractions.proofs.Totals.{put-same, put-other, at_or_off}
+use Rattle.fractions.proofs.Signs.{≤ℚ-*ℚ_down, times-over, over-times, ≤ℚ-cancel, ≤ℚ-cancel_down}
+use Rattle.fractions.proofs.EndLaws.{meet_low-is, meet_high-is}
+use Rattle.fractions.proofs.Floors.{IsWhole-+ℚ, IsWhole-*ℚ, IsWhole-neg_ℚ}
 use Rattle.lp_model.specs.declared.program.Sense.{Sense}
 use Rattle.lp_model.specs.Vectors.{Vector}
 use Rattle.lp_model.specs.LinearProgram.{LinearProgram, value_at, cost_at, Feasible}

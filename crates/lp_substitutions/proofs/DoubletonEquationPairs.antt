@@ -1,15 +1,15 @@
 -- The doubleton equation keeps optimality conditions.
 use Rattle.std.proofs.Common.{◌≡◌, ◌≢◌, ℕ, ◌<◌, pos, sym, refl, ap, ap₂, ◌∙◌, [], ◌∷◌, subst, Option, Some, None, Bool, true, false}
 use Rattle.std.specs.Prelude.{if◌then◌else◌}
-use Rattle.rational.specs.Ring.{ring, v, num, ◌:+◌, ◌:-◌, ◌:*◌, inv}
-use Rattle.rational.specs.Number.{Number, rational, zero_ℚ, ◌+ℚ◌, ◌-ℚ◌, ◌*ℚ◌, neg_ℚ}
-use Rattle.rational.specs.Order.{<ℚ-≤ℚ}
-use Rattle.rational.specs.Division.{inv_ℚ, ◌/ℚ◌, *ℚ-inv_ℚ}
-use Rattle.rational.specs.Compare.{lt_ℚ}
-use Rattle.rational.specs.Total.{total, put}
-use Rattle.rational.specs.Ends.{less, meet_low, meet_high}
-use Rattle.rational.proofs.Totals.{put-same, put-other, at_or_off, total_same, total-+, total-*}
-use Rattle.rational.proofs.Signs.{over-times}
+use Rattle.fractions.specs.Ring.{ring, v, num, ◌:+◌, ◌:-◌, ◌:*◌, inv}
+use Rattle.fractions.specs.Number.{Number, rational, zero_ℚ, ◌+ℚ◌, ◌-ℚ◌, ◌*ℚ◌, neg_ℚ}
+use Rattle.fractions.specs.Order.{<ℚ-≤ℚ}
+use Rattle.fractions.specs.Division.{inv_ℚ, ◌/ℚ◌, *ℚ-inv_ℚ}
+use Rattle.fractions.specs.Compare.{lt_ℚ}
+use Rattle.fractions.specs.Total.{total, put}
+use Rattle.fractions.specs.Ends.{less, meet_low, meet_high}
+use Rattle.fractions.proofs.Totals.{put-same, put-other, at_or_off, total_same, total-+, total-*}
+use Rattle.fractions.proofs.Signs.{over-times}
 use Rattle.lp_model.specs.declared.program.Sense.TheVariants.{Min}
 use Rattle.lp_model.specs.Vectors.{Vector}
 use Rattle.lp_model.specs.LinearProgram.{LinearProgram, value_at}

@@ -1,16 +1,16 @@
 -- The free column singleton: points and pairs.
 use Rattle.std.proofs.Common.{◌≡◌, ◌≢◌, ℕ, ◌<◌, pos, sym, refl, ap, ap₂, ◌∙◌, [], ◌∷◌, subst, Option, Some, None, Bool, true, false}
 use Rattle.std.specs.Prelude.{if◌then◌else◌}
-use Rattle.rational.specs.Ring.{ring, v, num, ◌:+◌, ◌:-◌, ◌:*◌}
-use Rattle.rational.specs.Number.{Number, rational, zero_ℚ, ◌+ℚ◌, ◌-ℚ◌, ◌*ℚ◌}
-use Rattle.rational.specs.Order.{≤ℚ_refl, ≤ℚ_trans, ≤ℚ-by, <ℚ-≤ℚ, <ℚ-not}
-use Rattle.rational.specs.Compare.{lt_ℚ}
-use Rattle.rational.specs.Division.{◌/ℚ◌}
-use Rattle.rational.specs.Total.{put}
-use Rattle.rational.specs.Ends.{AtLeast, AtMost, Between, same_end, minus_ends, LowBelow, HighAbove}
-use Rattle.rational.proofs.Totals.{put-same, put-other, at_or_off, total_same}
-use Rattle.rational.proofs.Signs.{≤ℚ-same, over-times}
-use Rattle.rational.proofs.EndLaws.{same_end-is}
+use Rattle.fractions.specs.Ring.{ring, v, num, ◌:+◌, ◌:-◌, ◌:*◌}
+use Rattle.fractions.specs.Number.{Number, rational, zero_ℚ, ◌+ℚ◌, ◌-ℚ◌, ◌*ℚ◌}
+use Rattle.fractions.specs.Order.{≤ℚ_refl, ≤ℚ_trans, ≤ℚ-by, <ℚ-≤ℚ, <ℚ-not}
+use Rattle.fractions.specs.Compare.{lt_ℚ}
+use Rattle.fractions.specs.Division.{◌/ℚ◌}
+use Rattle.fractions.specs.Total.{put}
+use Rattle.fractions.specs.Ends.{AtLeast, AtMost, Between, same_end, minus_ends, LowBelow, HighAbove}
+use Rattle.fractions.proofs.Totals.{put-same, put-other, at_or_off, total_same}
+use Rattle.fractions.proofs.Signs.{≤ℚ-same, over-times}
+use Rattle.fractions.proofs.EndLaws.{same_end-is}
 use Rattle.lp_model.specs.declared.program.Sense.TheVariants.{Min}
 use Rattle.lp_model.specs.Vectors.{Vector}
 use Rattle.lp_model.specs.LinearProgram.{LinearProgram, value_at, cost_at, Feasible}

@@ -1,17 +1,17 @@
 -- The slack column singleton: points and pairs.
 use Rattle.std.proofs.Common.{◌≡◌, ◌≢◌, ℕ, ◌<◌, pos, sym, refl, ap, ap₂, ◌∙◌, [], ◌∷◌, inl, inr, subst, Option, Some, None, Bool, true, false}
 use Rattle.std.specs.Prelude.{if◌then◌else◌}
-use Rattle.rational.specs.Ring.{ring, v, num, ◌:+◌, ◌:-◌, ◌:*◌, inv}
-use Rattle.rational.specs.Linear.{linear, fact}
-use Rattle.rational.specs.Number.{Number, rational, zero_ℚ, neg_ℚ, ◌+ℚ◌, ◌-ℚ◌, ◌*ℚ◌}
-use Rattle.rational.specs.Order.{◌≤ℚ◌, ◌<ℚ◌, ≤ℚ_antisym, <ℚ-≤ℚ}
-use Rattle.rational.specs.Compare.{lt_ℚ, eq_ℚ}
-use Rattle.rational.specs.Division.{inv_ℚ, ◌/ℚ◌}
-use Rattle.rational.specs.Total.{put}
-use Rattle.rational.specs.Ends.{AtLeast, AtMost, Between, less, minus_ends}
-use Rattle.rational.proofs.Comparisons.{eq_ℚ-is}
-use Rattle.rational.proofs.Totals.{put-same, put-other, at_or_off}
-use Rattle.rational.proofs.Signs.{over-times}
+use Rattle.fractions.specs.Ring.{ring, v, num, ◌:+◌, ◌:-◌, ◌:*◌, inv}
+use Rattle.fractions.specs.Linear.{linear, fact}
+use Rattle.fractions.specs.Number.{Number, rational, zero_ℚ, neg_ℚ, ◌+ℚ◌, ◌-ℚ◌, ◌*ℚ◌}
+use Rattle.fractions.specs.Order.{◌≤ℚ◌, ◌<ℚ◌, ≤ℚ_antisym, <ℚ-≤ℚ}
+use Rattle.fractions.specs.Compare.{lt_ℚ, eq_ℚ}
+use Rattle.fractions.specs.Division.{inv_ℚ, ◌/ℚ◌}
+use Rattle.fractions.specs.Total.{put}
+use Rattle.fractions.specs.Ends.{AtLeast, AtMost, Between, less, minus_ends}
+use Rattle.fractions.proofs.Comparisons.{eq_ℚ-is}
+use Rattle.fractions.proofs.Totals.{put-same, put-other, at_or_off}
+use Rattle.fractions.proofs.Signs.{over-times}
 use Rattle.lp_model.specs.declared.program.Sense.{Sense}
 use Rattle.lp_model.specs.declared.program.Sense.TheVariants.{Min}
 use Rattle.lp_model.specs.Vectors.{Vector}

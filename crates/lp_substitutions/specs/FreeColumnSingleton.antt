@@ -1,10 +1,10 @@
 -- K13: a continuous column with one entry whose bounds are implied by its row leaves with the row.
 use Rattle.std.specs.Prelude.{◌≡◌, ℕ, if◌then◌else◌, Option, Some, None}
-use Rattle.rational.specs.Number.{Number, zero_ℚ, ◌-ℚ◌, ◌*ℚ◌}
-use Rattle.rational.specs.Compare.{lt_ℚ}
-use Rattle.rational.specs.Division.{◌/ℚ◌}
-use Rattle.rational.specs.Total.{put}
-use Rattle.rational.specs.Ends.{same_end, minus_ends, LowBelow, HighAbove}
+use Rattle.fractions.specs.Number.{Number, zero_ℚ, ◌-ℚ◌, ◌*ℚ◌}
+use Rattle.fractions.specs.Compare.{lt_ℚ}
+use Rattle.fractions.specs.Division.{◌/ℚ◌}
+use Rattle.fractions.specs.Total.{put}
+use Rattle.fractions.specs.Ends.{same_end, minus_ends, LowBelow, HighAbove}
 use Rattle.lp_model.specs.Vectors.{Vector}
 use Rattle.lp_model.specs.LinearProgram.{LinearProgram}
 use Rattle.lp_model.specs.Reductions.{Priced}

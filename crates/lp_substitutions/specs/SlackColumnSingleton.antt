@@ -1,10 +1,10 @@
 -- K14: a continuous column with one entry is a slack of its row: it leaves, and the row's sides are moved apart by its bounds.
 use Rattle.std.specs.Prelude.{◌≡◌, ◌⊎◌, ℕ, if◌then◌else◌, Option, Some, None}
-use Rattle.rational.specs.Number.{Number, zero_ℚ, neg_ℚ, ◌+ℚ◌, ◌*ℚ◌}
-use Rattle.rational.specs.Compare.{eq_ℚ}
-use Rattle.rational.specs.Division.{◌/ℚ◌}
-use Rattle.rational.specs.Total.{put}
-use Rattle.rational.specs.Ends.{less, minus_ends, meet_low, meet_high}
+use Rattle.fractions.specs.Number.{Number, zero_ℚ, neg_ℚ, ◌+ℚ◌, ◌*ℚ◌}
+use Rattle.fractions.specs.Compare.{eq_ℚ}
+use Rattle.fractions.specs.Division.{◌/ℚ◌}
+use Rattle.fractions.specs.Total.{put}
+use Rattle.fractions.specs.Ends.{less, minus_ends, meet_low, meet_high}
 use Rattle.lp_model.specs.Vectors.{Vector}
 use Rattle.lp_model.specs.LinearProgram.{LinearProgram}
 use Rattle.lp_model.specs.Reductions.{Priced}

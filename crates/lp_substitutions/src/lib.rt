@@ -6,7 +6,7 @@
 #![tactic(auto)]
 
 ghost use Rattle.std.specs.Prelude.{ℕ};
-ghost use Rattle.rational.specs.Number.{Number};
+ghost use Rattle.fractions.specs.Number.{Number};
 ghost use Rattle.lp_model.specs.declared.program.Sense.{Sense};
 ghost use Rattle.lp_model.specs.declared.program.Sense.TheVariants.{Min};
 ghost use Rattle.lp_model.specs.LinearProgram.{LinearProgram};

@@ -1,17 +1,17 @@
 -- A row's value lies between its least and greatest activity; bounds that a row implies.
 use Rattle.std.proofs.Common.{◌≡◌, ℕ, zero, suc, ◌<◌, ◌≢◌, pos, sym, refl, ap, ◌∙◌, arith, [], ◌∷◌, ◌⊎◌, inl, inr, subst, Option, Some, None, Bool, true, false, T}
 use Rattle.std.specs.Prelude.{if◌then◌else◌}
-use Rattle.rational.specs.Ring.{ring, v, num, ◌:+◌, ◌:-◌, ◌:*◌}
-use Rattle.rational.specs.Order.{◌≤ℚ◌, ◌<ℚ◌, ≤ℚ_refl, ≤ℚ_antisym, ≤ℚ-+ℚ, ≤ℚ-*ℚ, ≤ℚ_cases, <ℚ-≤ℚ}
-use Rattle.rational.specs.Number.{Number, rational, ◌+ℚ◌, ◌*ℚ◌, zero_ℚ}
-use Rattle.rational.specs.Total.{total, put}
+use Rattle.fractions.specs.Ring.{ring, v, num, ◌:+◌, ◌:-◌, ◌:*◌}
+use Rattle.fractions.specs.Order.{◌≤ℚ◌, ◌<ℚ◌, ≤ℚ_refl, ≤ℚ_antisym, ≤ℚ-+ℚ, ≤ℚ-*ℚ, ≤ℚ_cases, <ℚ-≤ℚ}
+use Rattle.fractions.specs.Number.{Number, rational, ◌+ℚ◌, ◌*ℚ◌, zero_ℚ}
+use Rattle.fractions.specs.Total.{total, put}
 use Rattle.lp_model.specs.LinearProgram.{LinearProgram, value_at}
 use Rattle.lp_model.specs.Vectors.{Vector}
-use Rattle.rational.specs.Ends.{AtLeast, AtMost, Between, plus, scaled}
-use Rattle.rational.specs.Compare.{lt_ℚ}
+use Rattle.fractions.specs.Ends.{AtLeast, AtMost, Between, plus, scaled}
+use Rattle.fractions.specs.Compare.{lt_ℚ}
 use Rattle.lp_theory.specs.Activities.{total_ends, least_term, greatest_term, least_terms, greatest_terms, least, greatest, least_rest, greatest_rest}
-use Rattle.rational.proofs.Totals.{put-same, put-other, at_or_off, total-put}
-use Rattle.rational.proofs.Signs.{≤ℚ-same, ≤ℚ-*ℚ_down}
+use Rattle.fractions.proofs.Totals.{put-same, put-other, at_or_off, total-put}
+use Rattle.fractions.proofs.Signs.{≤ℚ-same, ≤ℚ-*ℚ_down}
 
 pub AtLeast-+ : (p q : Option Number) (a b : Number) → AtLeast p a → AtLeast q b → AtLeast (plus p q) (a +ℚ b)
 AtLeast-+ None q a b h k = tt

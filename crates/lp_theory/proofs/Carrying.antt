@@ -1,7 +1,7 @@
 -- The optimality conditions of the sense Min, one by one, with reduced costs as an undoing carries them.
 use Rattle.std.proofs.Common.{◌≡◌, ℕ, ◌<◌, sym, subst, Some, ◌∙◌}
-use Rattle.rational.specs.Number.{zero_ℚ}
-use Rattle.rational.specs.Order.{◌<ℚ◌}
+use Rattle.fractions.specs.Number.{zero_ℚ}
+use Rattle.fractions.specs.Order.{◌<ℚ◌}
 use Rattle.lp_model.specs.declared.program.Sense.TheVariants.{Min}
 use Rattle.lp_model.specs.Vectors.{Vector}
 use Rattle.lp_model.specs.LinearProgram.{LinearProgram, value_at, Feasible}

@@ -1,8 +1,8 @@
 -- No number lies between crossed ends, and what is at one of two ends that are not crossed is within the other.
 use Rattle.std.proofs.Common.{inl, inr, Option, Some, None}
-use Rattle.rational.specs.Number.{Number}
-use Rattle.rational.specs.Order.{◌≤ℚ◌, ◌<ℚ◌, ≤ℚ_trans, ≤ℚ_cases, <ℚ-not}
-use Rattle.rational.specs.Ends.{AtLeast, AtMost, Between}
+use Rattle.fractions.specs.Number.{Number}
+use Rattle.fractions.specs.Order.{◌≤ℚ◌, ◌<ℚ◌, ≤ℚ_trans, ≤ℚ_cases, <ℚ-not}
+use Rattle.fractions.specs.Ends.{AtLeast, AtMost, Between}
 use Rattle.lp_theory.specs.Crossed.{AreCrossed}
 
 pub not_crossed : (l u : Option Number) (x : Number) → AreCrossed l u → Between l u x → ⊥

@@ -1,15 +1,15 @@
 -- A column that is put elsewhere: sums, ranges, points and reduced costs.
 use Rattle.std.proofs.Common.{◌≡◌, ◌≢◌, ℕ, ◌<◌, pos, sym, refl, ap, ap₂, ◌∙◌, [], ◌∷◌, subst, Option, Some, None, false, IsTrue}
-use Rattle.rational.specs.Ring.{ring, v, num, ◌:+◌, ◌:-◌, ◌:*◌}
-use Rattle.rational.specs.Linear.{linear, fact}
-use Rattle.rational.specs.Number.{Number, rational, zero_ℚ, ◌+ℚ◌, ◌-ℚ◌, ◌*ℚ◌}
-use Rattle.rational.specs.Division.{◌/ℚ◌}
-use Rattle.rational.specs.Floor.{IsWhole}
-use Rattle.rational.specs.Total.{total, put}
-use Rattle.rational.specs.Ends.{AtLeast, AtMost, Between, less, minus_ends}
-use Rattle.rational.proofs.Totals.{put-same, put-other, at_or_off, total_same, total-zero, total-+, total-*, total-put, total-put_both, total-put_factor}
-use Rattle.rational.proofs.Signs.{over-times}
-use Rattle.rational.proofs.EndLaws.{less-low, less-high}
+use Rattle.fractions.specs.Ring.{ring, v, num, ◌:+◌, ◌:-◌, ◌:*◌}
+use Rattle.fractions.specs.Linear.{linear, fact}
+use Rattle.fractions.specs.Number.{Number, rational, zero_ℚ, ◌+ℚ◌, ◌-ℚ◌, ◌*ℚ◌}
+use Rattle.fractions.specs.Division.{◌/ℚ◌}
+use Rattle.fractions.specs.Floor.{IsWhole}
+use Rattle.fractions.specs.Total.{total, put}
+use Rattle.fractions.specs.Ends.{AtLeast, AtMost, Between, less, minus_ends}
+use Rattle.fractions.proofs.Totals.{put-same, put-other, at_or_off, total_same, total-zero, total-+, total-*, total-put, total-put_both, total-put_factor}
+use Rattle.fractions.proofs.Signs.{over-times}
+use Rattle.fractions.proofs.EndLaws.{less-low, less-high}
 use Rattle.lp_model.specs.declared.program.Sense.TheVariants.{Min}
 use Rattle.lp_model.specs.Vectors.{Vector}
 use Rattle.lp_model.specs.LinearProgram.{LinearProgram, value_at, cost_at, Feasible}

@@ -1,14 +1,14 @@
 -- Ends that meet those of a deleted row over a factor, and which of them holds a multiplier.
 use Rattle.std.proofs.Common.{◌≡◌, ◌≢◌, pos, sym, refl, ap, ◌∙◌, [], ◌∷◌, ◌⊎◌, inl, inr, subst, Option, Some, None, Bool, true, false, not, T, ◌&&◌, ◌||◌}
 use Rattle.std.specs.Prelude.{if◌then◌else◌}
-use Rattle.rational.specs.Ring.{ring, v, num, ◌:*◌}
-use Rattle.rational.specs.Number.{Number, rational, zero_ℚ, ◌*ℚ◌}
-use Rattle.rational.specs.Order.{◌≤ℚ◌, ◌<ℚ◌, ≤ℚ_antisym, ≤ℚ_cases}
-use Rattle.rational.specs.Compare.{lt_ℚ, le_ℚ}
-use Rattle.rational.specs.Division.{◌/ℚ◌, inv_ℚ}
-use Rattle.rational.specs.Ends.{Between, over, meet_low, meet_high, same_end}
-use Rattle.rational.proofs.Signs.{over-times, over-≤, over-≤_down}
-use Rattle.rational.proofs.EndLaws.{same_end-is, over-low, over-high, over-low_down, over-high_down}
+use Rattle.fractions.specs.Ring.{ring, v, num, ◌:*◌}
+use Rattle.fractions.specs.Number.{Number, rational, zero_ℚ, ◌*ℚ◌}
+use Rattle.fractions.specs.Order.{◌≤ℚ◌, ◌<ℚ◌, ≤ℚ_antisym, ≤ℚ_cases}
+use Rattle.fractions.specs.Compare.{lt_ℚ, le_ℚ}
+use Rattle.fractions.specs.Division.{◌/ℚ◌, inv_ℚ}
+use Rattle.fractions.specs.Ends.{Between, over, meet_low, meet_high, same_end}
+use Rattle.fractions.proofs.Signs.{over-times, over-≤, over-≤_down}
+use Rattle.fractions.proofs.EndLaws.{same_end-is, over-low, over-high, over-low_down, over-high_down}
 use Rattle.lp_theory.specs.MetEnds.{lower_over, upper_over}
 use Rattle.lp_theory.proofs.ActivityLaws.{lt_true, lt_false}
 use Rattle.lp_theory.proofs.Pairs.{some_inj}

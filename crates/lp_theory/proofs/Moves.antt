@@ -1,9 +1,9 @@
 -- Values and costs under a change of one coordinate or one coefficient.
 use Rattle.std.proofs.Common.{ℕ, ap, ◌∙◌, [], ◌∷◌, refl}
-use Rattle.rational.specs.Ring.{ring, v, ◌:+◌}
-use Rattle.rational.specs.Number.{Number, rational, ◌+ℚ◌, ◌-ℚ◌, ◌*ℚ◌}
-use Rattle.rational.specs.Total.{total, put}
-use Rattle.rational.proofs.Totals.{put-same, total-put_point, total-put_factor}
+use Rattle.fractions.specs.Ring.{ring, v, ◌:+◌}
+use Rattle.fractions.specs.Number.{Number, rational, ◌+ℚ◌, ◌-ℚ◌, ◌*ℚ◌}
+use Rattle.fractions.specs.Total.{total, put}
+use Rattle.fractions.proofs.Totals.{put-same, total-put_point, total-put_factor}
 use Rattle.lp_theory.specs.Changes.{ValueMoves, CostMoves, CoefficientMoves}
 
 pub value_moves : ValueMoves

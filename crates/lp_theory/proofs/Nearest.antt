@@ -1,14 +1,14 @@
 -- The number nearest to 0 in ranges that meet.
 use Rattle.std.proofs.Common.{◌≡◌, ◌≢◌, pos, sym, refl, ap, ◌∙◌, subst, inl, inr, Option, Some, None, Bool, true, false}
 use Rattle.std.specs.Prelude.{if◌then◌else◌, IfSome}
-use Rattle.rational.specs.Number.{Number, zero_ℚ, ◌*ℚ◌}
-use Rattle.rational.specs.Order.{◌≤ℚ◌, ◌<ℚ◌, ≤ℚ_refl}
-use Rattle.rational.specs.Compare.{lt_ℚ}
-use Rattle.rational.specs.Floor.{IsWhole}
-use Rattle.rational.specs.Ends.{AtMost, Between, meet_low, meet_high, scaled, over}
-use Rattle.rational.proofs.EndLaws.{meet_low-is, meet_high-is}
-use Rattle.rational.proofs.MinMaxLaws.{max_ℚ_one, min_ℚ_one}
-use Rattle.rational.proofs.Signs.{low_pos, high_pos, low_neg, high_neg, over-≤, over-≤_down}
+use Rattle.fractions.specs.Number.{Number, zero_ℚ, ◌*ℚ◌}
+use Rattle.fractions.specs.Order.{◌≤ℚ◌, ◌<ℚ◌, ≤ℚ_refl}
+use Rattle.fractions.specs.Compare.{lt_ℚ}
+use Rattle.fractions.specs.Floor.{IsWhole}
+use Rattle.fractions.specs.Ends.{AtMost, Between, meet_low, meet_high, scaled, over}
+use Rattle.fractions.proofs.EndLaws.{meet_low-is, meet_high-is}
+use Rattle.fractions.proofs.MinMaxLaws.{max_ℚ_one, min_ℚ_one}
+use Rattle.fractions.proofs.Signs.{low_pos, high_pos, low_neg, high_neg, over-≤, over-≤_down}
 use Rattle.lp_theory.specs.Activities.{least_term, greatest_term}
 use Rattle.lp_theory.specs.MetEnds.{lower_over, upper_over}
 use Rattle.lp_theory.specs.Nearest.{InOrder, near_below, near}

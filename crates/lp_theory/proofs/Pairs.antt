@@ -2,23 +2,23 @@
 use Rattle.std.proofs.Common.{◌≡◌, ◌≢◌, ℕ, zero, suc, ◌<◌, pos, sym, refl, ap, ap₂, ◌∙◌, arith, [], ◌∷◌, inl, inr, subst, Option, Some, None, Bool, true, false}
 use Rattle.std.specs.Prelude.{if◌then◌else◌}
 use Rattle.std.proofs.lemmas.Bool.{cases_eq}
-use Rattle.rational.specs.Ring.{ring, v, num, ◌:+◌, ◌:-◌, ◌:*◌}
-use Rattle.rational.specs.Order.{◌≤ℚ◌, ◌<ℚ◌, ≤ℚ_refl, ≤ℚ_antisym, ≤ℚ_cases, <ℚ-≤ℚ, <ℚ-not}
-use Rattle.rational.specs.Linear.{linear, fact}
-use Rattle.rational.specs.Number.{Number, rational, ◌+ℚ◌, ◌-ℚ◌, ◌*ℚ◌, zero_ℚ}
-use Rattle.rational.specs.Division.{◌/ℚ◌}
-use Rattle.rational.specs.Total.{total, put}
+use Rattle.fractions.specs.Ring.{ring, v, num, ◌:+◌, ◌:-◌, ◌:*◌}
+use Rattle.fractions.specs.Order.{◌≤ℚ◌, ◌<ℚ◌, ≤ℚ_refl, ≤ℚ_antisym, ≤ℚ_cases, <ℚ-≤ℚ, <ℚ-not}
+use Rattle.fractions.specs.Linear.{linear, fact}
+use Rattle.fractions.specs.Number.{Number, rational, ◌+ℚ◌, ◌-ℚ◌, ◌*ℚ◌, zero_ℚ}
+use Rattle.fractions.specs.Division.{◌/ℚ◌}
+use Rattle.fractions.specs.Total.{total, put}
 use Rattle.lp_model.specs.LinearProgram.{LinearProgram, value_at, Feasible}
 use Rattle.lp_model.specs.Vectors.{Vector}
-use Rattle.rational.specs.Ends.{AtLeast, AtMost, plus, scaled}
+use Rattle.fractions.specs.Ends.{AtLeast, AtMost, plus, scaled}
 use Rattle.lp_model.specs.Reductions.{Priced}
 use Rattle.lp_theory.proofs.Carrying.{Carries, PairsReduce}
 use Rattle.lp_model.specs.Optimality.{reduced_cost}
-use Rattle.rational.specs.Compare.{lt_ℚ}
+use Rattle.fractions.specs.Compare.{lt_ℚ}
 use Rattle.lp_theory.specs.Activities.{least_term, total_ends}
 use Rattle.lp_model.specs.Edits.{without_row}
-use Rattle.rational.proofs.Totals.{put-same, put-other, at_or_off, total_same, total-put_factor}
-use Rattle.rational.proofs.Signs.{times-over, <ℚ-≢, <ℚ-≢'}
+use Rattle.fractions.proofs.Totals.{put-same, put-other, at_or_off, total_same, total-put_factor}
+use Rattle.fractions.proofs.Signs.{times-over, <ℚ-≢, <ℚ-≢'}
 use Rattle.lp_theory.proofs.ActivityLaws.{lt_true, lt_false, total_ends-low, total_ends-high}
 use Rattle.lp_theory.proofs.Steps.{value-without_row}
 

@@ -1,10 +1,10 @@
 -- Where a row's value reaches an activity, each column is at its end.
 use Rattle.std.proofs.Common.{◌≡◌, ◌≢◌, ℕ, ◌<◌, sym, ap, ◌∙◌, Some}
-use Rattle.rational.specs.Number.{zero_ℚ, ◌*ℚ◌}
-use Rattle.rational.specs.Order.{≤ℚ_refl}
-use Rattle.rational.specs.Total.{put}
-use Rattle.rational.specs.Ends.{AtLeast, AtMost}
-use Rattle.rational.proofs.Totals.{put-same, put-other, at_or_off}
+use Rattle.fractions.specs.Number.{zero_ℚ, ◌*ℚ◌}
+use Rattle.fractions.specs.Order.{≤ℚ_refl}
+use Rattle.fractions.specs.Total.{put}
+use Rattle.fractions.specs.Ends.{AtLeast, AtMost}
+use Rattle.fractions.proofs.Totals.{put-same, put-other, at_or_off}
 use Rattle.lp_model.specs.Vectors.{Vector}
 use Rattle.lp_model.specs.LinearProgram.{LinearProgram, value_at}
 use Rattle.lp_theory.specs.Activities.{least_terms, greatest_terms, least, greatest, least_rest, greatest_rest, InBounds}

@@ -1,11 +1,11 @@
 -- Ends that follow from others, and bounds of one term of a sum from ends of the sum and of the rest.
 use Rattle.std.proofs.Common.{refl, [], ◌∷◌, Option, Some, None}
-use Rattle.rational.specs.Ring.{v, ◌:+◌, ◌:-◌}
-use Rattle.rational.specs.Number.{Number, zero_ℚ, ◌+ℚ◌, ◌-ℚ◌, ◌*ℚ◌}
-use Rattle.rational.specs.Order.{◌<ℚ◌, ≤ℚ_trans}
-use Rattle.rational.specs.Linear.{linear, fact}
-use Rattle.rational.specs.Ends.{AtLeast, AtMost, LowBelow, HighAbove, minus_ends, over}
-use Rattle.rational.proofs.Signs.{low_pos, high_pos, low_neg, high_neg}
+use Rattle.fractions.specs.Ring.{v, ◌:+◌, ◌:-◌}
+use Rattle.fractions.specs.Number.{Number, zero_ℚ, ◌+ℚ◌, ◌-ℚ◌, ◌*ℚ◌}
+use Rattle.fractions.specs.Order.{◌<ℚ◌, ≤ℚ_trans}
+use Rattle.fractions.specs.Linear.{linear, fact}
+use Rattle.fractions.specs.Ends.{AtLeast, AtMost, LowBelow, HighAbove, minus_ends, over}
+use Rattle.fractions.proofs.Signs.{low_pos, high_pos, low_neg, high_neg}
 
 pub at_least_from : (p q : Option Number) (x : Number) → LowBelow p q → AtLeast q x → AtLeast p x
 at_least_from None q x b h = tt

@@ -2,13 +2,13 @@
 use Rattle.std.proofs.Common.{pos, ◌≡◌, ℕ, ◌<◌, sym, subst, ap, ◌∙◌, [], ◌∷◌, refl, inl, inr, ◌⊎◌, Option, Some, None, Bool, true, false, not, ◌&&◌, ◌||◌}
 use Rattle.std.specs.Prelude.{if◌then◌else◌}
 use Rattle.std.proofs.lemmas.Bool.{and_parts, or_cases}
-use Rattle.rational.specs.Ring.{ring, v, num, ◌:+◌, ◌:-◌, ◌:*◌, inv}
-use Rattle.rational.specs.Number.{Number, rational, zero_ℚ, ◌+ℚ◌, ◌*ℚ◌, neg_ℚ}
-use Rattle.rational.specs.Order.{◌≤ℚ◌, ≤ℚ_cases, ≤ℚ_antisym, ≤ℚ-by, ≤ℚ-*ℚ, ◌<ℚ◌, <ℚ-≤ℚ, <ℚ-not}
-use Rattle.rational.specs.Compare.{lt_ℚ, le_ℚ}
-use Rattle.rational.specs.Ends.{AtLeast, AtMost, Between, meet_low, meet_high, less, same_end}
-use Rattle.rational.proofs.Signs.{≤ℚ-same, ≤ℚ-*ℚ_down, *ℚ_pos, *ℚ_pos_neg, *ℚ_neg}
-use Rattle.rational.proofs.EndLaws.{same_end-is}
+use Rattle.fractions.specs.Ring.{ring, v, num, ◌:+◌, ◌:-◌, ◌:*◌, inv}
+use Rattle.fractions.specs.Number.{Number, rational, zero_ℚ, ◌+ℚ◌, ◌*ℚ◌, neg_ℚ}
+use Rattle.fractions.specs.Order.{◌≤ℚ◌, ≤ℚ_cases, ≤ℚ_antisym, ≤ℚ-by, ≤ℚ-*ℚ, ◌<ℚ◌, <ℚ-≤ℚ, <ℚ-not}
+use Rattle.fractions.specs.Compare.{lt_ℚ, le_ℚ}
+use Rattle.fractions.specs.Ends.{AtLeast, AtMost, Between, meet_low, meet_high, less, same_end}
+use Rattle.fractions.proofs.Signs.{≤ℚ-same, ≤ℚ-*ℚ_down, *ℚ_pos, *ℚ_pos_neg, *ℚ_neg}
+use Rattle.fractions.proofs.EndLaws.{same_end-is}
 use Rattle.lp_model.specs.declared.program.Sense.TheVariants.{Min}
 use Rattle.lp_model.specs.LinearProgram.{LinearProgram, value_at, Feasible}
 use Rattle.lp_model.specs.Optimality.{Continuous}

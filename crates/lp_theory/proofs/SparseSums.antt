@@ -1,11 +1,11 @@
 -- A sum over the entries of a row is the sum over all columns.
 use Rattle.std.proofs.Common.{◌≡◌, ◌≢◌, ℕ, suc, ◌<◌, List, [], ◌∷◌, pos, sym, refl, ap, ◌∙◌, arith}
-use Rattle.rational.specs.Ring.{ring, v, num, ◌:+◌, ◌:-◌, ◌:*◌}
-use Rattle.rational.specs.Number.{Number, rational, ◌+ℚ◌, ◌-ℚ◌, ◌*ℚ◌, zero_ℚ}
-use Rattle.rational.specs.Total.{total}
+use Rattle.fractions.specs.Ring.{ring, v, num, ◌:+◌, ◌:-◌, ◌:*◌}
+use Rattle.fractions.specs.Number.{Number, rational, ◌+ℚ◌, ◌-ℚ◌, ◌*ℚ◌, zero_ℚ}
+use Rattle.fractions.specs.Total.{total}
 use Rattle.lp_model.specs.declared.terms.Term.{Term}
 use Rattle.lp_model.specs.Sparse.{Ascends, dense, sparse_total}
-use Rattle.rational.proofs.Totals.{put-other, total-zero, total-put_factor}
+use Rattle.fractions.proofs.Totals.{put-other, total-zero, total-put_factor}
 
 pub dense-below : (es : List Term) (m n k : ℕ) → Ascends m n es → k < m → dense es k ≡ zero_ℚ
 dense-below [] m n k a l = refl

@@ -1,12 +1,12 @@
 -- Elementary reductions and how they join.
 use Rattle.std.proofs.Common.{◌≡◌, ◌≢◌, ℕ, ◌<◌, pos, sym, refl, ap, ◌∙◌, [], ◌∷◌, subst, Option, None}
-use Rattle.rational.specs.Ring.{ring, v, num, ◌:+◌, ◌:-◌}
-use Rattle.rational.specs.Number.{Number, rational, zero_ℚ, ◌+ℚ◌, ◌*ℚ◌}
-use Rattle.rational.specs.Order.{≤ℚ_trans, ≤ℚ-by}
-use Rattle.rational.specs.Total.{total, put}
-use Rattle.rational.specs.Ends.{Between}
-use Rattle.rational.proofs.Totals.{put-same, put-other, at_or_off}
-use Rattle.rational.proofs.Signs.{≤ℚ-same}
+use Rattle.fractions.specs.Ring.{ring, v, num, ◌:+◌, ◌:-◌}
+use Rattle.fractions.specs.Number.{Number, rational, zero_ℚ, ◌+ℚ◌, ◌*ℚ◌}
+use Rattle.fractions.specs.Order.{≤ℚ_trans, ≤ℚ-by}
+use Rattle.fractions.specs.Total.{total, put}
+use Rattle.fractions.specs.Ends.{Between}
+use Rattle.fractions.proofs.Totals.{put-same, put-other, at_or_off}
+use Rattle.fractions.proofs.Signs.{≤ℚ-same}
 use Rattle.lp_model.specs.declared.program.Sense.{Sense}
 use Rattle.lp_model.specs.declared.program.Sense.TheVariants.{Min, Max}
 use Rattle.lp_model.specs.Vectors.{Vector}

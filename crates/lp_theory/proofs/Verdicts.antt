@@ -1,8 +1,8 @@
 -- Verdicts go back along reductions.
 use Rattle.std.proofs.Common.{sym, refl, [], ◌∷◌, subst}
-use Rattle.rational.specs.Ring.{ring, v, ◌:+◌, ◌:-◌}
-use Rattle.rational.specs.Number.{Number, rational, ◌+ℚ◌, ◌-ℚ◌}
-use Rattle.rational.specs.Order.{≤ℚ-by, <ℚ-not}
+use Rattle.fractions.specs.Ring.{ring, v, ◌:+◌, ◌:-◌}
+use Rattle.fractions.specs.Number.{Number, rational, ◌+ℚ◌, ◌-ℚ◌}
+use Rattle.fractions.specs.Order.{≤ℚ-by, <ℚ-not}
 use Rattle.lp_model.specs.declared.program.Sense.{Sense}
 use Rattle.lp_model.specs.declared.program.Sense.TheVariants.{Min, Max}
 use Rattle.lp_model.specs.Vectors.{Vector}

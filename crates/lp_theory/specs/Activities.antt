@@ -1,9 +1,9 @@
 -- The least and the greatest value of a row within the bounds of its columns; none where there is no end.
 use Rattle.std.specs.Prelude.{ℕ, zero, suc, ◌<◌, if◌then◌else◌, Option, Some}
-use Rattle.rational.specs.Number.{Number, zero_ℚ}
-use Rattle.rational.specs.Compare.{lt_ℚ}
-use Rattle.rational.specs.Total.{put}
-use Rattle.rational.specs.Ends.{Between, plus, scaled}
+use Rattle.fractions.specs.Number.{Number, zero_ℚ}
+use Rattle.fractions.specs.Compare.{lt_ℚ}
+use Rattle.fractions.specs.Total.{put}
+use Rattle.fractions.specs.Ends.{Between, plus, scaled}
 use Rattle.lp_model.specs.Vectors.{Vector}
 use Rattle.lp_model.specs.LinearProgram.{LinearProgram}
 

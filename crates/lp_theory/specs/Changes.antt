@@ -1,7 +1,7 @@
 -- How a row's value changes with one coordinate, and with one coefficient.
 use Rattle.std.specs.Prelude.{◌≡◌, ℕ, ◌<◌}
-use Rattle.rational.specs.Number.{Number, ◌+ℚ◌, ◌-ℚ◌, ◌*ℚ◌}
-use Rattle.rational.specs.Total.{put}
+use Rattle.fractions.specs.Number.{Number, ◌+ℚ◌, ◌-ℚ◌, ◌*ℚ◌}
+use Rattle.fractions.specs.Total.{put}
 use Rattle.lp_model.specs.Edits.{with_coefficient}
 use Rattle.lp_model.specs.Vectors.{Vector}
 use Rattle.lp_model.specs.LinearProgram.{LinearProgram, value_at, cost_at}

@@ -1,7 +1,7 @@
 -- Ends that are crossed: no number lies between them.
 use Rattle.std.specs.Prelude.{Option, Some, None}
-use Rattle.rational.specs.Number.{Number}
-use Rattle.rational.specs.Order.{◌<ℚ◌}
+use Rattle.fractions.specs.Number.{Number}
+use Rattle.fractions.specs.Order.{◌<ℚ◌}
 
 -- the lower end is above the upper end
 abbrev pub AreCrossed : Option Number → Option Number → Type 0

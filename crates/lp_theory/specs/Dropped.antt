@@ -1,7 +1,7 @@
 -- A column deleted whose part is taken over elsewhere.
 use Rattle.std.specs.Prelude.{ℕ, false, None}
-use Rattle.rational.specs.Number.{zero_ℚ}
-use Rattle.rational.specs.Total.{put}
+use Rattle.fractions.specs.Number.{zero_ℚ}
+use Rattle.fractions.specs.Total.{put}
 use Rattle.lp_model.specs.LinearProgram.{LinearProgram}
 
 -- column j deleted: no coefficients, no cost, no bounds, and not whole; the sides of its rows stay

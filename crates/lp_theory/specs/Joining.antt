@@ -1,6 +1,6 @@
 -- A list of reductions, the first applied first, is undone last first.
 use Rattle.std.specs.Prelude.{List, [], ◌∷◌}
-use Rattle.rational.specs.Number.{Number, zero_ℚ, ◌+ℚ◌}
+use Rattle.fractions.specs.Number.{Number, zero_ℚ, ◌+ℚ◌}
 use Rattle.lp_model.specs.declared.program.Sense.{Sense}
 use Rattle.lp_model.specs.Vectors.{Vector}
 use Rattle.lp_model.specs.LinearProgram.{LinearProgram}

@@ -1,8 +1,8 @@
 -- Ends that meet those of a deleted row over a factor.
 use Rattle.std.specs.Prelude.{Bool, not, ◌&&◌, ◌||◌, if◌then◌else◌, Option, Some}
-use Rattle.rational.specs.Number.{Number, zero_ℚ}
-use Rattle.rational.specs.Compare.{lt_ℚ}
-use Rattle.rational.specs.Ends.{over, same_end}
+use Rattle.fractions.specs.Number.{Number, zero_ℚ}
+use Rattle.fractions.specs.Compare.{lt_ℚ}
+use Rattle.fractions.specs.Ends.{over, same_end}
 
 -- the sides L and U over the factor a; for a below 0 the ends change over
 abbrev pub lower_over : Number → Option Number → Option Number → Option Number

@@ -1,8 +1,8 @@
 -- The number nearest to 0 between two ends.
 use Rattle.std.specs.Prelude.{⊤, if◌then◌else◌, Option, Some, None}
-use Rattle.rational.specs.Number.{Number, zero_ℚ}
-use Rattle.rational.specs.Compare.{lt_ℚ}
-use Rattle.rational.specs.Ends.{AtMost}
+use Rattle.fractions.specs.Number.{Number, zero_ℚ}
+use Rattle.fractions.specs.Compare.{lt_ℚ}
+use Rattle.fractions.specs.Ends.{AtMost}
 
 -- the lower end is not above the upper end
 abbrev pub InOrder : Option Number → Option Number → Type 0

@@ -3,9 +3,9 @@
 #![tactic(auto)]
 
 ghost use Rattle.std.specs.Prelude.{◌≡◌, ◌≢◌, ℕ, ◌<◌, List, Some};
-ghost use Rattle.rational.specs.Number.{Number, ◌+ℚ◌, ◌*ℚ◌};
-ghost use Rattle.rational.specs.Total.{total};
-ghost use Rattle.rational.specs.Ends.{AtLeast, AtMost};
+ghost use Rattle.fractions.specs.Number.{Number, ◌+ℚ◌, ◌*ℚ◌};
+ghost use Rattle.fractions.specs.Total.{total};
+ghost use Rattle.fractions.specs.Ends.{AtLeast, AtMost};
 ghost use Rattle.lp_model.specs.declared.terms.Term.{Term};
 ghost use Rattle.lp_model.specs.declared.program.Sense.{Sense};
 ghost use Rattle.lp_model.specs.Vectors.{Vector};

@@ -2,7 +2,7 @@
 use Rattle.std.proofs.Common.{◌≡◌, ◌∙◌, ◌<◌, ℕ, zero, suc, List, [], ◌∷◌, ◌++◌, Bool, length, refl, sym, subst, ap, ap₂, arith}
 use Rattle.std.proofs.lemmas.List.Elements.{All-head}
 use Rattle.std.specs.Prelude.{position, false, Option, None, unwrap_or, slice_index_or}
-use Rattle.rational.specs.Number.{Number, zero_ℚ}
+use Rattle.fractions.specs.Number.{Number, zero_ℚ}
 use Rattle.lp_model.specs.ProgramData.{ProgramData}
 use Rattle.lp_model.specs.Name.{IsName}
 use Rattle.lp_model.specs.Names.{WellNamed, names_of_rows}

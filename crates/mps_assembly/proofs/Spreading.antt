@@ -3,8 +3,8 @@ use Rattle.std.proofs.Common.{◌≡◌, ◌∙◌, ◌<◌, ◌≤◌, ◌+◌,
 use Rattle.std.specs.Prelude.{◌==◌, not, filter, Option, Some, None, unwrap_or, if◌then◌else◌}
 use Rattle.std.proofs.lemmas.Bool.{ne_eqb, cases_eq}
 use Rattle.std.proofs.lemmas.List.{take_all}
-use Rattle.rational.specs.Number.{Number, zero_ℚ}
-use Rattle.rational.proofs.Comparisons.{eq_ℚ-is}
+use Rattle.fractions.specs.Number.{Number, zero_ℚ}
+use Rattle.fractions.proofs.Comparisons.{eq_ℚ-is}
 use Rattle.lp_model.specs.declared.terms.Term.{Term}
 use Rattle.mps_profile.specs.Rows.{is_free}
 use Rattle.mps_profile.specs.Program.{kind_at, id_of}

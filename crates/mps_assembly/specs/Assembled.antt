@@ -1,6 +1,6 @@
 -- When the parts of a program, and what they give, are those that cards say.
 use Rattle.std.specs.Prelude.{◌≡◌, ℕ, List, length, false, None, slice_index_or}
-use Rattle.rational.specs.Number.{neg_ℚ}
+use Rattle.fractions.specs.Number.{neg_ℚ}
 use Rattle.mps_profile.specs.Texts.{field}
 use Rattle.mps_profile.specs.Cards.{Card}
 use Rattle.mps_profile.specs.Rows.{row_names, row_kinds, side_of, range_of, right_side}

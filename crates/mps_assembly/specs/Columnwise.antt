@@ -1,7 +1,7 @@
 -- Terms and costs by column.
 use Rattle.std.specs.Prelude.{ℕ, List, [], ◌∷◌, if◌then◌else◌, slice_index_or}
-use Rattle.rational.specs.Number.{Number, zero_ℚ}
-use Rattle.rational.specs.Compare.{eq_ℚ}
+use Rattle.fractions.specs.Number.{Number, zero_ℚ}
+use Rattle.fractions.specs.Compare.{eq_ℚ}
 use Rattle.lp_model.specs.declared.terms.Term.{Term}
 use Rattle.mps_profile.specs.Rows.{is_free}
 use Rattle.mps_profile.specs.declared.row_kinds.RowKind.{RowKind}

@@ -1,6 +1,6 @@
 -- A column from what is told of it.
 use Rattle.std.specs.Prelude.{ℕ, List, false, None, unwrap_or, slice_index_or}
-use Rattle.rational.specs.Number.{Number}
+use Rattle.fractions.specs.Number.{Number}
 use Rattle.lp_model.specs.declared.program.ColumnDef.{ColumnDef}
 use Rattle.lp_model.specs.declared.terms.Term.{Term}
 use Rattle.mps_profile.specs.Texts.{field}

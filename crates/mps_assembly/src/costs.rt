@@ -1,7 +1,7 @@
 //! The costs of columns.
 
 ghost use Rattle.std.specs.Prelude.{◌≡◌, ◌==◌, ◌<◌, ℕ, length, IfOk, if◌then◌else◌, unwrap_or};
-ghost use Rattle.rational.specs.Number.{zero_ℚ};
+ghost use Rattle.fractions.specs.Number.{zero_ℚ};
 ghost use Rattle.mps_stores.specs.Entries.{value_in, IsOnce};
 ghost use Rattle.mps_assembly.specs.Columnwise.{cost_at};
 

@@ -1,7 +1,7 @@
 //! The rows of a program.
 
 ghost use Rattle.std.specs.Prelude.{◌≡◌, ◌++◌, length, All, None, IfOk, OnOk, unwrap_or, slice_index_or};
-ghost use Rattle.rational.specs.Number.{zero_ℚ};
+ghost use Rattle.fractions.specs.Number.{zero_ℚ};
 ghost use Rattle.lp_model.specs.Name.{IsName};
 ghost use Rattle.mps_profile.specs.Sides.{sides_of};
 ghost use Rattle.mps_profile.specs.Program.{row_defs_at, rows_below};

@@ -1,7 +1,7 @@
 //! The terms of columns, from entries that stand by rows.
 
 ghost use Rattle.std.specs.Prelude.{◌≡◌, ◌==◌, ◌<◌, ◌≤◌, ◌+◌, ◌^◌, ◌++◌, ℕ, [], length, IfOk, OnOk, if◌then◌else◌, unwrap_or};
-ghost use Rattle.rational.specs.Number.{zero_ℚ};
+ghost use Rattle.fractions.specs.Number.{zero_ℚ};
 ghost use Rattle.mps_profile.specs.Program.{terms_in, terms_below, id_of};
 ghost use Rattle.mps_stores.specs.Entries.{value_in, IsOnce};
 ghost use Rattle.mps_stores.specs.Stores.{number_in};

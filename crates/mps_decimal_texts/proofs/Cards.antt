@@ -2,8 +2,8 @@
 use Rattle.std.proofs.Common.{◌≡◌, ◌==◌, ℕ, Bool, true, false, not, List, [], ◌∷◌, Option, Some, None, Result, Ok, Err, refl, sym, ap, ap₂, ◌∙◌, true≢false, is_some, is_none}
 use Rattle.std.specs.Prelude.{◌&&◌, ◌||◌, unwrap_or, if◌then◌else◌}
 use Rattle.std.specs.Str.{bytes_eq}
-use Rattle.rational.specs.Number.{Number, ◌+ℚ◌, neg_ℚ, zero_ℚ}
-use Rattle.rational.specs.Compare.{lt_ℚ}
+use Rattle.fractions.specs.Number.{Number, ◌+ℚ◌, neg_ℚ, zero_ℚ}
+use Rattle.fractions.specs.Compare.{lt_ℚ}
 use Rattle.fractions.specs.declared.Numbers.TheVariants.{Decimal, Fractions}
 use Rattle.fractions.specs.Places.{is_decimal}
 use Rattle.names.specs.Names.{place}

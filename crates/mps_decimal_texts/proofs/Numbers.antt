@@ -3,13 +3,13 @@ use Rattle.std.proofs.Common.{◌≡◌, ◌⊎◌, inl, inr, ℕ, zero, suc, �
 use Rattle.std.specs.Prelude.{◌&&◌, ◌||◌}
 use Rattle.std.specs.List.{list_any}
 use Rattle.std.proofs.Math.IntN.{negsuc-*ℤ-pos, pos-*ℤ-pos, zero-*ℤ}
-use Rattle.rational.specs.Number.{Number, rational, of_ℤ, neg_ℚ}
-use Rattle.rational.specs.Order.{◌≤ℚ◌}
-use Rattle.rational.specs.Ring.{ring, v, inv}
-use Rattle.rational.specs.Lowest.{ratio, neg_ℚ-ratio}
-use Rattle.rational.specs.Compare.{le_ℚ}
-use Rattle.rational.proofs.Comparisons.{le_ℚ-is}
-use Rattle.rational.proofs.Signs.{neg_ℚ-≤}
+use Rattle.fractions.specs.Number.{Number, rational, of_ℤ, neg_ℚ}
+use Rattle.fractions.specs.Order.{◌≤ℚ◌}
+use Rattle.fractions.specs.Ring.{ring, v, inv}
+use Rattle.fractions.specs.Lowest.{ratio, neg_ℚ-ratio}
+use Rattle.fractions.specs.Compare.{le_ℚ}
+use Rattle.fractions.proofs.Comparisons.{le_ℚ-is}
+use Rattle.fractions.proofs.Signs.{neg_ℚ-≤}
 use Rattle.fractions.specs.declared.Numbers.TheVariants.{Decimal, Fractions}
 use Rattle.fractions.specs.Places.{is_decimal}
 use Rattle.fractions.specs.Scaled.{scaled}

@@ -1,7 +1,7 @@
 -- A text that has no fault as one of decimal numbers gives the same program where fractions are taken.
 use Rattle.std.proofs.Common.{◌≡◌, ℕ, ◌+◌, Bool, true, false, cond, List, [], ◌∷◌, length, Option, Some, None, Result, Ok, Err, refl, sym, ap, ap₂, ◌∙◌, subst}
 use Rattle.std.specs.Prelude.{unwrap_or, if◌then◌else◌}
-use Rattle.rational.specs.Number.{neg_ℚ, zero_ℚ}
+use Rattle.fractions.specs.Number.{neg_ℚ, zero_ℚ}
 use Rattle.text_lines.specs.Faults.{or_later}
 use Rattle.text_lines.specs.Lines.{lines_of}
 use Rattle.mps_profile.specs.Cards.{Card}

@@ -1,6 +1,6 @@
 -- A text has no more cards than lines, and no more rows and columns than cards.
 use Rattle.std.proofs.Common.{ℕ, zero, suc, ◌+◌, ◌≤◌, List, [], ◌∷◌, ◌++◌, length, length-append, true, cond, Option, Some, None, Result, Ok, Err, is_some, arith}
-use Rattle.rational.specs.Number.{Number}
+use Rattle.fractions.specs.Number.{Number}
 use Rattle.names.specs.Names.{place}
 use Rattle.lp_model.specs.declared.program.ColumnDef.{ColumnDef}
 use Rattle.mps_profile.specs.Texts.{Text, field}

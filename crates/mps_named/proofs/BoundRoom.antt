@@ -2,10 +2,10 @@
 use Rattle.std.proofs.Common.{◌≡◌, ℕ, ◌^◌, T, Bool, true, false, not, cond, List, [], ◌∷◌, Option, Some, None, Ok, Err, pos, negsuc, sym, refl, subst}
 use Rattle.std.specs.Prelude.{Result, ◌&&◌, IfSome, unwrap_or}
 use Rattle.std.proofs.lemmas.Bool.{or_parts}
-use Rattle.rational.specs.Ring.{ring, num, ◌:-◌, inv}
-use Rattle.rational.specs.Number.{Number, rational, of_ℤ, zero_ℚ, one_ℚ}
-use Rattle.rational.specs.Order.{non_neg_ℚ, non_neg-of_ℤ}
-use Rattle.rational.specs.Compare.{lt_ℚ}
+use Rattle.fractions.specs.Ring.{ring, num, ◌:-◌, inv}
+use Rattle.fractions.specs.Number.{Number, rational, of_ℤ, zero_ℚ, one_ℚ}
+use Rattle.fractions.specs.Order.{non_neg_ℚ, non_neg-of_ℤ}
+use Rattle.fractions.specs.Compare.{lt_ℚ}
 use Rattle.fractions.specs.declared.Numbers.{Numbers}
 use Rattle.number_texts.specs.Form.{terms_of, unsigned, is_minus}
 use Rattle.number_texts.specs.declared.reading.ReadNumber.{ReadNumber}

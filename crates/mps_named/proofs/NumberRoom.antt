@@ -3,12 +3,12 @@ use Rattle.std.proofs.Common.{◌≡◌, ℕ, ◌<◌, ◌^◌, ℤ, pos, neg_�
 use Rattle.std.specs.Prelude.{Result, nat_lt, ◌==◌, ◌&&◌, not, IfSome}
 use Rattle.std.specs.List.{list_any}
 use Rattle.std.proofs.lemmas.Bool.Decides.{nat_tests}
-use Rattle.rational.specs.Ring.{ring, v, num, ◌:*◌, inv}
-use Rattle.rational.specs.Number.{Number, rational, Fraction, integral, neg_ℚ, of_ℤ, zero_ℚ, one_ℚ, of_ℤ-neg_ℤ}
-use Rattle.rational.specs.Gcd.{gcd}
-use Rattle.rational.specs.Divisors.{gcd_pos_r, nat_abs-neg}
-use Rattle.rational.specs.Lowest.{Fits, ratio, ratio-is, lowest_over, lowest_under, over-is, under-is, over_of, under_of, of_lowest}
-use Rattle.rational.specs.Decimal as decimals
+use Rattle.fractions.specs.Ring.{ring, v, num, ◌:*◌, inv}
+use Rattle.fractions.specs.Number.{Number, rational, Fraction, integral, neg_ℚ, of_ℤ, zero_ℚ, one_ℚ, of_ℤ-neg_ℤ}
+use Rattle.fractions.specs.Gcd.{gcd}
+use Rattle.fractions.specs.Divisors.{gcd_pos_r, nat_abs-neg}
+use Rattle.fractions.specs.Lowest.{Fits, ratio, ratio-is, lowest_over, lowest_under, over-is, under-is, over_of, under_of, of_lowest}
+use Rattle.fractions.specs.Decimal as decimals
 use Rattle.fractions.specs.declared.Numbers.{Numbers}
 use Rattle.fractions.specs.declared.Numbers.TheVariants.{Decimal, Fractions}
 use Rattle.fractions.specs.Scaled.{scaled}

@@ -3,10 +3,10 @@ use Rattle.std.proofs.Common.{◌≡◌, ℕ, ◌<◌, T, Bool, true, false, not
 use Rattle.std.specs.Prelude.{Result, nat_lt, ◌==◌, ◌&&◌, ◌||◌, is_some, is_none, unwrap_or, IfSome}
 use Rattle.std.proofs.lemmas.Bool.{or_parts, and_parts}
 use Rattle.std.proofs.lemmas.Bool.Decides.{nat_tests}
-use Rattle.rational.specs.Ring.{ring, v, num, ◌:+◌, ◌:-◌, inv}
-use Rattle.rational.specs.Number.{Number, rational, ◌+ℚ◌, ◌-ℚ◌, +ℚ_comm, neg_ℚ, zero_ℚ}
-use Rattle.rational.specs.Order.{non_neg_ℚ, ◌≤ℚ◌, ◌<ℚ◌, ≤ℚ-by, ≤ℚ_refl, <ℚ-≤ℚ}
-use Rattle.rational.specs.Compare.{lt_ℚ}
+use Rattle.fractions.specs.Ring.{ring, v, num, ◌:+◌, ◌:-◌, inv}
+use Rattle.fractions.specs.Number.{Number, rational, ◌+ℚ◌, ◌-ℚ◌, +ℚ_comm, neg_ℚ, zero_ℚ}
+use Rattle.fractions.specs.Order.{non_neg_ℚ, ◌≤ℚ◌, ◌<ℚ◌, ≤ℚ-by, ≤ℚ_refl, <ℚ-≤ℚ}
+use Rattle.fractions.specs.Compare.{lt_ℚ}
 use Rattle.fractions.specs.FracWords.{SumFits}
 use Rattle.fractions.specs.declared.Numbers.{Numbers}
 use Rattle.number_texts.specs.declared.reading.ReadNumber.{ReadNumber}

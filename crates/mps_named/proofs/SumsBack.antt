@@ -4,11 +4,11 @@ use Prim.Native.Nat.{◌∣◌}
 use native.Mathlib.Nat.{dvd_trans, dvd-mul_right, div-mul_cancel, mul_assoc}
 use Rattle.std.proofs.lemmas.Int.{unsigned_abs-mul}
 use Rattle.std.proofs.Math.IntN.{+ℤ_comm}
-use Rattle.rational.specs.Ring.{ring, whole, v, ◌:+◌, ◌:*◌, inv}
-use Rattle.rational.specs.Number.{Number, rational, Fraction, fraction, minus, ◌+ℚ◌, +ℚ_comm, neg_ℚ, same_times}
-use Rattle.rational.specs.Gcd.{gcd, gauss, gcd-IsGcd, coprime_comm, coprime_parts}
-use Rattle.rational.specs.Divisors.{div-exact, nat_abs-neg, gcd_pos_l, gcd_pos_r, quotient_pos}
-use Rattle.rational.specs.Lowest.{Fits, shown, fraction-shown, of_lowest, over_of, under_of, under_of_positive, coprime_of}
+use Rattle.fractions.specs.Ring.{ring, whole, v, ◌:+◌, ◌:*◌, inv}
+use Rattle.fractions.specs.Number.{Number, rational, Fraction, fraction, minus, ◌+ℚ◌, +ℚ_comm, neg_ℚ, same_times}
+use Rattle.fractions.specs.Gcd.{gcd, gauss, gcd-IsGcd, coprime_comm, coprime_parts}
+use Rattle.fractions.specs.Divisors.{div-exact, nat_abs-neg, gcd_pos_l, gcd_pos_r, quotient_pos}
+use Rattle.fractions.specs.Lowest.{Fits, shown, fraction-shown, of_lowest, over_of, under_of, under_of_positive, coprime_of}
 use Rattle.fractions.specs.FracWords.{SumFits}
 use Rattle.fractions.proofs.SumSteps.{lowest_sum, sum_is}
 

@@ -1,7 +1,7 @@
 -- What the cards say of rows and columns by their names alone. The nearest card stands first.
 use Rattle.std.specs.Prelude.{◌≡◌, ℕ, ◌<◌, ◌&&◌, ◌||◌, Bool, false, List, [], ◌∷◌, length, Option, Some, None, unwrap_or, if◌then◌else◌}
 use Rattle.std.specs.Str.{bytes_eq}
-use Rattle.rational.specs.Number.{Number, zero_ℚ}
+use Rattle.fractions.specs.Number.{Number, zero_ℚ}
 use Rattle.mps_profile.specs.Texts.{Text, field}
 use Rattle.mps_profile.specs.Cards.{Pair, Pairs, One, Two, Card, RowCard, ColumnCard, SideCard, RangeCard, ValuedCard, BareCard}
 use Rattle.mps_profile.specs.Words.{kind_named}

@@ -1,7 +1,7 @@
 -- The pairs that name a row, or a column and a row. The nearest stands first.
 use Rattle.std.specs.Prelude.{◌++◌, List, [], ◌∷◌, Option, None, if◌then◌else◌}
 use Rattle.std.specs.Str.{bytes_eq}
-use Rattle.rational.specs.Number.{Number}
+use Rattle.fractions.specs.Number.{Number}
 use Rattle.mps_profile.specs.Texts.{Text}
 use Rattle.mps_profile.specs.Cards.{Pair, Pairs, One, Two, Card, ColumnCard, SideCard, RangeCard}
 use Rattle.mps_profile.specs.Numerals.{number_on}

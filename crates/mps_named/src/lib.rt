@@ -4,8 +4,8 @@
 #![tactic(auto)]
 
 ghost use Rattle.std.specs.Prelude.{◌≡◌, ℕ, ◌<◌, ◌≤◌, List, length, Some, Ok};
-ghost use Rattle.rational.specs.Number.{Number, ◌+ℚ◌, neg_ℚ};
-ghost use Rattle.rational.specs.Lowest.{Fits};
+ghost use Rattle.fractions.specs.Number.{Number, ◌+ℚ◌, neg_ℚ};
+ghost use Rattle.fractions.specs.Lowest.{Fits};
 ghost use Rattle.fractions.specs.FracWords.{SumFits};
 ghost use Rattle.names.specs.Names.{place};
 ghost use Rattle.mps_profile.specs.Texts.{Text, field};

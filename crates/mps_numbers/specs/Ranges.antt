@@ -1,6 +1,6 @@
 -- The sides that ranges make, and where they are past.
 use Rattle.std.specs.Prelude.{Option, Some, Result, Ok, Err, if◌then◌else◌}
-use Rattle.rational.specs.Number.{Number, ◌+ℚ◌, ◌-ℚ◌, neg_ℚ}
+use Rattle.fractions.specs.Number.{Number, ◌+ℚ◌, ◌-ℚ◌, neg_ℚ}
 use Rattle.fractions.specs.declared.Numbers.{Numbers}
 use Rattle.fractions.specs.declared.Past.{Past}
 use Rattle.mps_profile.specs.Sides.{ranged, is_past_sum, is_past_range}

@@ -1,7 +1,7 @@
 //! A law of the definitions that the contracts cite. The function is empty: its contract is the law.
 
 ghost use Rattle.std.specs.Prelude.{IsTrue, ◌↔◌};
-ghost use Rattle.rational.specs.Number.{Number};
+ghost use Rattle.fractions.specs.Number.{Number};
 ghost use Rattle.fractions.specs.FracWords.{SumFits};
 ghost use Rattle.mps_profile.specs.Sides.{sum_fits};
 

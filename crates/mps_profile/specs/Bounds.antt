@@ -1,7 +1,7 @@
 -- What cards of BOUNDS set. A bound that is infinite is none.
 use Rattle.std.specs.Prelude.{Bool, true, false, Option, Some, None}
 use Rattle.std.specs.Option.{option_map}
-use Rattle.rational.specs.Number.{Number, zero_ℚ, one_ℚ}
+use Rattle.fractions.specs.Number.{Number, zero_ℚ, one_ℚ}
 use Rattle.mps_profile.specs.declared.bounds.Valued.{Valued}
 use Rattle.mps_profile.specs.declared.bounds.Valued as valued
 use Rattle.mps_profile.specs.declared.bounds.Bare.{Bare}

@@ -1,7 +1,7 @@
 -- What the cards say of columns. The nearest card stands first.
 use Rattle.std.specs.Prelude.{ℕ, ◌==◌, ◌&&◌, ◌||◌, ◌++◌, Bool, true, false, List, [], ◌∷◌, length, Option, Some, None, Result, Ok, Err, codes, unwrap_or, is_some, if◌then◌else◌}
 use Rattle.std.specs.Str.{bytes_eq}
-use Rattle.rational.specs.Number.{Number, zero_ℚ}
+use Rattle.fractions.specs.Number.{Number, zero_ℚ}
 use Rattle.names.specs.Names.{place}
 use Rattle.number_texts.specs.declared.reading.ReadNumber.{ReadNumber}
 use Rattle.mps_profile.specs.Texts.{Text}

@@ -2,8 +2,8 @@
 use Rattle.std.specs.Prelude.{ℕ, pos, ◌^◌, ◌||◌, nat_le, ◌&&◌, ◌+◌, Bool, true, false, map, codes, Option, Some, None, Result, Ok, Err, if◌then◌else◌}
 use Rattle.std.specs.List.{list_any}
 use Rattle.std.specs.Str.{bytes_eq}
-use Rattle.rational.specs.Number.{Number, of_ℤ, neg_ℚ}
-use Rattle.rational.specs.Compare.{le_ℚ}
+use Rattle.fractions.specs.Number.{Number, of_ℤ, neg_ℚ}
+use Rattle.fractions.specs.Compare.{le_ℚ}
 use Rattle.fractions.specs.declared.Numbers.{Numbers}
 use Rattle.fractions.specs.Scaled.{scaled}
 use Rattle.number_texts.specs.Form.{Terms, terms_of, number, up_of, down_of, unsigned, is_minus, is_slash}

@@ -1,7 +1,7 @@
 -- The program of a text without a fault.
 use Rattle.std.specs.Prelude.{ℕ, zero, suc, ◌||◌, not, List, [], ◌∷◌, ◌++◌, length, take, filter, position, Option, Some, None, unwrap_or, if◌then◌else◌, slice_index_or}
-use Rattle.rational.specs.Number.{Number, neg_ℚ, zero_ℚ}
-use Rattle.rational.specs.Compare.{eq_ℚ}
+use Rattle.fractions.specs.Number.{Number, neg_ℚ, zero_ℚ}
+use Rattle.fractions.specs.Compare.{eq_ℚ}
 use Rattle.lp_model.specs.declared.program.Sense.{Sense}
 use Rattle.lp_model.specs.declared.program.Sense.TheVariants.{Min}
 use Rattle.lp_model.specs.declared.program.RowDef.{RowDef}

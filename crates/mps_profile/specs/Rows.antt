@@ -1,6 +1,6 @@
 -- What the cards say of rows. The nearest card stands first.
 use Rattle.std.specs.Prelude.{ℕ, ◌==◌, ◌++◌, Bool, true, false, List, [], ◌∷◌, Option, Some, None, Result, Ok, Err, unwrap_or, if◌then◌else◌, slice_index_or}
-use Rattle.rational.specs.Number.{Number, zero_ℚ}
+use Rattle.fractions.specs.Number.{Number, zero_ℚ}
 use Rattle.names.specs.Names.{place}
 use Rattle.number_texts.specs.declared.reading.ReadNumber.{ReadNumber}
 use Rattle.mps_profile.specs.Texts.{Text}

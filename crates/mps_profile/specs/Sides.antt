@@ -1,9 +1,9 @@
 -- The sides of rows and the bounds of columns. A side or a bound that is infinite is none.
 use Rattle.std.specs.Prelude.{◌*◌, ◌/◌, ◌^◌, ℕ, ℤ, pos, ◌+ℤ◌, ◌*ℤ◌, unsigned_abs, nat_lt, Bool, false, not, ◌||◌, ◌&&◌, Option, Some, None, if◌then◌else◌}
-use Rattle.rational.specs.Number.{Number, ◌+ℚ◌, ◌-ℚ◌, neg_ℚ, zero_ℚ}
-use Rattle.rational.specs.Compare.{lt_ℚ}
-use Rattle.rational.specs.Gcd.{gcd}
-use Rattle.rational.specs.Lowest.{over_of, under_of}
+use Rattle.fractions.specs.Number.{Number, ◌+ℚ◌, ◌-ℚ◌, neg_ℚ, zero_ℚ}
+use Rattle.fractions.specs.Compare.{lt_ℚ}
+use Rattle.fractions.specs.Gcd.{gcd}
+use Rattle.fractions.specs.Lowest.{over_of, under_of}
 use Rattle.fractions.specs.declared.Numbers.{Numbers}
 use Rattle.number_texts.specs.Read.{is_taken}
 use Rattle.mps_profile.specs.declared.row_kinds.RowKind.{RowKind}

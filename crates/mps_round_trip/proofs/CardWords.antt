@@ -3,8 +3,8 @@ use Rattle.std.proofs.Common.{◌≡◌, ℕ, suc, ◌<◌, ◌==◌, List, [], 
 use Rattle.std.specs.Prelude.{codes}
 use Rattle.std.specs.List.{AllByRecursion}
 use Rattle.std.proofs.lemmas.List.Elements.{All-from_recursion}
-use Rattle.rational.specs.Number.{Number, zero_ℚ, ◌-ℚ◌}
-use Rattle.rational.specs.Compare.{eq_ℚ}
+use Rattle.fractions.specs.Number.{Number, zero_ℚ, ◌-ℚ◌}
+use Rattle.fractions.specs.Compare.{eq_ℚ}
 use Rattle.fractions.specs.declared.Numbers.{Numbers}
 use Rattle.number_texts.specs.Written.{written}
 use Rattle.lp_model.specs.declared.program.RowDef.{RowDef}

@@ -5,9 +5,9 @@ use Rattle.std.proofs.lemmas.List.{take_more, take_all, get_or-map, length-map}
 use Rattle.std.proofs.lemmas.List.Elements.{All-from_recursion}
 use Rattle.std.proofs.lemmas.Option.{slice_get-get_or}
 use Rattle.std.proofs.lemmas.Iterator.Adapters.{position_from-zero}
-use Rattle.rational.specs.Number.{Number, neg_ℚ, zero_ℚ}
-use Rattle.rational.specs.Compare.{eq_ℚ}
-use Rattle.rational.proofs.Comparisons.{eq_ℚ-is}
+use Rattle.fractions.specs.Number.{Number, neg_ℚ, zero_ℚ}
+use Rattle.fractions.specs.Compare.{eq_ℚ}
+use Rattle.fractions.proofs.Comparisons.{eq_ℚ-is}
 use Rattle.fractions.specs.declared.Numbers.{Numbers}
 use Rattle.lp_model.specs.declared.program.Sense.{Sense}
 use Rattle.lp_model.specs.declared.program.Sense.TheVariants.{Min, Max}

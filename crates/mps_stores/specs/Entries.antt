@@ -1,6 +1,6 @@
 -- The entries of a row.
 use Rattle.std.specs.Prelude.{◌≡◌, ◌<◌, ℕ, ◌==◌, List, [], ◌∷◌, Option, Some, None, if◌then◌else◌}
-use Rattle.rational.specs.Number.{Number}
+use Rattle.fractions.specs.Number.{Number}
 use Rattle.mps_stores.specs.declared.single_row.Entry.{Entry}
 
 -- the number of the entry at a column

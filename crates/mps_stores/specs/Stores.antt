@@ -1,6 +1,6 @@
 -- The numbers at rows and columns.
 use Rattle.std.specs.Prelude.{ℕ, List, [], length, Option, slice_index_or}
-use Rattle.rational.specs.Number.{Number}
+use Rattle.fractions.specs.Number.{Number}
 use Rattle.mps_stores.specs.declared.single_row.Entry.{Entry}
 use Rattle.mps_stores.specs.declared.all_rows.RowEntries.{RowEntries}
 use Rattle.mps_stores.specs.Entries.{value_in}

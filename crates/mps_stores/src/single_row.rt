@@ -26,7 +26,7 @@ pub struct Row {
 impl Model for Row {
     ghost use Rattle.std.specs.Prelude.{List};
     ghost use Rattle.std.specs.Coded.{codes};
-    ghost use Rattle.rational.specs.Lowest.{number_code};
+    ghost use Rattle.fractions.specs.Lowest.{number_code};
     ghost use Rattle.mps_stores.specs.declared.single_row.Entry.{Entry};
     ghost use Rattle.mps_stores.specs.Entries.{IsUpTo, IsOnce};
 

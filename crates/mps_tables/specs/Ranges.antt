@@ -1,6 +1,6 @@
 -- The sides that ranges give the rows of the tables.
 use Rattle.std.specs.Prelude.{ℕ, Bool, Option, Some, None, Result, Ok, unwrap_or, is_some, if◌then◌else◌, slice_index_or}
-use Rattle.rational.specs.Number.{Number, zero_ℚ}
+use Rattle.fractions.specs.Number.{Number, zero_ℚ}
 use Rattle.fractions.specs.declared.Past.{Past}
 use Rattle.mps_profile.specs.declared.row_kinds.RowKind.TheVariants.{Free}
 use Rattle.mps_profile.specs.declared.row_kinds.Interval.{Interval}

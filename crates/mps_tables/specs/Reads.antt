@@ -1,6 +1,6 @@
 -- Reading numbers.
 use Rattle.std.specs.Prelude.{◌≡◌, ◌||◌, true, false, Result, Ok, Err}
-use Rattle.rational.specs.Number.{Number}
+use Rattle.fractions.specs.Number.{Number}
 use Rattle.number_texts.specs.declared.reading.ReadNumber.{ReadNumber}
 use Rattle.number_texts.specs.declared.reading.ReadNumber.TheVariants.{NotNumber, NumberPast}
 use Rattle.mps_profile.specs.declared.faults.MpsFaultKind.{MpsFaultKind}

@@ -1,7 +1,7 @@
 -- The MPS text of a program.
 use Rattle.std.specs.Prelude.{ℕ, List, [], ◌∷◌, ◌++◌, Option, Some, None, false, codes, flat_map, ◌≢◌}
 use Rattle.std.specs.List.{AllByRecursion}
-use Rattle.rational.specs.Number.{Number, neg_ℚ}
+use Rattle.fractions.specs.Number.{Number, neg_ℚ}
 use Rattle.fractions.specs.FracWords.{SumFits}
 use Rattle.lp_model.specs.declared.program.Sense.{Sense}
 use Rattle.lp_model.specs.declared.program.Sense.TheVariants.{Min, Max}

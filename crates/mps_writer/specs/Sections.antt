@@ -1,8 +1,8 @@
 -- What an MPS text says of a row and of a column.
 use Rattle.std.specs.Prelude.{ℕ, List, [], ◌∷◌, ◌++◌, length, Option, Some, None, Bool, true, false, ◌==◌, ◌&&◌, not, if◌then◌else◌, codes, slice_get, flat_map}
 use Rattle.std.specs.Option.{option_map_or}
-use Rattle.rational.specs.Number.{Number, ◌-ℚ◌, zero_ℚ}
-use Rattle.rational.specs.Compare.{eq_ℚ, lt_ℚ}
+use Rattle.fractions.specs.Number.{Number, ◌-ℚ◌, zero_ℚ}
+use Rattle.fractions.specs.Compare.{eq_ℚ, lt_ℚ}
 use Rattle.number_texts.specs.Written.{written}
 use Rattle.lp_model.specs.declared.terms.Term.{Term}
 use Rattle.lp_model.specs.declared.program.RowDef.{RowDef}

@@ -3,11 +3,11 @@ use Rattle.std.proofs.Common.{◌≡◌, ℕ, ℤ, pos, Bool, true, false, cond,
 use Rattle.std.specs.Prelude.{not, ◌||◌}
 use Rattle.std.proofs.lemmas.Bool.{false_from_ne_true}
 use Rattle.std.proofs.lemmas.Bool.Decides.{nat_tests}
-use Rattle.rational.specs.Ring.{ring, v, num, ◌:+◌, ◌:-◌, inv}
-use Rattle.rational.specs.Number.{Number, rational, zero_ℚ, ◌+ℚ◌, ◌-ℚ◌, neg_ℚ}
-use Rattle.rational.specs.Order.{◌≤ℚ◌, ≤ℚ-by, <ℚ-not}
-use Rattle.rational.specs.Compare.{eq_ℚ, lt_ℚ}
-use Rattle.rational.proofs.Comparisons.{lt_ℚ-is, eq_ℚ-is}
+use Rattle.fractions.specs.Ring.{ring, v, num, ◌:+◌, ◌:-◌, inv}
+use Rattle.fractions.specs.Number.{Number, rational, zero_ℚ, ◌+ℚ◌, ◌-ℚ◌, neg_ℚ}
+use Rattle.fractions.specs.Order.{◌≤ℚ◌, ≤ℚ-by, <ℚ-not}
+use Rattle.fractions.specs.Compare.{eq_ℚ, lt_ℚ}
+use Rattle.fractions.proofs.Comparisons.{lt_ℚ-is, eq_ℚ-is}
 use Rattle.fractions.specs.FracWords.{StepsFit, SumFits}
 use Rattle.fractions.specs.declared.Numbers.{Numbers}
 use Rattle.number_texts.specs.Read.{is_taken}

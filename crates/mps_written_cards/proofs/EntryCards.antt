@@ -2,7 +2,7 @@
 use Rattle.std.proofs.Common.{◌≡◌, ℕ, suc, ◌<◌, ◌≤◌, ◌==◌, ◌⊎◌, inl, inr, List, [], ◌∷◌, map, length, not, ◌&&◌, ◌||◌, Bool, true, false, cond, Option, Some, None, Result, is_some, refl, sym, ap, ap₂, ◌∙◌, arith}
 use Rattle.std.specs.Prelude.{is_none}
 use Rattle.std.proofs.lemmas.Bool.{eq-eqb, ne_eqb}
-use Rattle.rational.specs.Number.{Number}
+use Rattle.fractions.specs.Number.{Number}
 use Rattle.fractions.specs.declared.Numbers.{Numbers}
 use Rattle.number_texts.specs.Written.{written}
 use Rattle.number_texts.specs.declared.reading.ReadNumber.{ReadNumber}

@@ -6,13 +6,13 @@ use Rattle.std.specs.Str.{bytes_eq}
 use Rattle.std.specs.Char.{is_ascii_digit}
 use Rattle.std.proofs.lemmas.Bool.{false_from_ne_true, and_parts, lt-leb, leb-false, ne_eqb, not-true, or_from}
 use Rattle.std.proofs.lemmas.Bool.Decides.{nat_tests}
-use Rattle.rational.specs.Number.{Number, neg_ℚ, of_ℤ}
-use Rattle.rational.specs.Order.{<ℚ-not}
-use Rattle.rational.specs.Lowest.{over_of, under_of, under_of_positive, coprime_of, ratio, Fits, IsLowest, over_of-ratio, under_of-ratio, neg_ℚ-ratio}
-use Rattle.rational.specs.Divisors.{nat_abs-neg}
-use Rattle.rational.specs.Gcd.{gcd}
-use Rattle.rational.specs.Compare.{le_ℚ}
-use Rattle.rational.proofs.Comparisons.{le_ℚ-is}
+use Rattle.fractions.specs.Number.{Number, neg_ℚ, of_ℤ}
+use Rattle.fractions.specs.Order.{<ℚ-not}
+use Rattle.fractions.specs.Lowest.{over_of, under_of, under_of_positive, coprime_of, ratio, Fits, IsLowest, over_of-ratio, under_of-ratio, neg_ℚ-ratio}
+use Rattle.fractions.specs.Divisors.{nat_abs-neg}
+use Rattle.fractions.specs.Gcd.{gcd}
+use Rattle.fractions.specs.Compare.{le_ℚ}
+use Rattle.fractions.proofs.Comparisons.{le_ℚ-is}
 use Rattle.fractions.specs.declared.Numbers.{Numbers}
 use Rattle.fractions.specs.declared.Numbers.TheVariants.{Decimal, Fractions}
 use Rattle.fractions.specs.Places.{place_of, is_decimal}

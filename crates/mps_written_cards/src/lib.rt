@@ -4,7 +4,7 @@
 #![tactic(auto)]
 
 ghost use Rattle.std.specs.Prelude.{◌≡◌, Ok, codes};
-ghost use Rattle.rational.specs.Number.{Number};
+ghost use Rattle.fractions.specs.Number.{Number};
 ghost use Rattle.fractions.specs.declared.Numbers.{Numbers};
 ghost use Rattle.number_texts.specs.Written.{written};
 ghost use Rattle.lp_model.specs.ProgramData.{ProgramData};

@@ -6,8 +6,8 @@ use Rattle.std.specs.List.{AllByRecursion}
 use Rattle.std.proofs.lemmas.List.{append-nil, map-append}
 use Rattle.std.proofs.lemmas.Grind.{flat_map-append}
 use Rattle.std.proofs.lemmas.List.Elements.{recursion_from_All}
-use Rattle.rational.specs.Number.{Number, ◌-ℚ◌, zero_ℚ}
-use Rattle.rational.specs.Compare.{eq_ℚ}
+use Rattle.fractions.specs.Number.{Number, ◌-ℚ◌, zero_ℚ}
+use Rattle.fractions.specs.Compare.{eq_ℚ}
 use Rattle.number_texts.specs.Written.{written}
 use Rattle.lp_model.specs.declared.program.Sense.{Sense}
 use Rattle.lp_model.specs.declared.program.Sense.TheVariants.{Min, Max}

@@ -3,8 +3,8 @@ use Rattle.std.proofs.Common.{◌≡◌, ℕ, zero, suc, ◌*◌, ◌/◌, ◌%�
 use Rattle.std.specs.Prelude.{not}
 use Rattle.std.specs.Char.{is_ascii_digit}
 use Rattle.std.specs.Fmt.{decimal}
-use Rattle.rational.specs.Number.{Number}
-use Rattle.rational.specs.Lowest.{over_of, under_of, Fits}
+use Rattle.fractions.specs.Number.{Number}
+use Rattle.fractions.specs.Lowest.{over_of, under_of, Fits}
 use Rattle.fractions.specs.Places.{place_of}
 use Rattle.fractions.proofs.Powers.{power_positive}
 use Rattle.fractions.proofs.Placing.{place_of-room}

@@ -1,8 +1,8 @@
 -- What the parts of a text mean.
 use Rattle.std.proofs.Common.{◌≡◌, ℕ, ◌+◌, ◌^◌, ◌<◌, ◌≤◌, ℤ, pos, Bool, true, false, cond, ltb, List, Err, Some, arith, sym, ◌∙◌, refl, ap}
 use Rattle.std.proofs.lemmas.Bool.{le-ltb, lt-ltb}
-use Rattle.rational.specs.Number.{of_ℤ}
-use Rattle.rational.specs.Lowest.{Fits}
+use Rattle.fractions.specs.Number.{of_ℤ}
+use Rattle.fractions.specs.Lowest.{Fits}
 use Rattle.fractions.specs.declared.Numbers.{Numbers}
 use Rattle.fractions.specs.Scaled.{scaled}
 use Rattle.fractions.proofs.ScalingLaws.{past_up, past_down, scaled-none, scaled-zeros}

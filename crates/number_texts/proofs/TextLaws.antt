@@ -3,8 +3,8 @@ use Rattle.std.proofs.Common.{◌≡◌, ℕ, ◌<◌, ◌^◌, Bool, true, fals
 use Rattle.std.specs.Prelude.{◌⊎◌, ◌||◌, ◌&&◌, not}
 use Rattle.std.proofs.lemmas.Bool.{eqb-true}
 use Rattle.std.proofs.lemmas.Bool.Decides.{nat_tests}
-use Rattle.rational.specs.Number.{Number}
-use Rattle.rational.specs.Lowest.{ratio}
+use Rattle.fractions.specs.Number.{Number}
+use Rattle.fractions.specs.Lowest.{ratio}
 use Rattle.fractions.specs.declared.Numbers.{Numbers}
 use Rattle.fractions.specs.declared.Numbers.TheVariants.{Decimal, Fractions}
 use Rattle.fractions.specs.Scaled.{scaled}

@@ -2,8 +2,8 @@
 //! law.
 
 ghost use Rattle.std.specs.Prelude.{◌≡◌, ◌≢◌, IsTrue, Bool, List, ℕ};
-ghost use Rattle.rational.specs.Number.{Number};
-ghost use Rattle.rational.specs.Lowest.{Fits};
+ghost use Rattle.fractions.specs.Number.{Number};
+ghost use Rattle.fractions.specs.Lowest.{Fits};
 ghost use Rattle.fractions.specs.declared.Numbers.{Numbers};
 ghost use Rattle.fractions.specs.declared.Numbers.TheVariants.{Fractions};
 ghost use Rattle.number_texts.specs.declared.reading.ReadNumber.TheVariants.{NotNumber};

@@ -3,7 +3,7 @@
 ghost use Rattle.std.specs.Prelude.{◌≡◌, ◌^◌, ◌<◌, ◌+◌, IsTrue, length, unsigned_abs};
 ghost use Rattle.std.specs.List.{list_all};
 ghost use Rattle.std.specs.Char.{is_ascii_digit};
-ghost use Rattle.rational.specs.Lowest.{Fits};
+ghost use Rattle.fractions.specs.Lowest.{Fits};
 ghost use Rattle.fractions.specs.Scaled.{scaled};
 ghost use Rattle.number_texts.specs.Form.{terms_of, cut, is_slash};
 ghost use Rattle.number_texts.specs.Views.{terms_seen};

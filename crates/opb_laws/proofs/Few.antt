@@ -1,6 +1,6 @@
 -- The program of a text has fewer rows and columns than 2^32 where the text has fewer bytes.
 use Rattle.std.proofs.Common.{◌≡◌, ℕ, zero, suc, ◌≤◌, List, [], ◌∷◌, length, length-append, Bool, true, false, refl, None, ap, arith}
-use Rattle.rational.specs.Number.{of_ℤ}
+use Rattle.fractions.specs.Number.{of_ℤ}
 use Rattle.lp_model.specs.declared.program.ColumnDef.{ColumnDef}
 use Rattle.mps_profile.specs.Rows.{is_free}
 use Rattle.mps_profile.specs.Program.{id_of, kind_at, columns_below}

@@ -4,7 +4,7 @@ use Rattle.std.specs.Prelude.{nat_lt, ◌+ℤ◌, codes}
 use Rattle.std.specs.Str.{bytes_eq}
 use Rattle.std.proofs.lemmas.Bool.{and_parts, ltb-true}
 use Rattle.std.proofs.lemmas.Slice.Eq.{bytes_eq-Decides}
-use Rattle.rational.specs.Divisors.{nat_abs-neg}
+use Rattle.fractions.specs.Divisors.{nat_abs-neg}
 use Rattle.text_lines.specs.Lines.{lines_of}
 use Rattle.number_texts.specs.Form.{is_minus, unsigned, number}
 use Rattle.number_texts.specs.Read.{signed}

@@ -5,13 +5,13 @@ use Rattle.std.specs.List.{All}
 use Rattle.std.proofs.Math.Dec.{eqb-suc-zero}
 use Rattle.std.proofs.lemmas.Bool.{and_parts, eqb-true}
 use Rattle.std.proofs.lemmas.List.Elements.{All-nil, All-append}
-use Rattle.rational.specs.Ring.{ring, v, num, ◌:*◌}
-use Rattle.rational.specs.Number.{Number, rational, integral, of_ℤ, zero_ℚ, one_ℚ, neg_ℚ, ◌+ℚ◌, lift2}
-use Rattle.rational.specs.Gcd.{gcd, coprime_by}
-use Rattle.rational.specs.Lowest.{Fits, of_lowest, over_of, under_of}
-use Rattle.rational.specs.Order.{non_neg_ℚ}
-use Rattle.rational.specs.Compare.{eq_ℚ}
-use Rattle.rational.specs.Decimal as decimals
+use Rattle.fractions.specs.Ring.{ring, v, num, ◌:*◌}
+use Rattle.fractions.specs.Number.{Number, rational, integral, of_ℤ, zero_ℚ, one_ℚ, neg_ℚ, ◌+ℚ◌, lift2}
+use Rattle.fractions.specs.Gcd.{gcd, coprime_by}
+use Rattle.fractions.specs.Lowest.{Fits, of_lowest, over_of, under_of}
+use Rattle.fractions.specs.Order.{non_neg_ℚ}
+use Rattle.fractions.specs.Compare.{eq_ℚ}
+use Rattle.fractions.specs.Decimal as decimals
 use Rattle.fractions.specs.declared.Numbers.{Numbers}
 use Rattle.fractions.specs.declared.Numbers.TheVariants.{Decimal, Fractions}
 use Rattle.lp_model.specs.declared.terms.Term.{Term}

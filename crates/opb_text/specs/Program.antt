@@ -1,7 +1,7 @@
 -- The program of a text without a fault.
 use Rattle.std.specs.Prelude.{ℕ, zero, suc, true, false, List, [], ◌∷◌, ◌++◌, length, Some, None, codes}
 use Rattle.std.specs.Fmt.{decimal}
-use Rattle.rational.specs.Number.{of_ℤ, zero_ℚ, one_ℚ}
+use Rattle.fractions.specs.Number.{of_ℤ, zero_ℚ, one_ℚ}
 use Rattle.lp_model.specs.declared.program.Sense.TheVariants.{Min}
 use Rattle.lp_model.specs.declared.program.ColumnDef.{ColumnDef}
 use Rattle.lp_model.specs.ProgramData.{ProgramData}

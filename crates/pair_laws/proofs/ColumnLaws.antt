@@ -1,11 +1,11 @@
 -- Columns.
 use Rattle.std.proofs.Common.{◌≡◌, ◌≢◌, ℕ, List, sym, ap, ◌∙◌}
 use Rattle.std.specs.Prelude.{Option, Some, if◌then◌else◌}
-use Rattle.rational.specs.Number.{Number, zero_ℚ, neg_ℚ, ◌+ℚ◌, ◌-ℚ◌, ◌*ℚ◌}
-use Rattle.rational.specs.Division.{◌/ℚ◌}
-use Rattle.rational.specs.Ends.{less, minus_ends, meet_low, meet_high}
-use Rattle.rational.specs.Total.{total, put}
-use Rattle.rational.proofs.Totals.{put-other}
+use Rattle.fractions.specs.Number.{Number, zero_ℚ, neg_ℚ, ◌+ℚ◌, ◌-ℚ◌, ◌*ℚ◌}
+use Rattle.fractions.specs.Division.{◌/ℚ◌}
+use Rattle.fractions.specs.Ends.{less, minus_ends, meet_low, meet_high}
+use Rattle.fractions.specs.Total.{total, put}
+use Rattle.fractions.proofs.Totals.{put-other}
 use Rattle.lp_model.specs.declared.terms.Term.{Term}
 use Rattle.lp_model.specs.LinearProgram.{LinearProgram}
 use Rattle.lp_model.specs.Sparse.{Ascends, dense, sparse_total}

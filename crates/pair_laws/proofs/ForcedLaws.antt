@@ -1,6 +1,6 @@
 -- Forcing rows.
 use Rattle.std.proofs.Common.{◌≡◌, ℕ, ap, ◌∙◌}
-use Rattle.rational.specs.Number.{zero_ℚ}
+use Rattle.fractions.specs.Number.{zero_ℚ}
 use Rattle.lp_model.specs.Sparse.{Ascends, dense}
 use Rattle.lp_model.specs.Reductions.{Priced}
 use Rattle.lp_rows.specs.ForcingRow.{set_for_row, greatest_ratio, least_ratio, undo_forced_at_lower_side, undo_forced_at_upper_side}

@@ -1,13 +1,13 @@
 -- The greatest of 0 and the ratios of a list is that of all columns, and so is the least.
 use Rattle.std.proofs.Common.{◌≡◌, ◌≢◌, ◌⊎◌, inl, inr, ℕ, suc, ◌<◌, ◌≤◌, List, [], ◌∷◌, pos, lit<, refl, sym, ap, ◌∙◌, subst, arith}
 use Rattle.std.proofs.lemmas.Bool.{cases_eq}
-use Rattle.rational.specs.Gcd.{coprime_by}
-use Rattle.rational.specs.Number.{Number, zero_ℚ, of_ℤ, ◌*ℚ◌, *ℚ_comm, zero-*ℚ}
-use Rattle.rational.specs.Lowest.{over_of, under_of, of_lowest}
-use Rattle.rational.specs.Order.{◌≤ℚ◌, ≤ℚ_refl, ≤ℚ_trans, ≤ℚ_antisym}
-use Rattle.rational.specs.Division.{◌/ℚ◌, inv_ℚ, inverse_by}
-use Rattle.rational.proofs.MinMaxLaws.{min_ℚ-≤_left, min_ℚ-≤_right, ≤ℚ-max_ℚ_left, ≤ℚ-max_ℚ_right, min_ℚ_one, max_ℚ_one}
-use Rattle.rational.proofs.Totals.{put-same, put-other}
+use Rattle.fractions.specs.Gcd.{coprime_by}
+use Rattle.fractions.specs.Number.{Number, zero_ℚ, of_ℤ, ◌*ℚ◌, *ℚ_comm, zero-*ℚ}
+use Rattle.fractions.specs.Lowest.{over_of, under_of, of_lowest}
+use Rattle.fractions.specs.Order.{◌≤ℚ◌, ≤ℚ_refl, ≤ℚ_trans, ≤ℚ_antisym}
+use Rattle.fractions.specs.Division.{◌/ℚ◌, inv_ℚ, inverse_by}
+use Rattle.fractions.proofs.MinMaxLaws.{min_ℚ-≤_left, min_ℚ-≤_right, ≤ℚ-max_ℚ_left, ≤ℚ-max_ℚ_right, min_ℚ_one, max_ℚ_one}
+use Rattle.fractions.proofs.Totals.{put-same, put-other}
 use Rattle.lp_model.specs.declared.terms.Term.{Term}
 use Rattle.lp_model.specs.Vectors.{Vector}
 use Rattle.lp_model.specs.Sparse.{Ascends, dense}

@@ -1,9 +1,9 @@
 -- A list of terms in place of a row or a column.
 use Rattle.std.proofs.Common.{◌≡◌, ℕ, List, refl, ◌∙◌}
 use Rattle.std.specs.Prelude.{Option, Some, None}
-use Rattle.rational.specs.Number.{Number, ◌*ℚ◌, *ℚ_comm}
-use Rattle.rational.specs.Total.{total}
-use Rattle.rational.proofs.Totals.{total_same}
+use Rattle.fractions.specs.Number.{Number, ◌*ℚ◌, *ℚ_comm}
+use Rattle.fractions.specs.Total.{total}
+use Rattle.fractions.proofs.Totals.{total_same}
 use Rattle.lp_model.specs.declared.terms.Term.{Term}
 use Rattle.lp_model.specs.Vectors.{Vector}
 use Rattle.lp_model.specs.Sparse.{Ascends, dense, sparse_total}

@@ -10,7 +10,7 @@ use Rattle.undo_records.specs.declared.undo.Undo.{Undo}
 use Rattle.undo_records.specs.declared.undo.Undo.TheVariants as kind
 use Rattle.undo_records.specs.Lift.{lift, undone}
 use Rattle.undo_pairs.specs.LiftPair.{duals_undone, is_off_bound, lift_pair, undo_slack, undone_pair}
-use Rattle.rational.specs.Number.{Number}
+use Rattle.fractions.specs.Number.{Number}
 use Rattle.std.specs.Prelude.{ℕ}
 
 either : (b : Bool) (p q : Priced) (x : Vector) → p.x ≡ x → q.x ≡ x → (if b then p else q).x ≡ x

@@ -1,7 +1,7 @@
 -- The sense of the file, undoings that agree, and programs with a whole column.
 use Rattle.std.proofs.Common.{◌≡◌, ℕ, ◌<◌, List, refl, sym, ◌∙◌, subst, true≢false}
 use Rattle.std.specs.Bool.{IsTrue}
-use Rattle.rational.specs.Number.{Number}
+use Rattle.fractions.specs.Number.{Number}
 use Rattle.lp_model.specs.declared.program.Sense.{Sense}
 use Rattle.lp_model.specs.declared.program.Sense.TheVariants.{Min, Max}
 use Rattle.lp_model.specs.ProgramData.{ProgramData}

@@ -1,7 +1,7 @@
 -- The record of each reduction of a program M, with the program's numbers. A list of terms has the entries of a row or a column.
 use Rattle.std.specs.Prelude.{ℕ, List}
-use Rattle.rational.specs.Number.{Number}
-use Rattle.rational.specs.Division.{◌/ℚ◌}
+use Rattle.fractions.specs.Number.{Number}
+use Rattle.fractions.specs.Division.{◌/ℚ◌}
 use Rattle.lp_model.specs.declared.terms.Term.{Term}
 use Rattle.lp_model.specs.LinearProgram.{LinearProgram}
 use Rattle.undo_records.specs.declared.side.Side.{Side}

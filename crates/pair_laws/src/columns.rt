@@ -1,14 +1,14 @@
 //! The laws of the reductions of columns, for pairs, with the undoing of their records.
 
 ghost use Rattle.std.specs.Prelude.{◌≡◌, ℕ, List};
-ghost use Rattle.rational.specs.Number.{Number, zero_ℚ};
+ghost use Rattle.fractions.specs.Number.{Number, zero_ℚ};
 ghost use Rattle.lp_model.specs.declared.program.Sense.TheVariants.{Min};
 ghost use Rattle.lp_model.specs.declared.terms.Term.{Term};
 ghost use Rattle.lp_model.specs.LinearProgram.{LinearProgram};
 ghost use Rattle.lp_model.specs.Reductions.{ReducesPairs};
 ghost use Rattle.lp_model.specs.Sparse.{Ascends, dense};
 ghost use Rattle.lp_model.specs.Optimality.{Continuous};
-ghost use Rattle.rational.specs.Total.{put};
+ghost use Rattle.fractions.specs.Total.{put};
 ghost use Rattle.lp_columns.specs.FixedColumn.{IsFixedColumn, fixed_column_deleted};
 ghost use Rattle.lp_columns.specs.RoundedBounds.{IsWholeColumn, bounds_rounded};
 ghost use Rattle.lp_columns.specs.EmptyColumn.{IsEmptyColumn, empty_column_fixed};

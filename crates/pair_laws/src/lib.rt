@@ -10,7 +10,7 @@ pub mod columns;
 pub mod rows;
 
 ghost use Rattle.std.specs.Prelude.{◌≡◌, ◌≢◌, ℕ, List, [], ◌∷◌, ◌++◌, length};
-ghost use Rattle.rational.specs.Number.{Number};
+ghost use Rattle.fractions.specs.Number.{Number};
 ghost use Rattle.lp_model.specs.LinearProgram.{LinearProgram};
 ghost use Rattle.lp_model.specs.Sparse.{Ascends, dense};
 ghost use Rattle.lp_model.specs.declared.program.Sense.{Sense};

@@ -4,11 +4,11 @@ use Rattle.std.specs.Prelude.{if◌then◌else◌}
 use Rattle.std.specs.List.{All}
 use Rattle.std.proofs.lemmas.List.Elements.{All-head}
 use Rattle.std.proofs.lemmas.Option.{none-some, same_Some}
-use Rattle.rational.specs.Number.{Number, zero_ℚ, ◌*ℚ◌}
-use Rattle.rational.specs.Compare.{eq_ℚ}
-use Rattle.rational.specs.Division.{◌/ℚ◌}
-use Rattle.rational.specs.Lowest.{Fits}
-use Rattle.rational.proofs.Comparisons.{eq_ℚ-is}
+use Rattle.fractions.specs.Number.{Number, zero_ℚ, ◌*ℚ◌}
+use Rattle.fractions.specs.Compare.{eq_ℚ}
+use Rattle.fractions.specs.Division.{◌/ℚ◌}
+use Rattle.fractions.specs.Lowest.{Fits}
+use Rattle.fractions.proofs.Comparisons.{eq_ℚ-is}
 use Rattle.fractions.specs.declared.Past.{Past}
 use Rattle.lp_model.specs.declared.terms.Term.{Term}
 use Rattle.problem_model.specs.declared.line.Line.{Line}

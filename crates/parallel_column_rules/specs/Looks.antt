@@ -1,7 +1,7 @@
 -- What is looked at of two columns.
 use Rattle.std.specs.Prelude.{ℕ, Bool, false, not, ◌&&◌, nat_eq, Option, Some, None}
-use Rattle.rational.specs.Number.{Number, ◌*ℚ◌}
-use Rattle.rational.specs.Compare.{eq_ℚ}
+use Rattle.fractions.specs.Number.{Number, ◌*ℚ◌}
+use Rattle.fractions.specs.Compare.{eq_ℚ}
 use Rattle.problem_model.specs.declared.line.Bounds.{Bounds}
 use Rattle.problem_model.specs.declared.part.Contents.{Contents}
 use Rattle.problem_model.specs.Parts.{bounds_held}

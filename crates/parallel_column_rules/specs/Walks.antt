@@ -1,8 +1,8 @@
 -- Entries of a column or a row as a walk meets them: those that name deleted lines are passed over.
 use Rattle.std.specs.Prelude.{Bool, false, ◌&&◌, if◌then◌else◌, nat_eq, List, [], ◌∷◌, Option, Some, None}
-use Rattle.rational.specs.Number.{Number, ◌*ℚ◌}
-use Rattle.rational.specs.Compare.{eq_ℚ}
-use Rattle.rational.specs.Division.{◌/ℚ◌}
+use Rattle.fractions.specs.Number.{Number, ◌*ℚ◌}
+use Rattle.fractions.specs.Compare.{eq_ℚ}
+use Rattle.fractions.specs.Division.{◌/ℚ◌}
 use Rattle.lp_model.specs.declared.terms.Term.{Term}
 use Rattle.problem_model.specs.declared.line.Line.{Line}
 use Rattle.problem_model.specs.Matrices.{line_at}

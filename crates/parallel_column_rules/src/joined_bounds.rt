@@ -1,8 +1,8 @@
 //! The bounds of the column that is kept.
 
 ghost use Rattle.std.specs.Prelude.{◌≡◌, ◌≢◌, ◌↔◌, true, IfOk, IsOk};
-ghost use Rattle.rational.specs.Number.{zero_ℚ};
-ghost use Rattle.rational.specs.Ends.{plus, scaled};
+ghost use Rattle.fractions.specs.Number.{zero_ℚ};
+ghost use Rattle.fractions.specs.Ends.{plus, scaled};
 ghost use Rattle.lp_theory.specs.Activities.{least_term};
 ghost use Rattle.problem_model.specs.Problems.{column_at};
 ghost use Rattle.parallel_laws.specs.ParallelColumns.{factor as factor_by, joined_lower, joined_upper, Computes, EndComputes};

@@ -3,8 +3,8 @@
 
 ghost use Rattle.std.specs.Prelude.{◌≡◌, ◌≢◌, ◌&&◌, not, true};
 ghost use Rattle.std.specs.List.{All};
-ghost use Rattle.rational.specs.Number.{zero_ℚ, ◌*ℚ◌};
-ghost use Rattle.rational.specs.Compare.{eq_ℚ};
+ghost use Rattle.fractions.specs.Number.{zero_ℚ, ◌*ℚ◌};
+ghost use Rattle.fractions.specs.Compare.{eq_ℚ};
 ghost use Rattle.problem_model.specs.Matrices.{line_at, live_only};
 ghost use Rattle.rule_words.specs.Entries.{has_none};
 ghost use Rattle.rule_words.specs.Multiples.{are_times as times_are};

@@ -4,14 +4,14 @@ use Rattle.std.specs.Prelude.{IfSome, if◌then◌else◌}
 use Rattle.std.specs.List.{All}
 use Rattle.std.proofs.lemmas.Bool.{and_parts, eq-eqb}
 use Rattle.std.proofs.lemmas.List.Elements.{All-cons, All-head}
-use Rattle.rational.specs.Number.{Number, zero_ℚ, one_ℚ, neg_ℚ, ◌*ℚ◌}
-use Rattle.rational.specs.Compare.{eq_ℚ}
-use Rattle.rational.specs.Ends.{meet_high, meet_low, minus_ends, plus}
-use Rattle.rational.specs.Floor.{IsWhole, is_whole}
-use Rattle.rational.specs.Total.{put}
-use Rattle.rational.proofs.Comparisons.{eq_ℚ-is, le_ℚ-is}
-use Rattle.rational.proofs.Floors.{is_whole-is}
-use Rattle.rational.proofs.Totals.{put-same, put-other, at_or_off}
+use Rattle.fractions.specs.Number.{Number, zero_ℚ, one_ℚ, neg_ℚ, ◌*ℚ◌}
+use Rattle.fractions.specs.Compare.{eq_ℚ}
+use Rattle.fractions.specs.Ends.{meet_high, meet_low, minus_ends, plus}
+use Rattle.fractions.specs.Floor.{IsWhole, is_whole}
+use Rattle.fractions.specs.Total.{put}
+use Rattle.fractions.proofs.Comparisons.{eq_ℚ-is, le_ℚ-is}
+use Rattle.fractions.proofs.Floors.{is_whole-is}
+use Rattle.fractions.proofs.Totals.{put-same, put-other, at_or_off}
 use Rattle.lp_model.specs.declared.program.Sense.TheVariants.{Min}
 use Rattle.lp_model.specs.declared.terms.Term.{Term}
 use Rattle.lp_model.specs.EndTests.{is_broken, is_in_order}

@@ -1,9 +1,9 @@
 -- K16: a column j that is s times another column k, in its entries and in its cost, joins it.
 use Rattle.std.specs.Prelude.{ℕ, ⊤, Bool, false, not, ◌&&◌, ◌||◌, if◌then◌else◌, nat_eq, List, [], ◌∷◌, Option, Some, None}
-use Rattle.rational.specs.Number.{Number, one_ℚ, neg_ℚ, ◌*ℚ◌}
-use Rattle.rational.specs.Compare.{eq_ℚ}
-use Rattle.rational.specs.Ends.{plus}
-use Rattle.rational.specs.Lowest.{Fits}
+use Rattle.fractions.specs.Number.{Number, one_ℚ, neg_ℚ, ◌*ℚ◌}
+use Rattle.fractions.specs.Compare.{eq_ℚ}
+use Rattle.fractions.specs.Ends.{plus}
+use Rattle.fractions.specs.Lowest.{Fits}
 use Rattle.fractions.specs.FracWords.{SumFits}
 use Rattle.lp_model.specs.EndTests.{is_broken, is_in_order}
 use Rattle.lp_model.specs.declared.terms.Term.{Term}

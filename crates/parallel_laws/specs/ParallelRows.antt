@@ -1,9 +1,9 @@
 -- K15: a row i that is s times another row k gives its sides to it.
 use Rattle.std.specs.Prelude.{ℕ, ⊤, Bool, false, not, ◌&&◌, nat_eq, List, [], ◌∷◌, Option, Some, None}
-use Rattle.rational.specs.Number.{Number}
-use Rattle.rational.specs.Division.{◌/ℚ◌}
-use Rattle.rational.specs.Ends.{meet_high, meet_low}
-use Rattle.rational.specs.Lowest.{Fits}
+use Rattle.fractions.specs.Number.{Number}
+use Rattle.fractions.specs.Division.{◌/ℚ◌}
+use Rattle.fractions.specs.Ends.{meet_high, meet_low}
+use Rattle.fractions.specs.Lowest.{Fits}
 use Rattle.lp_model.specs.declared.terms.Term.{Term}
 use Rattle.lp_theory.specs.MetEnds.{lower_over, upper_over}
 use Rattle.undo_records.specs.declared.undo.Undo.{Undo}

@@ -3,9 +3,9 @@ use Rattle.std.proofs.Common.{◌≡◌, ◌≢◌, ℕ, suc, Bool, true, false,
 use Rattle.std.specs.Prelude.{if◌then◌else◌}
 use Rattle.std.specs.List.{All}
 use Rattle.std.proofs.lemmas.Bool.{and_parts, eq-eqb}
-use Rattle.rational.specs.Number.{Number, zero_ℚ, ◌*ℚ◌}
-use Rattle.rational.specs.Compare.{eq_ℚ}
-use Rattle.rational.specs.Division.{◌/ℚ◌}
+use Rattle.fractions.specs.Number.{Number, zero_ℚ, ◌*ℚ◌}
+use Rattle.fractions.specs.Compare.{eq_ℚ}
+use Rattle.fractions.specs.Division.{◌/ℚ◌}
 use Rattle.lp_model.specs.declared.terms.Term.{Term}
 use Rattle.problem_model.specs.declared.part.Contents.TheVariants as holding
 use Rattle.problem_model.specs.Matrices.{live_only}

@@ -1,6 +1,6 @@
 -- Sides over a factor.
 use Rattle.std.proofs.Common.{Option, Some, None}
-use Rattle.rational.specs.Number.{Number}
+use Rattle.fractions.specs.Number.{Number}
 use Rattle.fractions.specs.EndWords.{OverFits}
 use Rattle.parallel_laws.specs.ParallelRows.{SideComputes}
 

@@ -1,6 +1,6 @@
 -- What is looked at of two rows.
 use Rattle.std.specs.Prelude.{ℕ, Bool, false, not, ◌&&◌, nat_eq, List, length, Option, Some, None}
-use Rattle.rational.specs.Number.{Number}
+use Rattle.fractions.specs.Number.{Number}
 use Rattle.lp_model.specs.declared.terms.Term.{Term}
 use Rattle.problem_model.specs.Problems.{row_at, row_entries}
 use Rattle.problem_model.specs.Sparse.{Sparse}

@@ -1,8 +1,8 @@
 //! The sides of the row that is kept.
 
 ghost use Rattle.std.specs.Prelude.{◌≡◌, ◌≢◌, ◌↔◌, true, IfOk, IsOk};
-ghost use Rattle.rational.specs.Number.{zero_ℚ};
-ghost use Rattle.rational.specs.Ends.{over as over_of};
+ghost use Rattle.fractions.specs.Number.{zero_ℚ};
+ghost use Rattle.fractions.specs.Ends.{over as over_of};
 ghost use Rattle.lp_theory.specs.MetEnds.{lower_over, upper_over};
 ghost use Rattle.problem_model.specs.Problems.{row_at};
 ghost use Rattle.parallel_laws.specs.ParallelRows.{factor as factor_by, joined_lower, joined_upper, Computes, SideComputes};

@@ -4,8 +4,8 @@ use Rattle.std.specs.Prelude.{All, map, codes, is_some, unwrap_or}
 use Rattle.std.specs.Str.{bytes_eq}
 use Rattle.std.proofs.lemmas.List.Elements.{All-cons, All-head, All-tail, All-append}
 use Rattle.std.proofs.lemmas.List.Folds.{list_any_at}
-use Rattle.rational.specs.Number.{Number, zero_ℚ}
-use Rattle.rational.specs.Lowest.{Fits}
+use Rattle.fractions.specs.Number.{Number, zero_ℚ}
+use Rattle.fractions.specs.Lowest.{Fits}
 use Rattle.fractions.specs.declared.Numbers.TheVariants.{Fractions}
 use Rattle.names.specs.Names.{place}
 use Rattle.number_texts.specs.Read.{read_of}

@@ -3,7 +3,7 @@ use Rattle.std.proofs.Common.{◌≡◌, ◌≢◌, ℕ, zero, suc, ◌<◌, Lis
 use Rattle.std.specs.Prelude.{Ok, Err, slice_index_or, codes, is_some, unwrap_or}
 use Rattle.std.specs.Str.{bytes_eq}
 use Rattle.std.proofs.lemmas.Slice.Eq.{bytes_eq-Decides}
-use Rattle.rational.specs.Number.{Number, zero_ℚ}
+use Rattle.fractions.specs.Number.{Number, zero_ℚ}
 use Rattle.fractions.specs.declared.Numbers.TheVariants.{Fractions}
 use Rattle.number_texts.specs.Read.{read_of}
 use Rattle.number_texts.specs.declared.reading.ReadNumber.{ReadNumber}

@@ -1,6 +1,6 @@
 -- What holds at each line of a solution with duals, up to the line of the duals.
 use Rattle.std.proofs.Common.{◌≡◌, ℕ, ◌+◌, List, [], ◌∷◌, length, true, false, cond, Option, Some, None, refl, sym, ap, ◌∙◌, subst, arith}
-use Rattle.rational.specs.Number.{Number, zero_ℚ}
+use Rattle.fractions.specs.Number.{Number, zero_ℚ}
 use Rattle.std.specs.Prelude.{map, unwrap_or, Err}
 use Rattle.text_lines.specs.Faults.{or_later}
 use Rattle.text_lines.specs.Lines.{lines_of}

@@ -1,6 +1,6 @@
 -- What is held of the lines that were read.
 use Rattle.std.specs.Prelude.{◌≡◌, ℕ, List, ◌∷◌, Option, Some, None, Result, Ok, Err, slice_index_or, is_some}
-use Rattle.rational.specs.Number.{Number}
+use Rattle.fractions.specs.Number.{Number}
 use Rattle.names.specs.Names.{place}
 use Rattle.mps_profile.specs.Texts.{Text}
 use Rattle.point_text.specs.SolutionLines.{Line}

@@ -1,6 +1,6 @@
 -- The first fault of a text, and the point that it gives.
 use Rattle.std.specs.Prelude.{◌≡◌, ℕ, ◌+◌, List, [], ◌∷◌, length, map, Option, Some, None, Result, Ok, Err}
-use Rattle.rational.specs.Number.{Number}
+use Rattle.fractions.specs.Number.{Number}
 use Rattle.text_lines.specs.Faults.{or_later}
 use Rattle.text_lines.specs.Lines.{lines_of}
 use Rattle.mps_profile.specs.Texts.{Text}

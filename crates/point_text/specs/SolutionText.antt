@@ -1,6 +1,6 @@
 -- The text of a solution.
 use Rattle.std.specs.Prelude.{ℕ, List, [], ◌∷◌, ◌++◌}
-use Rattle.rational.specs.Number.{Number}
+use Rattle.fractions.specs.Number.{Number}
 use Rattle.number_texts.specs.Written.{written}
 use Rattle.mps_profile.specs.Texts.{Text}
 

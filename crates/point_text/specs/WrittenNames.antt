@@ -1,7 +1,7 @@
 -- Names with numbers that can be written and read again.
 use Rattle.std.specs.Prelude.{◌≡◌, List, length, All}
-use Rattle.rational.specs.Number.{Number}
-use Rattle.rational.specs.Lowest.{Fits}
+use Rattle.fractions.specs.Number.{Number}
+use Rattle.fractions.specs.Lowest.{Fits}
 use Rattle.lp_model.specs.Names.{Differ}
 use Rattle.mps_profile.specs.Texts.{Text}
 use Rattle.point_text.specs.PlainNames.{Plain}

@@ -2,8 +2,8 @@
 //! law.
 
 ghost use Rattle.std.specs.Prelude.{◌≡◌, ℕ, List, length, All, Option, None, Ok, IfSome};
-ghost use Rattle.rational.specs.Number.{Number, zero_ℚ};
-ghost use Rattle.rational.specs.Lowest.{Fits};
+ghost use Rattle.fractions.specs.Number.{Number, zero_ℚ};
+ghost use Rattle.fractions.specs.Lowest.{Fits};
 ghost use Rattle.lp_model.specs.Names.{Differ};
 ghost use Rattle.fractions.specs.declared.Numbers.TheVariants.{Fractions};
 ghost use Rattle.number_texts.specs.Read.{read_of};

@@ -2,7 +2,7 @@
 
 ghost use Rattle.std.specs.Prelude.{◌≡◌, ◌<◌, ℕ, length, map, List, [], IfOk, Some, unwrap_or, if◌then◌else◌};
 ghost use Rattle.std.specs.Str.{bytes_eq};
-ghost use Rattle.rational.specs.Number.{zero_ℚ};
+ghost use Rattle.fractions.specs.Number.{zero_ℚ};
 ghost use Rattle.names.specs.Names.{place};
 ghost use Rattle.fractions.specs.declared.Numbers.TheVariants.{Fractions};
 ghost use Rattle.number_texts.specs.Read.{read_of};

@@ -1,6 +1,6 @@
 -- What the bytes that reads found give, by text; none where they are more than is read.
 use Rattle.std.specs.Prelude.{◌≡◌, ℕ, true, false, List, [], ◌∷◌, ◌++◌, codes, Option, Some, None, Result, Ok, Err}
-use Rattle.rational.specs.Number.{Number}
+use Rattle.fractions.specs.Number.{Number}
 use Rattle.lp_model.specs.ProgramData.{ProgramData}
 use Rattle.lp_model.specs.declared.point.Pair.{Pair}
 use Rattle.text_lines.specs.declared.fault.Fault.{Fault}

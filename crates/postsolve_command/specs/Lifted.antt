@@ -1,8 +1,8 @@
 -- What records make of a reduced point, alone or with duals, and the texts of that.
 use Rattle.std.specs.Prelude.{◌≡◌, ◌⊎◌, ℕ, List, [], ◌∷◌, ◌++◌, codes, length, map, Option, Some, None, Result, Ok, Err, All}
 use Rattle.std.specs.Fmt.{decimal}
-use Rattle.rational.specs.Number.{Number}
-use Rattle.rational.specs.Lowest.{Fits}
+use Rattle.fractions.specs.Number.{Number}
+use Rattle.fractions.specs.Lowest.{Fits}
 use Rattle.lp_model.specs.ProgramData.{ProgramData}
 use Rattle.lp_model.specs.Meaning.{meaning}
 use Rattle.lp_model.specs.Reductions.{Priced}

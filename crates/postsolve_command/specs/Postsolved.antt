@@ -1,6 +1,6 @@
 -- What an ending of a postsolve says of the files before and after it.
 use Rattle.std.specs.Prelude.{◌≡◌, ◌≢◌, ◌⊎◌, ◌==◌, ℕ, List, [], ◌∷◌, ◌++◌, codes, Option, option_map, Result, Ok, Err}
-use Rattle.rational.specs.Number.{Number}
+use Rattle.fractions.specs.Number.{Number}
 use Rattle.file_ports.specs.Ports.{Moment, Unsettled, KeepsOthers, Written}
 use Rattle.command_words.specs.Names.{PostsolveNames}
 use Rattle.lp_model.specs.ProgramData.{ProgramData}

@@ -1,7 +1,7 @@
 //! The lift of a point, alone or with duals, and its texts.
 
 ghost use Rattle.std.specs.Prelude.{◌≡◌, ◌<◌, Some, None, length, All, IfOk, IfSome};
-ghost use Rattle.rational.specs.Lowest.{Fits};
+ghost use Rattle.fractions.specs.Lowest.{Fits};
 ghost use Rattle.lp_model.specs.Writable.{EntriesAscend};
 ghost use Rattle.point_text.specs.PairText.{pair_text};
 ghost use Rattle.undo_pairs.specs.LiftPair.{lift_pair as lift_pair_of};

@@ -1,10 +1,10 @@
 -- Numbers from which terms are taken, one after another.
 use Rattle.std.proofs.Common.{◌≡◌, ◌≢◌, ◌↔◌, ℕ, suc, ◌<◌, ◌≤◌, List, [], ◌∷◌, length, refl, sym, ap, ◌∙◌, subst, arith}
-use Rattle.rational.specs.Ring.{ring, v, num, ◌:-◌, ◌:*◌}
+use Rattle.fractions.specs.Ring.{ring, v, num, ◌:-◌, ◌:*◌}
 use Rattle.std.specs.Prelude.{pos}
-use Rattle.rational.specs.Number.{Number, rational, ◌-ℚ◌, ◌*ℚ◌}
-use Rattle.rational.specs.Total.{put}
-use Rattle.rational.proofs.Totals.{put-same, put-other, at_or_off}
+use Rattle.fractions.specs.Number.{Number, rational, ◌-ℚ◌, ◌*ℚ◌}
+use Rattle.fractions.specs.Total.{put}
+use Rattle.fractions.proofs.Totals.{put-same, put-other, at_or_off}
 use Rattle.lp_model.specs.declared.terms.Term.{Term}
 use Rattle.lp_model.specs.Vectors.{Vector}
 use Rattle.lp_model.specs.Sparse.{Ascends, dense}

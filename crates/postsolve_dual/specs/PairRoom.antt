@@ -1,8 +1,8 @@
 -- When the numbers that undoing a pair computes have room.
 use Rattle.std.specs.Prelude.{◌≢◌, ℕ, pred, ◌<◌, ◌≤◌, IsTrue, List, [], ◌∷◌, length, drop, Option, ⊤}
-use Rattle.rational.specs.Number.{Number, zero_ℚ, neg_ℚ, ◌*ℚ◌}
-use Rattle.rational.specs.Division.{◌/ℚ◌}
-use Rattle.rational.specs.Lowest.{Fits}
+use Rattle.fractions.specs.Number.{Number, zero_ℚ, neg_ℚ, ◌*ℚ◌}
+use Rattle.fractions.specs.Division.{◌/ℚ◌}
+use Rattle.fractions.specs.Lowest.{Fits}
 use Rattle.fractions.specs.FracWords.{SumFits}
 use Rattle.lp_model.specs.declared.terms.Term.{Term}
 use Rattle.lp_model.specs.Vectors.{Vector}

@@ -1,7 +1,7 @@
 //! Where a multiplier is held.
 
 ghost use Rattle.std.specs.Prelude.{◌≡◌, Some};
-ghost use Rattle.rational.specs.Ends.{same_end};
+ghost use Rattle.fractions.specs.Ends.{same_end};
 ghost use Rattle.lp_theory.specs.MetEnds.{is_from_row as is_from_row_of};
 ghost use Rattle.undo_pairs.specs.LiftPair.{is_off_bound as is_off_bound_of};
 

@@ -2,12 +2,12 @@
 
 ghost use Rattle.std.specs.Prelude.{◌≡◌, ◌<◌, length, IsOk, OnOk, ◌↔◌};
 ghost use Rattle.lp_model.specs.Vectors.{vector_of};
-ghost use Rattle.rational.specs.Total.{put};
+ghost use Rattle.fractions.specs.Total.{put};
 ghost use Rattle.undo_records.specs.Lift.{undone};
 ghost use Rattle.undo_records.specs.Room.{UndoFits};
 ghost use Rattle.undo_records.specs.Sound.{CanUndo};
 ghost use Rattle.lp_model.specs.Sparse.{Ascends, dense};
-ghost use Rattle.rational.specs.Number.{◌-ℚ◌, ◌*ℚ◌};
+ghost use Rattle.fractions.specs.Number.{◌-ℚ◌, ◌*ℚ◌};
 ghost use Rattle.postsolve_dual.specs.PairRoom.{TakenFits};
 
 use crate::terms::take_terms;
@@ -29,7 +29,7 @@ pub struct PairBuf {
 
 impl Model for PairBuf {
     ghost use Rattle.std.specs.Coded.{codes};
-    ghost use Rattle.rational.specs.Lowest.{number_code};
+    ghost use Rattle.fractions.specs.Lowest.{number_code};
     ghost use Rattle.undo_pairs.specs.Numbers.{PairNumbers};
 
     ghost Value = { PairNumbers };

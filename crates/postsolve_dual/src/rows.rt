@@ -1,7 +1,7 @@
 //! Undoings that give a dual to a row of inequalities.
 
 ghost use Rattle.std.specs.Prelude.{◌≡◌, ◌≢◌, ℕ, ◌<◌, length, true, IfOk, IsOk, OnOk, ◌↔◌};
-ghost use Rattle.rational.specs.Number.{zero_ℚ};
+ghost use Rattle.fractions.specs.Number.{zero_ℚ};
 ghost use Rattle.lp_model.specs.Vectors.{vector_of};
 ghost use Rattle.lp_model.specs.Sparse.{Ascends, dense, has, sparse_total};
 ghost use Rattle.lp_theory.specs.MetEnds.{is_from_row as is_from_row_of};

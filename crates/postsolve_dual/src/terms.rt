@@ -1,7 +1,7 @@
 //! Ratios and differences along a list of terms.
 
 ghost use Rattle.std.specs.Prelude.{◌≡◌, length, IfOk, IsOk, OnOk, ◌↔◌};
-ghost use Rattle.rational.specs.Number.{zero_ℚ, ◌-ℚ◌, ◌*ℚ◌};
+ghost use Rattle.fractions.specs.Number.{zero_ℚ, ◌-ℚ◌, ◌*ℚ◌};
 ghost use Rattle.lp_model.specs.Vectors.{vector_of};
 ghost use Rattle.lp_model.specs.Sparse.{Ascends, dense};
 ghost use Rattle.undo_pairs.specs.LiftPair.{cost_left as cost_left_of, further as further_of, furthest as furthest_of};

@@ -1,7 +1,7 @@
 //! From the sense of the file to the minimizing one, and back.
 
 ghost use Rattle.std.specs.Prelude.{◌≡◌, ℕ, length};
-ghost use Rattle.rational.specs.Number.{neg_ℚ};
+ghost use Rattle.fractions.specs.Number.{neg_ℚ};
 ghost use Rattle.lp_model.specs.Vectors.{vector_of};
 ghost use Rattle.undo_pairs.specs.Numbers.{IsSized, priced_of, turned_for};
 

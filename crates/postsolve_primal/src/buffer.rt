@@ -19,8 +19,8 @@ pub struct PointBuf {
 impl Model for PointBuf {
     ghost use Rattle.std.specs.Prelude.{List};
     ghost use Rattle.std.specs.Coded.{codes};
-    ghost use Rattle.rational.specs.Lowest.{number_code};
-    ghost use Rattle.rational.specs.Number.{Number};
+    ghost use Rattle.fractions.specs.Lowest.{number_code};
+    ghost use Rattle.fractions.specs.Number.{Number};
 
     ghost Value = { List Number };
 

@@ -1,8 +1,8 @@
 //! Ends of ranges, and the number of a range that is nearest to 0.
 
 ghost use Rattle.std.specs.Prelude.{◌≡◌, ◌≢◌, IfOk, IsOk, ◌↔◌, Some};
-ghost use Rattle.rational.specs.Number.{zero_ℚ};
-ghost use Rattle.rational.specs.Ends.{less, minus_ends, over, meet_low, meet_high};
+ghost use Rattle.fractions.specs.Number.{zero_ℚ};
+ghost use Rattle.fractions.specs.Ends.{less, minus_ends, over, meet_low, meet_high};
 ghost use Rattle.undo_records.specs.Near.{near as near_of, zero_or_below as zero_or_below_of, low_over, high_over, near_within as near_within_of};
 ghost use Rattle.undo_records.specs.Fitting.{EndLessFits, LessEndFits, EndOverFits, SlackFits, ShareFits};
 

@@ -1,10 +1,10 @@
 //! Numbers of a point, and sums over lists of terms.
 
 ghost use Rattle.std.specs.Prelude.{◌≡◌, ◌≢◌, ℕ, ◌<◌, length, All, IfOk, IsOk, ◌↔◌};
-ghost use Rattle.rational.specs.Number.{zero_ℚ, ◌+ℚ◌, ◌-ℚ◌, ◌*ℚ◌};
-ghost use Rattle.rational.specs.Division.{◌/ℚ◌};
-ghost use Rattle.rational.specs.Lowest.{Fits};
-ghost use Rattle.rational.specs.Total.{put};
+ghost use Rattle.fractions.specs.Number.{zero_ℚ, ◌+ℚ◌, ◌-ℚ◌, ◌*ℚ◌};
+ghost use Rattle.fractions.specs.Division.{◌/ℚ◌};
+ghost use Rattle.fractions.specs.Lowest.{Fits};
+ghost use Rattle.fractions.specs.Total.{put};
 ghost use Rattle.fractions.specs.FracWords.{SumFits};
 ghost use Rattle.lp_model.specs.Vectors.{vector_of};
 ghost use Rattle.lp_model.specs.Sparse.{sparse_total};

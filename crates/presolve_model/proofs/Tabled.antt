@@ -1,7 +1,7 @@
 -- What the tables give, with no case: each law of reductions from what is owed and from the laws of edits.
 use Rattle.std.proofs.Common.{◌≡◌, true, List, ◌++◌, map, take, length, sym, ap, ◌∙◌}
 use Rattle.std.proofs.lemmas.Simd.{map-map}
-use Rattle.rational.specs.Number.{◌+ℚ◌}
+use Rattle.fractions.specs.Number.{◌+ℚ◌}
 use Rattle.fractions.specs.declared.Numbers.{Numbers}
 use Rattle.lp_model.specs.declared.program.Sense.TheVariants.{Min}
 use Rattle.lp_model.specs.Optimality.{Continuous}

@@ -1,5 +1,5 @@
 -- What a reduction makes of a problem on which it is enabled, and when its numbers have room and can be written. No rule is named here.
-use Rattle.rational.specs.Number.{Number}
+use Rattle.fractions.specs.Number.{Number}
 use Rattle.fractions.specs.declared.Numbers.{Numbers}
 use Rattle.problem_model.specs.NewNumbers.{EditsFit, EditsAreWritten}
 use Rattle.problem_model.specs.Offsets.{added_by}

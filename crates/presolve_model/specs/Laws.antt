@@ -1,6 +1,6 @@
 -- What a history keeps.
 use Rattle.std.specs.Prelude.{◌≡◌, true, List}
-use Rattle.rational.specs.Number.{◌-ℚ◌}
+use Rattle.fractions.specs.Number.{◌-ℚ◌}
 use Rattle.fractions.specs.declared.Numbers.{Numbers}
 use Rattle.lp_model.specs.declared.program.Sense.TheVariants.{Min}
 use Rattle.lp_model.specs.Optimality.{Continuous}

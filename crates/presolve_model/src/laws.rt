@@ -2,7 +2,7 @@
 
 ghost use Rattle.std.specs.Prelude.{◌≡◌, ℕ, ◌+◌, ◌-◌, ◌^◌, ◌<◌, ◌≤◌, false, true, All, List, [], ◌∷◌, ◌++◌, length, map};
 ghost use Rattle.std.specs.List.{Contains};
-ghost use Rattle.rational.specs.Number.{Number, ◌+ℚ◌};
+ghost use Rattle.fractions.specs.Number.{Number, ◌+ℚ◌};
 ghost use Rattle.fractions.specs.declared.Numbers.{Numbers};
 ghost use Rattle.lp_model.specs.declared.program.Sense.{Sense};
 ghost use Rattle.lp_model.specs.declared.program.Sense.TheVariants.{Min};

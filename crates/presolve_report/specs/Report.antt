@@ -1,7 +1,7 @@
 -- What a presolve prints.
 use Rattle.std.specs.Prelude.{ℕ, List, [], ◌∷◌, ◌++◌, codes}
 use Rattle.std.specs.Fmt.{decimal}
-use Rattle.rational.specs.Number.{Number}
+use Rattle.fractions.specs.Number.{Number}
 use Rattle.number_texts.specs.Written.{written}
 use Rattle.presolve_report.specs.declared.report.Change.{Change}
 use Rattle.presolve_model.specs.declared.conclusion.End.{End}

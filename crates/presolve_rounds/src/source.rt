@@ -17,7 +17,7 @@ pub struct Source {
 
 impl Model for Source {
     ghost use Rattle.std.specs.Coded.{codes};
-    ghost use Rattle.rational.specs.Lowest.{number_code};
+    ghost use Rattle.fractions.specs.Lowest.{number_code};
     ghost use Rattle.presolve_rounds.specs.Sources.{SourceData};
 
     ghost Value = { SourceData };

@@ -1,7 +1,7 @@
 -- Notes of parts that edits touch, as they stood before, and the numbers that rise by them.
 use Rattle.std.specs.Prelude.{ℕ, nat_eq, Bool, true, false, not, List, [], ◌∷◌, ◌++◌, map, if◌then◌else◌}
-use Rattle.rational.specs.Number.{Number}
-use Rattle.rational.specs.Compare.{eq_ℚ}
+use Rattle.fractions.specs.Number.{Number}
+use Rattle.fractions.specs.Compare.{eq_ℚ}
 use Rattle.lp_model.specs.declared.terms.Term.{Term}
 use Rattle.problem_model.specs.declared.edit.Edit.{Edit}
 use Rattle.problem_model.specs.declared.edit.Edit.TheVariants.{DeleteRow, DeleteColumn, SetSides, SetBounds, AddOffset, SetCost, SetEntry}

@@ -2,7 +2,7 @@
 
 ghost use Rattle.std.specs.Prelude.{◌≡◌, ◌∷◌, []};
 ghost use Rattle.fractions.specs.FracWords.{SumFits};
-ghost use Rattle.rational.specs.Number.{◌+ℚ◌};
+ghost use Rattle.fractions.specs.Number.{◌+ℚ◌};
 ghost use Rattle.problem_model.specs.Allowed.{AreAllowed, IsAllowed, NoEntries};
 ghost use Rattle.problem_model.specs.Applied.{applied, edited};
 ghost use Rattle.problem_model.specs.Edits.{offset_set};

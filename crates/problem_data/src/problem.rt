@@ -35,7 +35,7 @@ pub struct ProblemData {
 
 impl Model for ProblemData {
     ghost use Rattle.std.specs.Coded.{codes};
-    ghost use Rattle.rational.specs.Lowest.{number_code};
+    ghost use Rattle.fractions.specs.Lowest.{number_code};
     ghost use Rattle.problem_model.specs.Sparse.{Sparse};
 
     ghost Value = { Sparse };

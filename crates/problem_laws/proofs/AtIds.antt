@@ -4,8 +4,8 @@ use Rattle.std.specs.Prelude.{if◌then◌else◌}
 use Rattle.std.proofs.lemmas.Bool.{cases_lt}
 use Rattle.std.proofs.lemmas.List.{get_or-set_same, get_or-set_other, get_or_past}
 use Rattle.std.proofs.Math.ListN.{get_or-map}
-use Rattle.rational.specs.Number.{Number}
-use Rattle.rational.proofs.Totals.{at_or_off}
+use Rattle.fractions.specs.Number.{Number}
+use Rattle.fractions.proofs.Totals.{at_or_off}
 use Rattle.lp_model.specs.declared.terms.Term.{Term}
 use Rattle.lp_model.specs.Sparse.{has}
 use Rattle.problem_model.specs.declared.line.Line.{Line}

@@ -2,9 +2,9 @@
 use Rattle.std.proofs.Common.{◌≡◌, ◌≢◌, ℕ, ◌<◌, true, false, List, [], length, sym, ap, ap₂, ◌∙◌, subst, arith, ◌⊎◌, inl, inr}
 use Rattle.std.proofs.lemmas.Bool.{cases_eq}
 use Rattle.std.proofs.lemmas.List.{get_or-set_same, get_or-set_other, length-set}
-use Rattle.rational.specs.Number.{Number}
-use Rattle.rational.specs.Total.{put}
-use Rattle.rational.proofs.Totals.{put-same, put-other, at_or_off}
+use Rattle.fractions.specs.Number.{Number}
+use Rattle.fractions.specs.Total.{put}
+use Rattle.fractions.proofs.Totals.{put-same, put-other, at_or_off}
 use Rattle.lp_model.specs.Sparse.{Ascends, dense}
 use Rattle.problem_model.specs.declared.line.Line.{Line}
 use Rattle.problem_model.specs.Grids.{Grid}

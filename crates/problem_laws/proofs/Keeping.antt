@@ -2,8 +2,8 @@
 use Rattle.std.proofs.Common.{◌≡◌, ℕ, pred, ◌<◌, ◌^◌, Bool, true, false, List, [], length, refl, sym, ap, ap₂, ◌∙◌, subst, Option}
 use Rattle.std.specs.Prelude.{if◌then◌else◌}
 use Rattle.std.proofs.lemmas.List.{length-map, length-set}
-use Rattle.rational.specs.Number.{Number}
-use Rattle.rational.proofs.Totals.{at_or_off}
+use Rattle.fractions.specs.Number.{Number}
+use Rattle.fractions.proofs.Totals.{at_or_off}
 use Rattle.lp_model.specs.Sparse.{Ascends, dense, has, without}
 use Rattle.problem_model.specs.declared.line.Line.{Line}
 use Rattle.problem_model.specs.Grids.{Grid}

@@ -1,6 +1,6 @@
 -- One edit keeps what is asked of a problem, and what it makes of the linear program that is shown.
 use Rattle.std.proofs.Common.{◌≡◌, refl}
-use Rattle.rational.specs.Number.{◌+ℚ◌}
+use Rattle.fractions.specs.Number.{◌+ℚ◌}
 use Rattle.problem_model.specs.Problems.{IsSparse}
 use Rattle.problem_model.specs.Showing.{shown}
 use Rattle.problem_model.specs.Sparse.{Sparse}

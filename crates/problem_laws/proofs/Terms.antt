@@ -4,9 +4,9 @@ use Rattle.std.specs.Prelude.{if◌then◌else◌}
 use Rattle.std.specs.List.{filter, All}
 use Rattle.std.proofs.lemmas.Bool.{eq-eqb, ne_eqb, cases_eq}
 use Rattle.std.proofs.lemmas.List.Elements.{All-nil, All-cons}
-use Rattle.rational.specs.Number.{zero_ℚ}
-use Rattle.rational.specs.Total.{put}
-use Rattle.rational.proofs.Totals.{put-same, put-other}
+use Rattle.fractions.specs.Number.{zero_ℚ}
+use Rattle.fractions.specs.Total.{put}
+use Rattle.fractions.proofs.Totals.{put-same, put-other}
 use Rattle.lp_model.specs.declared.terms.Term.{Term}
 use Rattle.lp_model.specs.Sparse.{Ascends, dense, has, without}
 

@@ -1,6 +1,6 @@
 -- What edits make of a problem: what its parts hold, the offset, and no number of changes.
 use Rattle.std.specs.Prelude.{List, [], ◌∷◌}
-use Rattle.rational.specs.Number.{◌+ℚ◌}
+use Rattle.fractions.specs.Number.{◌+ℚ◌}
 use Rattle.problem_model.specs.Edits.{row_deleted, column_deleted, sides_set, bounds_set, offset_set, cost_set, entry_set}
 use Rattle.problem_model.specs.Sparse.{Sparse}
 use Rattle.problem_model.specs.declared.edit.Edit.{Edit}

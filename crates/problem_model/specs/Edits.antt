@@ -1,6 +1,6 @@
 -- The changes of what a problem holds, one at a time. The numbers of changes of its parts stay as they are.
 use Rattle.std.specs.Prelude.{ℕ, ◌+◌, ◌-◌, ◌*◌, pred, nat_lt, false, List, [], length, map, slice_set, Option, if◌then◌else◌}
-use Rattle.rational.specs.Number.{Number}
+use Rattle.fractions.specs.Number.{Number}
 use Rattle.lp_model.specs.Sparse.{has}
 use Rattle.problem_model.specs.declared.line.Line.{Line}
 use Rattle.problem_model.specs.declared.line.Sides.{Sides}

@@ -1,7 +1,7 @@
 -- A term put into terms by ascending id. A 0 leaves none.
 use Rattle.std.specs.Prelude.{ℕ, nat_eq, nat_lt, List, [], ◌∷◌, if◌then◌else◌}
-use Rattle.rational.specs.Number.{Number, zero_ℚ}
-use Rattle.rational.specs.Compare.{eq_ℚ}
+use Rattle.fractions.specs.Number.{Number, zero_ℚ}
+use Rattle.fractions.specs.Compare.{eq_ℚ}
 use Rattle.lp_model.specs.declared.terms.Term.{Term}
 
 -- terms with one before them, which is none where its number is 0

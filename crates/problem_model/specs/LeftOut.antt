@@ -1,7 +1,7 @@
 -- A linear program without what stands in a column.
 use Rattle.std.specs.Prelude.{ℕ, false, None}
-use Rattle.rational.specs.Number.{zero_ℚ}
-use Rattle.rational.specs.Total.{put}
+use Rattle.fractions.specs.Number.{zero_ℚ}
+use Rattle.fractions.specs.Total.{put}
 use Rattle.lp_model.specs.LinearProgram.{LinearProgram}
 
 -- column j without coefficients, cost and bounds, and not whole; the sides of its rows stay as they are

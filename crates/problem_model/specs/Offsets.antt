@@ -1,6 +1,6 @@
 -- What edits add to the cost, and when its sums have room.
 use Rattle.std.specs.Prelude.{⊤, List, [], ◌∷◌}
-use Rattle.rational.specs.Number.{Number, zero_ℚ, ◌+ℚ◌}
+use Rattle.fractions.specs.Number.{Number, zero_ℚ, ◌+ℚ◌}
 use Rattle.lp_model.specs.FracWords.{SumFits}
 use Rattle.problem_model.specs.declared.edit.Edit.{Edit}
 use Rattle.problem_model.specs.declared.edit.Edit.TheVariants.{DeleteRow, DeleteColumn, SetSides, SetBounds, AddOffset, SetCost, SetEntry}

@@ -6,7 +6,7 @@ use Rattle.problem_model.specs.declared.part.Contents.{Contents}
 use Rattle.problem_model.specs.declared.part.Contents.TheVariants as holds
 use Rattle.problem_model.specs.Problems.{row_at, column_at, sides_at, bounds_at, cost_at, row_entries, column_entries}
 use Rattle.problem_model.specs.Sparse.{Sparse}
-use Rattle.rational.specs.Number.{Number}
+use Rattle.fractions.specs.Number.{Number}
 
 -- bounds hold their ends and whether the column is whole; those of a semi-continuous column are of a kind of their own
 abbrev pub bounds_held : Bool → Option Number → Option Number → Bool → Contents

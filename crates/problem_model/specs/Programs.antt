@@ -1,7 +1,7 @@
 -- Problems of programs, and the programs that are written of problems.
 use Rattle.std.specs.Prelude.{◌≡◌, ℕ, ◌+◌, ◌<◌, true, List, [], ◌∷◌, length, map, take, if◌then◌else◌}
 use Rattle.std.specs.List.{count_by}
-use Rattle.rational.specs.Number.{Number, zero_ℚ}
+use Rattle.fractions.specs.Number.{Number, zero_ℚ}
 use Rattle.lp_model.specs.declared.program.Sense.{Sense}
 use Rattle.lp_model.specs.declared.program.RowDef.{RowDef}
 use Rattle.lp_model.specs.declared.program.ColumnDef.{ColumnDef}

@@ -1,9 +1,9 @@
 -- How often parts have changed after a commit. The number of a part rises by one where the commit changed what the part holds, however
 -- many edits touched it; at the end of its type it stands still.
 use Rattle.std.specs.Prelude.{ℕ, suc, ◌+◌, ◌-◌, ◌^◌, min, nat_eq, Bool, true, false, not, ◌&&◌, List, [], ◌∷◌, Option, if◌then◌else◌}
-use Rattle.rational.specs.Number.{Number}
-use Rattle.rational.specs.Compare.{eq_ℚ}
-use Rattle.rational.specs.Ends.{same_end}
+use Rattle.fractions.specs.Number.{Number}
+use Rattle.fractions.specs.Compare.{eq_ℚ}
+use Rattle.fractions.specs.Ends.{same_end}
 use Rattle.lp_model.specs.declared.terms.Term.{Term}
 use Rattle.problem_model.specs.declared.edit.Edit.{Edit}
 use Rattle.problem_model.specs.declared.line.Line.{Line}

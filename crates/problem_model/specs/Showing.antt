@@ -1,6 +1,6 @@
 -- The linear program that a problem shows: with original ids, to be minimized. What is deleted has no coefficients, no ends and no cost.
 use Rattle.std.specs.Prelude.{ℕ, Bool, ◌&&◌, length, Option, None, if◌then◌else◌}
-use Rattle.rational.specs.Number.{Number, zero_ℚ}
+use Rattle.fractions.specs.Number.{Number, zero_ℚ}
 use Rattle.lp_model.specs.Sparse.{dense}
 use Rattle.lp_model.specs.LinearProgram.{LinearProgram}
 use Rattle.problem_model.specs.Problems.{row_at, column_at, sides_at, bounds_at, cost_at}

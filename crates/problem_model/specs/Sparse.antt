@@ -1,6 +1,6 @@
 -- A problem as data.
 use Rattle.std.specs.Prelude.{List}
-use Rattle.rational.specs.Number.{Number}
+use Rattle.fractions.specs.Number.{Number}
 use Rattle.problem_model.specs.declared.line.Sides.{Sides}
 use Rattle.problem_model.specs.declared.line.Bounds.{Bounds}
 use Rattle.problem_model.specs.Grids.{Grid}

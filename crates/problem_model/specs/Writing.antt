@@ -1,6 +1,6 @@
 -- Problems whose written programs can be written, but for ends that are crossed.
 use Rattle.std.specs.Prelude.{◌≡◌, ◌≢◌, ℕ, true, Option, Some, None, All, IfSome}
-use Rattle.rational.specs.Number.{Number}
+use Rattle.fractions.specs.Number.{Number}
 use Rattle.lp_model.specs.Numbers.{Numbers}
 use Rattle.lp_model.specs.Writable.{WritableNumber, WritableBound, WritableWidth}
 use Rattle.problem_model.specs.Problems.{row_at, column_at, sides_at, bounds_at, cost_at}

@@ -1,9 +1,9 @@
 -- Programs that are alike have the same points at the same costs, and the same pairs.
 use Rattle.std.proofs.Common.{◌≡◌, ℕ, ◌<◌, Bool, IsTrue, sym, refl, ap, ap₂, ◌∙◌, subst, arith, Option}
-use Rattle.rational.specs.Number.{Number, zero_ℚ, ◌+ℚ◌, ◌-ℚ◌, ◌*ℚ◌}
-use Rattle.rational.specs.Ends.{Between}
-use Rattle.rational.specs.Total.{total}
-use Rattle.rational.proofs.Totals.{total_same}
+use Rattle.fractions.specs.Number.{Number, zero_ℚ, ◌+ℚ◌, ◌-ℚ◌, ◌*ℚ◌}
+use Rattle.fractions.specs.Ends.{Between}
+use Rattle.fractions.specs.Total.{total}
+use Rattle.fractions.proofs.Totals.{total_same}
 use Rattle.lp_model.specs.declared.program.Sense.{Sense}
 use Rattle.lp_model.specs.Vectors.{Vector}
 use Rattle.lp_model.specs.LinearProgram.{LinearProgram, value_at, cost_at, Feasible}

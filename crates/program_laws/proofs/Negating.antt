@@ -1,11 +1,11 @@
 -- Numbers and their negations can be written alike.
 use Rattle.std.proofs.Common.{◌≡◌, zero, suc, ◌<◌, ◌^◌, ℤ, pos, negsuc, neg_ℤ, nat_abs, unsigned_abs, [], ◌∷◌, sym, refl, ap, ◌∙◌, subst}
-use Rattle.rational.specs.Ring.{ring, v, num, ◌:*◌, inv}
-use Rattle.rational.specs.Number.{Number, rational, zero_ℚ, neg_ℚ, of_ℤ, of_ℤ-neg_ℤ}
-use Rattle.rational.specs.Gcd.{gcd}
-use Rattle.rational.specs.Lowest.{Fits, over_of, under_of, under_of_positive, coprime_of, fraction-shown, ratio, ratio-is, IsLowest, over_of-ratio, under_of-ratio, neg_ℚ-ratio}
-use Rattle.rational.specs.Decimal.{HasPlaces}
-use Rattle.rational.specs.Decimal as decimals
+use Rattle.fractions.specs.Ring.{ring, v, num, ◌:*◌, inv}
+use Rattle.fractions.specs.Number.{Number, rational, zero_ℚ, neg_ℚ, of_ℤ, of_ℤ-neg_ℤ}
+use Rattle.fractions.specs.Gcd.{gcd}
+use Rattle.fractions.specs.Lowest.{Fits, over_of, under_of, under_of_positive, coprime_of, fraction-shown, ratio, ratio-is, IsLowest, over_of-ratio, under_of-ratio, neg_ℚ-ratio}
+use Rattle.fractions.specs.Decimal.{HasPlaces}
+use Rattle.fractions.specs.Decimal as decimals
 use Rattle.fractions.specs.declared.Numbers.{Numbers}
 use Rattle.fractions.specs.declared.Numbers.TheVariants.{Decimal, Fractions}
 use Rattle.lp_model.specs.declared.program.Sense.{Sense}

@@ -1,8 +1,8 @@
 -- Points of the written program at the ids of the original columns.
 use Rattle.std.proofs.Common.{◌≡◌, ◌≢◌, ℕ, zero, suc, ◌+◌, Bool, true, false, List, [], ◌∷◌, length, map, drop, get_or, sym, refl, ap, ◌∙◌, arith}
 use Rattle.std.specs.Prelude.{if◌then◌else◌}
-use Rattle.rational.specs.Number.{Number, zero_ℚ}
-use Rattle.rational.proofs.Totals.{put-same, put-other}
+use Rattle.fractions.specs.Number.{Number, zero_ℚ}
+use Rattle.fractions.proofs.Totals.{put-same, put-other}
 use Rattle.lp_model.specs.Vectors.{Vector, vector_of}
 use Rattle.lp_passages.specs.Renumbering.{IsLeftOut, spread}
 use Rattle.lp_passages.proofs.Ids.{ids-at, spread-off}

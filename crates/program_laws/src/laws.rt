@@ -1,7 +1,7 @@
 //! Programs, their problems, and the programs that are written of them.
 
 ghost use Rattle.std.specs.Prelude.{◌≡◌, ℕ, List, map};
-ghost use Rattle.rational.specs.Number.{Number, zero_ℚ};
+ghost use Rattle.fractions.specs.Number.{Number, zero_ℚ};
 ghost use Rattle.fractions.specs.declared.Numbers.{Numbers};
 ghost use Rattle.lp_model.specs.declared.program.Sense.{Sense};
 ghost use Rattle.lp_model.specs.declared.program.Sense.TheVariants.{Min};

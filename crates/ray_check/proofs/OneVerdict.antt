@@ -1,8 +1,8 @@
 -- There is one verdict on a ray.
 use Rattle.std.proofs.Common.{◌≡◌, ◌⊎◌, inl, inr, ℕ, ◌<◌, ◌≤◌, length, refl, sym, ap, ◌∙◌, subst, arith}
 use Rattle.std.proofs.lemmas.Bool.{cases_lt}
-use Rattle.rational.specs.Number.{Number, zero_ℚ}
-use Rattle.rational.specs.Order.{◌≤ℚ◌, <ℚ-not}
+use Rattle.fractions.specs.Number.{Number, zero_ℚ}
+use Rattle.fractions.specs.Order.{◌≤ℚ◌, <ℚ-not}
 use Rattle.lp_model.specs.Meaning.{meaning}
 use Rattle.lp_model.specs.ProgramData.{ProgramData}
 use Rattle.lp_rays.specs.Ray.{Weights, Ray}

@@ -1,9 +1,9 @@
 -- What weights of ends are worth, as a loop sums it.
 use Rattle.std.proofs.Common.{◌≡◌, ◌≢◌, ◌⊎◌, inl, inr, ℕ, zero, suc, ◌+◌, ◌<◌, [], ◌∷◌, Option, None, pos, refl, sym, ap₂, ◌∙◌, subst, add-one, arith}
 use Rattle.std.proofs.lemmas.Bool.{cases_eq}
-use Rattle.rational.specs.Ring.{ring, v, num, ◌:+◌}
-use Rattle.rational.specs.Number.{Number, rational, zero_ℚ, ◌+ℚ◌}
-use Rattle.rational.specs.Total.{total}
+use Rattle.fractions.specs.Ring.{ring, v, num, ◌:+◌}
+use Rattle.fractions.specs.Number.{Number, rational, zero_ℚ, ◌+ℚ◌}
+use Rattle.fractions.specs.Total.{total}
 use Rattle.lp_model.specs.Vectors.{Vector}
 use Rattle.lp_rays.specs.Ray.{worth}
 use Rattle.ray_check.specs.Room.{WorthFits, WorthsFit, worth_of}

@@ -1,7 +1,7 @@
 -- Which item of a program decides on a ray.
 use Rattle.std.specs.Prelude.{◌≡◌, ◌⊎◌, ℕ, ◌<◌, length}
-use Rattle.rational.specs.Number.{zero_ℚ}
-use Rattle.rational.specs.Order.{◌≤ℚ◌, ◌<ℚ◌}
+use Rattle.fractions.specs.Number.{zero_ℚ}
+use Rattle.fractions.specs.Order.{◌≤ℚ◌, ◌<ℚ◌}
 use Rattle.lp_model.specs.LinearProgram.{LinearProgram}
 use Rattle.lp_model.specs.Meaning.{meaning}
 use Rattle.lp_model.specs.ProgramData.{ProgramData}

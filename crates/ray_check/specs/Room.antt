@@ -1,8 +1,8 @@
 -- When the sums that are made of a ray's weights have room.
 use Rattle.std.specs.Prelude.{ℕ, zero, suc, ⊤, Option, Some, None}
-use Rattle.rational.specs.Number.{Number, neg_ℚ, zero_ℚ, ◌+ℚ◌, ◌-ℚ◌, ◌*ℚ◌}
-use Rattle.rational.specs.Lowest.{Fits}
-use Rattle.rational.specs.Total.{total}
+use Rattle.fractions.specs.Number.{Number, neg_ℚ, zero_ℚ, ◌+ℚ◌, ◌-ℚ◌, ◌*ℚ◌}
+use Rattle.fractions.specs.Lowest.{Fits}
+use Rattle.fractions.specs.Total.{total}
 use Rattle.fractions.specs.FracWords.{SumFits}
 use Rattle.lp_model.specs.Vectors.{Vector}
 use Rattle.lp_model.specs.LinearProgram.{LinearProgram}

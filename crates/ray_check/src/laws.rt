@@ -1,7 +1,7 @@
 //! What a verdict says of a ray. The functions do nothing when they run: each states a law, and its check proves it.
 
 ghost use Rattle.std.specs.Prelude.{◌≡◌, ◌↔◌, ℕ, ◌<◌, length};
-ghost use Rattle.rational.specs.Number.{Number};
+ghost use Rattle.fractions.specs.Number.{Number};
 ghost use Rattle.lp_model.specs.LinearProgram.{LinearProgram};
 ghost use Rattle.lp_model.specs.Meaning.{meaning};
 ghost use Rattle.lp_model.specs.ProgramData.{ProgramData};

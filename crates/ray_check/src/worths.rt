@@ -1,7 +1,7 @@
 //! What weights of ends are worth.
 
 ghost use Rattle.std.specs.Prelude.{◌≡◌, ◌↔◌, length, IfOk, IsOk};
-ghost use Rattle.rational.specs.Number.{◌+ℚ◌};
+ghost use Rattle.fractions.specs.Number.{◌+ℚ◌};
 ghost use Rattle.lp_model.specs.Meaning.{meaning};
 ghost use Rattle.lp_model.specs.Optimality.{Continuous};
 ghost use Rattle.lp_rays.specs.Ray.{worth, total_of};

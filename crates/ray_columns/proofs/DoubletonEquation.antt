@@ -1,22 +1,22 @@
 -- K12: what came from the bounds of a substituted column goes back to it, and what the rows leave of that to the equation.
 use Rattle.std.proofs.Common.{◌≡◌, ◌≢◌, ℕ, ◌<◌, pos, sym, refl, ap, ap₂, ◌∙◌, [], ◌∷◌, subst, Option, None, Bool, true, false}
 use Rattle.std.specs.Prelude.{if◌then◌else◌}
-use Rattle.rational.specs.Ring.{ring, v, num, ◌:+◌, ◌:-◌, ◌:*◌, inv}
-use Rattle.rational.specs.Number.{Number, rational, zero_ℚ, ◌+ℚ◌, ◌-ℚ◌, ◌*ℚ◌, neg_ℚ}
-use Rattle.rational.specs.Order.{◌≤ℚ◌, <ℚ-≤ℚ, ≤ℚ_refl}
-use Rattle.rational.specs.Compare.{lt_ℚ}
-use Rattle.rational.specs.Inverse.{inv_ℚ, *ℚ-inv_ℚ}
-use Rattle.rational.specs.Division.{◌/ℚ◌}
-use Rattle.rational.specs.Total.{total, put}
-use Rattle.rational.specs.Ends.{less}
-use Rattle.rational.proofs.Totals.{put-same, put-other, at_or_off, total_same, total-*}
-use Rattle.rational.proofs.Signs.{over-times}
+use Rattle.fractions.specs.Ring.{ring, v, num, ◌:+◌, ◌:-◌, ◌:*◌, inv}
+use Rattle.fractions.specs.Number.{Number, rational, zero_ℚ, ◌+ℚ◌, ◌-ℚ◌, ◌*ℚ◌, neg_ℚ}
+use Rattle.fractions.specs.Order.{◌≤ℚ◌, <ℚ-≤ℚ, ≤ℚ_refl}
+use Rattle.fractions.specs.Compare.{lt_ℚ}
+use Rattle.fractions.specs.Inverse.{inv_ℚ, *ℚ-inv_ℚ}
+use Rattle.fractions.specs.Division.{◌/ℚ◌}
+use Rattle.fractions.specs.Total.{total, put}
+use Rattle.fractions.specs.Ends.{less}
+use Rattle.fractions.proofs.Totals.{put-same, put-other, at_or_off, total_same, total-*}
+use Rattle.fractions.proofs.Signs.{over-times}
 use Rattle.lp_model.specs.Vectors.{Vector}
 use Rattle.lp_model.specs.LinearProgram.{LinearProgram}
 use Rattle.lp_theory.specs.Elsewhere.{substituted}
 use Rattle.lp_theory.proofs.ActivityLaws.{lt_true, lt_false}
 use Rattle.lp_substitutions.specs.DoubletonEquation.{IsDoubletonEquation, image_lower, image_upper, doubleton_equation_substituted}
-use Rattle.rational.specs.Ends.{meet_low, meet_high}
+use Rattle.fractions.specs.Ends.{meet_low, meet_high}
 use Rattle.lp_rays.specs.Ray.{Weights, IsWeight, worth, IsWeighting, StepsBack}
 use Rattle.lp_rays.specs.Handing.{moved, kept_of, handed_of, image_low_part, image_high_part}
 use Rattle.lp_rays.specs.Steps.{ray_doubleton_equation}

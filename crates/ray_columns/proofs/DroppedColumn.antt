@@ -1,13 +1,13 @@
 -- K3, K13, K14: a column that was deleted, with other sides for its rows.
 use Rattle.std.proofs.Common.{◌≡◌, ℕ, ◌<◌, pos, sym, refl, ap, ap₂, ◌∙◌, [], ◌∷◌, subst, Option, Some, None, Bool, true, false}
 use Rattle.std.specs.Prelude.{if◌then◌else◌}
-use Rattle.rational.specs.Ring.{ring, v, num, ◌:+◌, ◌:-◌, ◌:*◌, inv}
-use Rattle.rational.specs.Number.{Number, rational, zero_ℚ, ◌+ℚ◌, ◌-ℚ◌, ◌*ℚ◌, neg_ℚ}
-use Rattle.rational.specs.Order.{◌≤ℚ◌, <ℚ-≤ℚ, ≤ℚ_refl}
-use Rattle.rational.specs.Compare.{lt_ℚ}
-use Rattle.rational.specs.Total.{total, put}
-use Rattle.rational.specs.Ends.{less}
-use Rattle.rational.proofs.Totals.{put-same, put-other, at_or_off, total_same, total_off, total-*}
+use Rattle.fractions.specs.Ring.{ring, v, num, ◌:+◌, ◌:-◌, ◌:*◌, inv}
+use Rattle.fractions.specs.Number.{Number, rational, zero_ℚ, ◌+ℚ◌, ◌-ℚ◌, ◌*ℚ◌, neg_ℚ}
+use Rattle.fractions.specs.Order.{◌≤ℚ◌, <ℚ-≤ℚ, ≤ℚ_refl}
+use Rattle.fractions.specs.Compare.{lt_ℚ}
+use Rattle.fractions.specs.Total.{total, put}
+use Rattle.fractions.specs.Ends.{less}
+use Rattle.fractions.proofs.Totals.{put-same, put-other, at_or_off, total_same, total_off, total-*}
 use Rattle.lp_model.specs.Vectors.{Vector}
 use Rattle.lp_model.specs.LinearProgram.{LinearProgram}
 use Rattle.lp_theory.specs.Activities.{least_term, greatest_term}

@@ -1,13 +1,13 @@
 -- Weights of the image of bounds by an equation, as weights of the bounds.
 use Rattle.std.proofs.Common.{◌≡◌, pos, sym, refl, ap, ap₂, ◌∙◌, [], ◌∷◌, Option, Some, None, Bool, true, false}
 use Rattle.std.specs.Prelude.{if◌then◌else◌}
-use Rattle.rational.specs.Ring.{ring, v, num, ◌:+◌, ◌:-◌, ◌:*◌, inv}
-use Rattle.rational.specs.Number.{Number, rational, zero_ℚ, ◌+ℚ◌, ◌-ℚ◌, ◌*ℚ◌, neg_ℚ}
-use Rattle.rational.specs.Order.{◌≤ℚ◌, <ℚ-≤ℚ}
-use Rattle.rational.specs.Compare.{lt_ℚ}
-use Rattle.rational.specs.Inverse.{inv_ℚ}
-use Rattle.rational.specs.Division.{◌/ℚ◌}
-use Rattle.rational.proofs.Signs.{*ℚ_pos}
+use Rattle.fractions.specs.Ring.{ring, v, num, ◌:+◌, ◌:-◌, ◌:*◌, inv}
+use Rattle.fractions.specs.Number.{Number, rational, zero_ℚ, ◌+ℚ◌, ◌-ℚ◌, ◌*ℚ◌, neg_ℚ}
+use Rattle.fractions.specs.Order.{◌≤ℚ◌, <ℚ-≤ℚ}
+use Rattle.fractions.specs.Compare.{lt_ℚ}
+use Rattle.fractions.specs.Inverse.{inv_ℚ}
+use Rattle.fractions.specs.Division.{◌/ℚ◌}
+use Rattle.fractions.proofs.Signs.{*ℚ_pos}
 use Rattle.lp_theory.proofs.ActivityLaws.{lt_true, lt_false}
 use Rattle.lp_substitutions.specs.DoubletonEquation.{image, image_lower, image_upper}
 use Rattle.lp_rays.specs.Ray.{IsWeight, worth}

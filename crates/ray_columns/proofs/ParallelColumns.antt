@@ -1,9 +1,9 @@
 -- K16: a column that joined another one has its share of that one's weights.
 use Rattle.std.proofs.Common.{◌≡◌, ◌≢◌, ℕ, ◌<◌, pos, sym, refl, ap, ap₂, ◌∙◌, [], ◌∷◌, subst, Option, None}
-use Rattle.rational.specs.Ring.{ring, v, num, ◌:+◌, ◌:-◌, ◌:*◌}
-use Rattle.rational.specs.Number.{Number, rational, zero_ℚ, ◌+ℚ◌, ◌-ℚ◌, ◌*ℚ◌}
-use Rattle.rational.specs.Total.{total, put}
-use Rattle.rational.proofs.Totals.{put-same, put-other, at_or_off, total_same, total_off, total-put, total-*}
+use Rattle.fractions.specs.Ring.{ring, v, num, ◌:+◌, ◌:-◌, ◌:*◌}
+use Rattle.fractions.specs.Number.{Number, rational, zero_ℚ, ◌+ℚ◌, ◌-ℚ◌, ◌*ℚ◌}
+use Rattle.fractions.specs.Total.{total, put}
+use Rattle.fractions.proofs.Totals.{put-same, put-other, at_or_off, total_same, total_off, total-put, total-*}
 use Rattle.lp_model.specs.LinearProgram.{LinearProgram}
 use Rattle.lp_theory.specs.Activities.{least_term, greatest_term}
 use Rattle.lp_columns.specs.ParallelColumns.{AreParallelColumns, joined_lower, joined_upper, parallel_columns_joined}

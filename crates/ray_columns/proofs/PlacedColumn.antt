@@ -1,17 +1,17 @@
 -- K10, K11, K17: a column that was fixed at a bound without a record of a number.
 use Rattle.std.proofs.Common.{◌≡◌, ℕ, ◌<◌, inl, inr, pos, sym, refl, ap, ap₂, ◌∙◌, [], ◌∷◌, subst, Option, Some, None, Bool, true, false}
 use Rattle.std.specs.Prelude.{if◌then◌else◌}
-use Rattle.rational.specs.Ring.{ring, v, num, ◌:+◌, ◌:-◌, ◌:*◌, inv}
-use Rattle.rational.specs.Number.{Number, rational, zero_ℚ, ◌-ℚ◌, ◌*ℚ◌, neg_ℚ}
-use Rattle.rational.specs.Order.{◌≤ℚ◌, ≤ℚ_refl, ≤ℚ_antisym, ≤ℚ_trans, ≤ℚ_cases, <ℚ-≤ℚ, <ℚ-not, ≤ℚ-by, ≤ℚ-*ℚ}
-use Rattle.rational.specs.Compare.{lt_ℚ}
+use Rattle.fractions.specs.Ring.{ring, v, num, ◌:+◌, ◌:-◌, ◌:*◌, inv}
+use Rattle.fractions.specs.Number.{Number, rational, zero_ℚ, ◌-ℚ◌, ◌*ℚ◌, neg_ℚ}
+use Rattle.fractions.specs.Order.{◌≤ℚ◌, ≤ℚ_refl, ≤ℚ_antisym, ≤ℚ_trans, ≤ℚ_cases, <ℚ-≤ℚ, <ℚ-not, ≤ℚ-by, ≤ℚ-*ℚ}
+use Rattle.fractions.specs.Compare.{lt_ℚ}
 use Rattle.lp_theory.proofs.ActivityLaws.{lt_true, lt_false}
-use Rattle.rational.specs.Linear.{linear, fact}
-use Rattle.rational.specs.Ends.{same_end}
-use Rattle.rational.specs.Total.{total, put}
-use Rattle.rational.proofs.Totals.{put-same, put-other, at_or_off, total-zero, total-≤}
-use Rattle.rational.proofs.Signs.{≤ℚ-same, *ℚ_pos, *ℚ_pos_neg}
-use Rattle.rational.proofs.EndLaws.{same_end-is}
+use Rattle.fractions.specs.Linear.{linear, fact}
+use Rattle.fractions.specs.Ends.{same_end}
+use Rattle.fractions.specs.Total.{total, put}
+use Rattle.fractions.proofs.Totals.{put-same, put-other, at_or_off, total-zero, total-≤}
+use Rattle.fractions.proofs.Signs.{≤ℚ-same, *ℚ_pos, *ℚ_pos_neg}
+use Rattle.fractions.proofs.EndLaws.{same_end-is}
 use Rattle.lp_model.specs.LinearProgram.{LinearProgram}
 use Rattle.lp_columns.specs.BestPlace.{column_fixed_at}
 use Rattle.lp_columns.specs.Locks.{HasNoDownLock, HasNoUpLock}

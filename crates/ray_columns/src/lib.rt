@@ -6,9 +6,9 @@
 #![tactic(auto)]
 
 ghost use Rattle.std.specs.Prelude.{ℕ, Some};
-ghost use Rattle.rational.specs.Number.{Number, zero_ℚ};
-ghost use Rattle.rational.specs.Total.{put};
-ghost use Rattle.rational.specs.Ends.{same_end};
+ghost use Rattle.fractions.specs.Number.{Number, zero_ℚ};
+ghost use Rattle.fractions.specs.Total.{put};
+ghost use Rattle.fractions.specs.Ends.{same_end};
 ghost use Rattle.lp_model.specs.LinearProgram.{LinearProgram};
 ghost use Rattle.lp_theory.specs.Elsewhere.{IsColumnSingleton};
 ghost use Rattle.lp_columns.specs.FixedColumn.{IsFixedColumn, fixed_column_deleted};
@@ -19,7 +19,7 @@ ghost use Rattle.lp_columns.specs.ParallelColumns.{AreParallelColumns, parallel_
 ghost use Rattle.lp_substitutions.specs.DoubletonEquation.{IsDoubletonEquation, image_lower, image_upper, doubleton_equation_substituted};
 ghost use Rattle.lp_substitutions.specs.FreeColumnSingleton.{free_column_singleton_deleted};
 ghost use Rattle.lp_substitutions.specs.SlackColumnSingleton.{slack_column_singleton_deleted, slack_row_deleted};
-ghost use Rattle.rational.specs.Ends.{meet_low, meet_high};
+ghost use Rattle.fractions.specs.Ends.{meet_low, meet_high};
 ghost use Rattle.lp_rays.specs.Ray.{StepsBack};
 ghost use Rattle.lp_rays.specs.Handing.{moved};
 ghost use Rattle.lp_rays.specs.Steps.{ray_fixed, ray_settled, ray_kept_lower, ray_empty_column, ray_parallel_columns, ray_fixed_column, ray_slack_column_singleton, ray_doubleton_equation};

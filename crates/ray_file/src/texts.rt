@@ -1,7 +1,7 @@
 //! The texts of a ray, and of one whose numbers have no room.
 
 ghost use Rattle.std.specs.Prelude.{◌≡◌, ◌<◌, ◌^◌, ℕ, length, true, All, IfOk, IsErrOf};
-ghost use Rattle.rational.specs.Lowest.{Fits};
+ghost use Rattle.fractions.specs.Lowest.{Fits};
 ghost use Rattle.lp_model.specs.Meaning.{meaning};
 ghost use Rattle.lp_model.specs.Optimality.{Continuous};
 ghost use Rattle.lp_model.specs.Writable.{EntriesAscend};

@@ -1,7 +1,7 @@
 //! Undoings that give weights to a column.
 
 ghost use Rattle.std.specs.Prelude.{◌≡◌, ℕ, ◌<◌, length, IsOk, OnOk, ◌↔◌};
-ghost use Rattle.rational.specs.Number.{zero_ℚ, neg_ℚ};
+ghost use Rattle.fractions.specs.Number.{zero_ℚ, neg_ℚ};
 ghost use Rattle.fractions.specs.FracWords.{SumFits};
 ghost use Rattle.lp_model.specs.Vectors.{vector_of};
 ghost use Rattle.undo_records.specs.Sound.{IsSound};

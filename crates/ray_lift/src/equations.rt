@@ -1,10 +1,10 @@
 //! The undoing of an equation of two columns.
 
 ghost use Rattle.std.specs.Prelude.{◌≡◌, ◌≢◌, ◌||◌, ℕ, length, IsTrue, IfOk, IsOk, OnOk, ◌↔◌, if◌then◌else◌};
-ghost use Rattle.rational.specs.Number.{zero_ℚ, neg_ℚ};
-ghost use Rattle.rational.specs.Compare.{lt_ℚ};
-ghost use Rattle.rational.specs.Division.{◌/ℚ◌};
-ghost use Rattle.rational.specs.Lowest.{Fits};
+ghost use Rattle.fractions.specs.Number.{zero_ℚ, neg_ℚ};
+ghost use Rattle.fractions.specs.Compare.{lt_ℚ};
+ghost use Rattle.fractions.specs.Division.{◌/ℚ◌};
+ghost use Rattle.fractions.specs.Lowest.{Fits};
 ghost use Rattle.undo_records.specs.Sound.{IsSound};
 ghost use Rattle.undo_records.specs.declared.undo.Undo.TheVariants as kind;
 ghost use Rattle.lp_rays.specs.Handing.{handed_of, image_high_part, image_low_part};

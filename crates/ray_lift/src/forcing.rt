@@ -1,8 +1,8 @@
 //! Undoings of forcing rows.
 
 ghost use Rattle.std.specs.Prelude.{◌≡◌, ◌≢◌, ℕ, ◌<◌, length, IfOk, IsOk, OnOk, ◌↔◌};
-ghost use Rattle.rational.specs.Number.{zero_ℚ, ◌+ℚ◌};
-ghost use Rattle.rational.specs.Lowest.{Fits};
+ghost use Rattle.fractions.specs.Number.{zero_ℚ, ◌+ℚ◌};
+ghost use Rattle.fractions.specs.Lowest.{Fits};
 ghost use Rattle.fractions.specs.FracWords.{SumFits};
 ghost use Rattle.lp_model.specs.Vectors.{vector_of};
 ghost use Rattle.lp_model.specs.Sparse.{Ascends};

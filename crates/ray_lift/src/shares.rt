@@ -1,7 +1,7 @@
 //! Weights that go from one pair of ends to another.
 
 ghost use Rattle.std.specs.Prelude.{◌≡◌, ◌≢◌, IfOk, IsOk, ◌↔◌};
-ghost use Rattle.rational.specs.Number.{zero_ℚ};
+ghost use Rattle.fractions.specs.Number.{zero_ℚ};
 ghost use Rattle.lp_rays.specs.Handing.{handed_of, image_high_part, image_low_part, kept_of, lower_part, lower_share, upper_part, upper_share};
 ghost use Rattle.ray_steps.specs.RayRoom.{BothFit};
 

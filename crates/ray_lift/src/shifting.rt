@@ -1,8 +1,8 @@
 //! What a row that takes weight makes of the weights of its columns.
 
 ghost use Rattle.std.specs.Prelude.{◌≡◌, ◌≢◌, ◌<◌, length, IfOk, IsOk, OnOk, ◌↔◌};
-ghost use Rattle.rational.specs.Number.{zero_ℚ, ◌+ℚ◌, ◌-ℚ◌};
-ghost use Rattle.rational.specs.Total.{put};
+ghost use Rattle.fractions.specs.Number.{zero_ℚ, ◌+ℚ◌, ◌-ℚ◌};
+ghost use Rattle.fractions.specs.Total.{put};
 ghost use Rattle.lp_model.specs.Vectors.{vector_of};
 ghost use Rattle.lp_model.specs.Sparse.{Ascends, dense};
 ghost use Rattle.lp_rays.specs.RayData.{weights_of};

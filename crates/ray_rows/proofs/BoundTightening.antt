@@ -1,17 +1,17 @@
 -- K8: a bound that a row implied goes back to the row, and to the bounds of its other columns.
 use Rattle.std.proofs.Common.{◌≡◌, ◌≢◌, ℕ, ◌<◌, pos, sym, refl, ap, ap₂, ◌∙◌, [], ◌∷◌, subst, Option, Some, None, Bool, true, false, unwrap_or}
 use Rattle.std.specs.Prelude.{if◌then◌else◌}
-use Rattle.rational.specs.Ring.{ring, v, num, ◌:+◌, ◌:-◌, ◌:*◌, inv}
-use Rattle.rational.specs.Number.{Number, rational, zero_ℚ, ◌+ℚ◌, ◌-ℚ◌, ◌*ℚ◌, neg_ℚ}
-use Rattle.rational.specs.Order.{◌≤ℚ◌}
-use Rattle.rational.specs.Linear.{linear, fact}
-use Rattle.rational.specs.Compare.{lt_ℚ}
-use Rattle.rational.specs.Inverse.{inv_ℚ}
-use Rattle.rational.specs.Division.{◌/ℚ◌}
-use Rattle.rational.specs.Total.{total, put}
-use Rattle.rational.specs.Ends.{over, minus_ends}
-use Rattle.rational.proofs.Totals.{put-same, put-other, at_or_off, total-put, total-*, total_same}
-use Rattle.rational.proofs.Signs.{over-times}
+use Rattle.fractions.specs.Ring.{ring, v, num, ◌:+◌, ◌:-◌, ◌:*◌, inv}
+use Rattle.fractions.specs.Number.{Number, rational, zero_ℚ, ◌+ℚ◌, ◌-ℚ◌, ◌*ℚ◌, neg_ℚ}
+use Rattle.fractions.specs.Order.{◌≤ℚ◌}
+use Rattle.fractions.specs.Linear.{linear, fact}
+use Rattle.fractions.specs.Compare.{lt_ℚ}
+use Rattle.fractions.specs.Inverse.{inv_ℚ}
+use Rattle.fractions.specs.Division.{◌/ℚ◌}
+use Rattle.fractions.specs.Total.{total, put}
+use Rattle.fractions.specs.Ends.{over, minus_ends}
+use Rattle.fractions.proofs.Totals.{put-same, put-other, at_or_off, total-put, total-*, total_same}
+use Rattle.fractions.proofs.Signs.{over-times}
 use Rattle.lp_model.specs.Vectors.{Vector}
 use Rattle.lp_model.specs.LinearProgram.{LinearProgram}
 use Rattle.lp_theory.specs.Activities.{least_terms, greatest_terms, least_rest, greatest_rest}

@@ -1,16 +1,16 @@
 -- K7: what the columns of a forcing row cannot keep goes to the row.
 use Rattle.std.proofs.Common.{◌≡◌, ℕ, ◌<◌, pos, sym, refl, ap, ◌∙◌, [], ◌∷◌, subst, Option, Some, Bool, true, false, unwrap_or}
 use Rattle.std.specs.Prelude.{if◌then◌else◌}
-use Rattle.rational.specs.Ring.{ring, v, num, ◌:+◌, ◌:-◌, ◌:*◌, inv}
-use Rattle.rational.specs.Number.{Number, rational, zero_ℚ, ◌+ℚ◌, ◌-ℚ◌, ◌*ℚ◌, neg_ℚ}
-use Rattle.rational.specs.Order.{◌≤ℚ◌, ◌<ℚ◌, ≤ℚ_refl, ≤ℚ_antisym, ≤ℚ-by, <ℚ-≤ℚ, <ℚ-not}
-use Rattle.rational.specs.Linear.{linear, fact}
-use Rattle.rational.specs.Compare.{lt_ℚ}
-use Rattle.rational.specs.Division.{◌/ℚ◌}
-use Rattle.rational.specs.Total.{total, put}
-use Rattle.rational.specs.Ends.{scaled}
-use Rattle.rational.proofs.Totals.{total-*, total_same}
-use Rattle.rational.proofs.Signs.{over-times, <ℚ-≢, ≤ℚ-*_pos}
+use Rattle.fractions.specs.Ring.{ring, v, num, ◌:+◌, ◌:-◌, ◌:*◌, inv}
+use Rattle.fractions.specs.Number.{Number, rational, zero_ℚ, ◌+ℚ◌, ◌-ℚ◌, ◌*ℚ◌, neg_ℚ}
+use Rattle.fractions.specs.Order.{◌≤ℚ◌, ◌<ℚ◌, ≤ℚ_refl, ≤ℚ_antisym, ≤ℚ-by, <ℚ-≤ℚ, <ℚ-not}
+use Rattle.fractions.specs.Linear.{linear, fact}
+use Rattle.fractions.specs.Compare.{lt_ℚ}
+use Rattle.fractions.specs.Division.{◌/ℚ◌}
+use Rattle.fractions.specs.Total.{total, put}
+use Rattle.fractions.specs.Ends.{scaled}
+use Rattle.fractions.proofs.Totals.{total-*, total_same}
+use Rattle.fractions.proofs.Signs.{over-times, <ℚ-≢, ≤ℚ-*_pos}
 use Rattle.lp_model.specs.Vectors.{Vector}
 use Rattle.lp_model.specs.LinearProgram.{LinearProgram}
 use Rattle.lp_theory.specs.Activities.{least_term, greatest_term, least_terms, greatest_terms}

@@ -1,11 +1,11 @@
 -- The rays of the verdicts.
 use Rattle.std.proofs.Common.{◌≡◌, ℕ, ◌<◌, ◌⊎◌, inl, inr, pos, sym, refl, ap, ap₂, ◌∙◌, [], ◌∷◌, subst, Option, Some, None, unwrap_or}
-use Rattle.rational.specs.Ring.{ring, v, num, ◌:+◌, ◌:-◌, ◌:*◌, inv}
-use Rattle.rational.specs.Number.{Number, rational, zero_ℚ, one_ℚ, ◌+ℚ◌, ◌-ℚ◌, ◌*ℚ◌, neg_ℚ}
-use Rattle.rational.specs.Order.{◌≤ℚ◌, ◌<ℚ◌, ≤ℚ_cases, <ℚ-not, ≤ℚ-by, <ℚ-≤ℚ}
-use Rattle.rational.specs.Inverse.{not_one-≤-zero}
-use Rattle.rational.specs.Total.{total, put}
-use Rattle.rational.proofs.Totals.{put-same, put-other, at_or_off, total-zero, total-*, total_same}
+use Rattle.fractions.specs.Ring.{ring, v, num, ◌:+◌, ◌:-◌, ◌:*◌, inv}
+use Rattle.fractions.specs.Number.{Number, rational, zero_ℚ, one_ℚ, ◌+ℚ◌, ◌-ℚ◌, ◌*ℚ◌, neg_ℚ}
+use Rattle.fractions.specs.Order.{◌≤ℚ◌, ◌<ℚ◌, ≤ℚ_cases, <ℚ-not, ≤ℚ-by, <ℚ-≤ℚ}
+use Rattle.fractions.specs.Inverse.{not_one-≤-zero}
+use Rattle.fractions.specs.Total.{total, put}
+use Rattle.fractions.proofs.Totals.{put-same, put-other, at_or_off, total-zero, total-*, total_same}
 use Rattle.lp_model.specs.Vectors.{Vector}
 use Rattle.lp_model.specs.LinearProgram.{LinearProgram}
 use Rattle.lp_theory.specs.Crossed.{AreCrossed}

@@ -1,6 +1,6 @@
 -- Where K8 applies: row i implies a finite bound of column j. That it is better than the old one does not matter to rays.
 use Rattle.std.specs.Prelude.{◌≡◌, ◌≢◌, ℕ, ◌<◌, Some}
-use Rattle.rational.specs.Number.{Number, zero_ℚ}
+use Rattle.fractions.specs.Number.{Number, zero_ℚ}
 use Rattle.lp_model.specs.LinearProgram.{LinearProgram}
 use Rattle.lp_rows.specs.BoundTightening.{implied_lower, implied_upper}
 

@@ -6,7 +6,7 @@
 #![tactic(auto)]
 
 ghost use Rattle.std.specs.Prelude.{ℕ, ◌<◌};
-ghost use Rattle.rational.specs.Number.{Number};
+ghost use Rattle.fractions.specs.Number.{Number};
 ghost use Rattle.lp_model.specs.LinearProgram.{LinearProgram};
 ghost use Rattle.lp_model.specs.Edits.{without_row};
 ghost use Rattle.lp_rows.specs.SingletonRow.{IsSingletonRow, met_lower, met_upper, singleton_row_met};

@@ -1,6 +1,6 @@
 -- The ray of each verdict that says that no point is feasible.
 use Rattle.std.proofs.Common.{◌≡◌, ℕ, Bool, true, false, ◌||◌, Option, refl, sym, ap, ap₂, ◌∙◌, subst, true≢false, Ok, Err, Result, List, length}
-use Rattle.rational.specs.Number.{Number}
+use Rattle.fractions.specs.Number.{Number}
 use Rattle.fractions.specs.declared.Past.{Past}
 use Rattle.lp_model.specs.EndTests.{is_crossed}
 use Rattle.lp_theory.specs.Activities.{least, greatest}

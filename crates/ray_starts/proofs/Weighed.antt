@@ -1,12 +1,12 @@
 -- The weights of the bounds of a row's columns.
 use Rattle.std.proofs.Common.{◌≡◌, pos, [], ◌∷◌, Bool, true, false, refl, ap, ◌∙◌}
 use Rattle.std.specs.Prelude.{if◌then◌else◌}
-use Rattle.rational.specs.Ring.{ring, v, num, ◌:+◌, ◌:-◌, ◌:*◌, inv}
-use Rattle.rational.specs.Number.{Number, rational, zero_ℚ, one_ℚ, neg_ℚ, ◌+ℚ◌, ◌-ℚ◌, ◌*ℚ◌}
-use Rattle.rational.specs.Compare.{lt_ℚ}
+use Rattle.fractions.specs.Ring.{ring, v, num, ◌:+◌, ◌:-◌, ◌:*◌, inv}
+use Rattle.fractions.specs.Number.{Number, rational, zero_ℚ, one_ℚ, neg_ℚ, ◌+ℚ◌, ◌-ℚ◌, ◌*ℚ◌}
+use Rattle.fractions.specs.Compare.{lt_ℚ}
 use Rattle.lp_theory.proofs.ActivityLaws.{lt_true, lt_false}
 use Rattle.lp_theory.proofs.Pairs.{not_below}
-use Rattle.rational.specs.Order.{≤ℚ_antisym, <ℚ-not, <ℚ-≤ℚ}
+use Rattle.fractions.specs.Order.{≤ℚ_antisym, <ℚ-not, <ℚ-≤ℚ}
 use Rattle.row_spans.specs.declared.span.Extreme.{Extreme}
 use Rattle.row_spans.specs.declared.span.Extreme.TheVariants.{Least, Greatest}
 use Rattle.lp_rays.specs.Ray.{Weights}

@@ -1,7 +1,7 @@
 -- The weights of a column's bounds in an activity of a row: the size of its entry a, at the bound that gives the row that activity.
 use Rattle.std.specs.Prelude.{if◌then◌else◌}
-use Rattle.rational.specs.Number.{Number, zero_ℚ, neg_ℚ}
-use Rattle.rational.specs.Compare.{lt_ℚ}
+use Rattle.fractions.specs.Number.{Number, zero_ℚ, neg_ℚ}
+use Rattle.fractions.specs.Compare.{lt_ℚ}
 use Rattle.row_spans.specs.declared.span.Extreme.{Extreme}
 use Rattle.row_spans.specs.declared.span.Extreme.TheVariants.{Least, Greatest}
 

@@ -1,7 +1,7 @@
 //! The weights of the bounds that give a row its least, or its greatest, activity.
 
 ghost use Rattle.std.specs.Prelude.{◌≡◌, ℕ, length};
-ghost use Rattle.rational.specs.Number.{zero_ℚ};
+ghost use Rattle.fractions.specs.Number.{zero_ℚ};
 ghost use Rattle.lp_model.specs.Sparse.{Ascends, dense};
 ghost use Rattle.lp_model.specs.Vectors.{vector_of};
 ghost use Rattle.ray_starts.specs.EndWeights.{lower_weight, upper_weight};

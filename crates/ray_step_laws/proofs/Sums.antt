@@ -1,17 +1,17 @@
 -- A list of terms in place of a row or a column.
 use Rattle.std.proofs.Common.{◌≡◌, ℕ, suc, List, [], ◌∷◌, pos, sym, refl, ap, ap₂, ◌∙◌, arith, Bool, true, false}
 use Rattle.std.specs.Prelude.{if◌then◌else◌}
-use Rattle.rational.specs.Ring.{ring, v, num, ◌:+◌, ◌:-◌}
-use Rattle.rational.specs.Number.{Number, rational, ◌+ℚ◌, ◌-ℚ◌, zero_ℚ, neg_ℚ}
-use Rattle.rational.specs.Compare.{lt_ℚ}
-use Rattle.rational.specs.Total.{total}
-use Rattle.rational.proofs.Totals.{put-same, put-other, total-zero, total_off}
+use Rattle.fractions.specs.Ring.{ring, v, num, ◌:+◌, ◌:-◌}
+use Rattle.fractions.specs.Number.{Number, rational, ◌+ℚ◌, ◌-ℚ◌, zero_ℚ, neg_ℚ}
+use Rattle.fractions.specs.Compare.{lt_ℚ}
+use Rattle.fractions.specs.Total.{total}
+use Rattle.fractions.proofs.Totals.{put-same, put-other, total-zero, total_off}
 use Rattle.lp_model.specs.declared.terms.Term.{Term}
 use Rattle.lp_model.specs.Sparse.{Ascends, dense}
 use Rattle.lp_theory.proofs.SparseSums.{dense-below}
 use Rattle.lp_theory.proofs.ActivityLaws.{lt_true}
 use Rattle.lp_theory.proofs.Pairs.{not_below}
-use Rattle.rational.specs.Division.{◌/ℚ◌}
+use Rattle.fractions.specs.Division.{◌/ℚ◌}
 use Rattle.undo_records.specs.declared.side.Side.{Side}
 use Rattle.undo_records.specs.declared.side.Side.TheVariants.{Lower, Upper}
 use Rattle.lp_rays.specs.Ray.{Weights}

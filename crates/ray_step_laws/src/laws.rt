@@ -2,8 +2,8 @@
 //! and its check proves them.
 
 ghost use Rattle.std.specs.Prelude.{◌≡◌, ℕ, ◌<◌, List, [], ◌∷◌};
-ghost use Rattle.rational.specs.Number.{Number, zero_ℚ};
-ghost use Rattle.rational.specs.Total.{put};
+ghost use Rattle.fractions.specs.Number.{Number, zero_ℚ};
+ghost use Rattle.fractions.specs.Total.{put};
 ghost use Rattle.lp_model.specs.declared.terms.Term.{Term};
 ghost use Rattle.lp_model.specs.LinearProgram.{LinearProgram};
 ghost use Rattle.lp_model.specs.Edits.{without_row};

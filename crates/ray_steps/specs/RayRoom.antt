@@ -1,9 +1,9 @@
 -- When the numbers that undoing computes of the weights of a ray have room.
 use Rattle.std.specs.Prelude.{ℕ, Bool, ◌||◌, IsTrue, pred, ◌≤◌, length, drop, List, [], ◌∷◌, Some, None, ⊤}
-use Rattle.rational.specs.Number.{Number, zero_ℚ, neg_ℚ, ◌+ℚ◌, ◌-ℚ◌}
-use Rattle.rational.specs.Compare.{lt_ℚ}
-use Rattle.rational.specs.Division.{◌/ℚ◌}
-use Rattle.rational.specs.Lowest.{Fits}
+use Rattle.fractions.specs.Number.{Number, zero_ℚ, neg_ℚ, ◌+ℚ◌, ◌-ℚ◌}
+use Rattle.fractions.specs.Compare.{lt_ℚ}
+use Rattle.fractions.specs.Division.{◌/ℚ◌}
+use Rattle.fractions.specs.Lowest.{Fits}
 use Rattle.fractions.specs.FracWords.{SumFits}
 use Rattle.lp_model.specs.declared.terms.Term.{Term}
 use Rattle.lp_model.specs.Sparse.{dense}

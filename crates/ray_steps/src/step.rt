@@ -15,7 +15,7 @@ pub struct RayStep {
 
 impl Model for RayStep {
     ghost use Rattle.std.specs.Coded.{codes};
-    ghost use Rattle.rational.specs.Lowest.{number_code};
+    ghost use Rattle.fractions.specs.Lowest.{number_code};
     ghost use Rattle.ray_steps.specs.StepBack.{StepBack};
 
     ghost Value = { StepBack };

@@ -6,10 +6,10 @@ use Rattle.std.proofs.lemmas.Bool.{and_parts}
 use Rattle.std.proofs.lemmas.List.{append-nil, length-map}
 use Rattle.std.proofs.lemmas.List.Elements.{All-head, All-tail}
 use Rattle.std.proofs.lemmas.List.Folds.{list_any_at}
-use Rattle.rational.specs.Number.{Number, zero_ℚ}
-use Rattle.rational.specs.Compare.{eq_ℚ}
-use Rattle.rational.specs.Lowest.{Fits}
-use Rattle.rational.proofs.Comparisons.{eq_ℚ-is}
+use Rattle.fractions.specs.Number.{Number, zero_ℚ}
+use Rattle.fractions.specs.Compare.{eq_ℚ}
+use Rattle.fractions.specs.Lowest.{Fits}
+use Rattle.fractions.proofs.Comparisons.{eq_ℚ-is}
 use Rattle.names.specs.Names.{place}
 use Rattle.lp_model.specs.Name.{IsName}
 use Rattle.lp_model.specs.Names.{Differ, WellNamed, names_of_rows, names_of_columns}

@@ -4,7 +4,7 @@ use Rattle.std.specs.Prelude.{Ok, Err, slice_index_or, codes, is_some}
 use Rattle.std.specs.Str.{bytes_eq}
 use Rattle.std.proofs.lemmas.Bool.{or_parts}
 use Rattle.std.proofs.lemmas.Slice.Eq.{bytes_eq-Decides}
-use Rattle.rational.specs.Number.{Number}
+use Rattle.fractions.specs.Number.{Number}
 use Rattle.fractions.specs.declared.Numbers.TheVariants.{Fractions}
 use Rattle.number_texts.specs.Read.{read_of}
 use Rattle.number_texts.specs.declared.reading.ReadNumber.{ReadNumber}

@@ -1,7 +1,7 @@
 -- One more line of a written text.
 use Rattle.std.proofs.Common.{◌≡◌, ℕ, ◌+◌, ◌<◌, List, [], ◌∷◌, ◌++◌, length, get_or, drop, cond, refl, sym, ap, ap₂, ◌∙◌, arith, add-one, append_assoc}
 use Rattle.std.proofs.Math.Seq.{drop-cons}
-use Rattle.rational.specs.Number.{Number}
+use Rattle.fractions.specs.Number.{Number}
 use Rattle.mps_profile.specs.Texts.{Text}
 use Rattle.ray_text.specs.RayText.{are_zero, weight_line, weight_lines}
 

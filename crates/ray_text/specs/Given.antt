@@ -1,7 +1,7 @@
 -- The weights that lines give to names. The nearest line stands first.
 use Rattle.std.specs.Prelude.{List, [], ◌∷◌, Option, Some, None, unwrap_or, if◌then◌else◌}
 use Rattle.std.specs.Str.{bytes_eq}
-use Rattle.rational.specs.Number.{zero_ℚ}
+use Rattle.fractions.specs.Number.{zero_ℚ}
 use Rattle.fractions.specs.declared.Numbers.TheVariants.{Fractions}
 use Rattle.number_texts.specs.Read.{read_of}
 use Rattle.mps_profile.specs.Texts.{Text}

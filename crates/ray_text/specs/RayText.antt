@@ -1,8 +1,8 @@
 -- The text of a ray.
 use Rattle.std.specs.Prelude.{◌&&◌, Bool, ℕ, List, [], ◌∷◌, ◌++◌, All, codes, if◌then◌else◌}
-use Rattle.rational.specs.Number.{Number, zero_ℚ}
-use Rattle.rational.specs.Compare.{eq_ℚ}
-use Rattle.rational.specs.Lowest.{Fits}
+use Rattle.fractions.specs.Number.{Number, zero_ℚ}
+use Rattle.fractions.specs.Compare.{eq_ℚ}
+use Rattle.fractions.specs.Lowest.{Fits}
 use Rattle.number_texts.specs.Written.{written}
 use Rattle.mps_profile.specs.Texts.{Text}
 use Rattle.lp_rays.specs.RayData.{RayData}

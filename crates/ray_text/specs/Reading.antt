@@ -1,6 +1,6 @@
 -- The first fault of a text, and the ray that it gives.
 use Rattle.std.specs.Prelude.{◌≡◌, ℕ, ◌+◌, List, [], ◌∷◌, length, map, Option, Some, None, Result, Ok, Err}
-use Rattle.rational.specs.Number.{Number}
+use Rattle.fractions.specs.Number.{Number}
 use Rattle.text_lines.specs.Faults.{or_later}
 use Rattle.mps_profile.specs.Texts.{Text}
 use Rattle.lp_rays.specs.RayData.{RayData}

@@ -1,7 +1,7 @@
 -- The words of bounds and sides, and of what became of a row.
 use Rattle.std.specs.Prelude.{ℕ, Bool, true, ◌||◌, not, List, Option, Some, None, codes, if◌then◌else◌}
 use Rattle.std.specs.Str.{bytes_eq}
-use Rattle.rational.specs.Number.{Number}
+use Rattle.fractions.specs.Number.{Number}
 use Rattle.undo_records.specs.declared.side.Side.{Side}
 use Rattle.undo_records.specs.declared.side.Side.TheVariants.{Lower, Upper}
 use Rattle.undo_records.specs.declared.side.RowFate.{RowFate}

@@ -1,9 +1,9 @@
 -- Numbers in records: whole, or n/d in lowest terms.
 use Rattle.std.specs.Prelude.{ℕ, ◌^◌, Bool, not, ◌&&◌, List, drop, Option, Some, None, Result, Ok, Err, nat_lt, ◌==◌, if◌then◌else◌}
-use Rattle.rational.specs.Gcd.{gcd}
-use Rattle.rational.specs.Number.{Number, zero_ℚ, one_ℚ}
-use Rattle.rational.specs.Compare.{eq_ℚ}
-use Rattle.rational.specs.Lowest.{ratio}
+use Rattle.fractions.specs.Gcd.{gcd}
+use Rattle.fractions.specs.Number.{Number, zero_ℚ, one_ℚ}
+use Rattle.fractions.specs.Compare.{eq_ℚ}
+use Rattle.fractions.specs.Lowest.{ratio}
 use Rattle.number_texts.specs.Form.{cut, is_slash, is_minus, number}
 use Rattle.number_texts.specs.Read.{signed}
 use Rattle.number_texts.specs.declared.reading.ReadNumber.{ReadNumber}

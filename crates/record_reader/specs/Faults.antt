@@ -3,7 +3,7 @@ use Rattle.std.specs.Prelude.{ℕ, Bool, true, false, ◌&&◌, List, [], ◌∷
 use Rattle.undo_records.specs.Postsolve.{Postsolve}
 use Rattle.lp_model.specs.Flags.{Flags}
 use Rattle.undo_records.specs.Walk.{lives}
-use Rattle.rational.specs.Number.{Number}
+use Rattle.fractions.specs.Number.{Number}
 use Rattle.record_fields.specs.Words.{words_of}
 use Rattle.record_words.specs.Undos.{undo_fault}
 use Rattle.record_fields.specs.declared.faults.LineFault.{LineFault}

@@ -1,7 +1,7 @@
 -- The lines that aren't labels or records.
 use Rattle.std.specs.Prelude.{ℕ, ◌^◌, ◌-◌, Bool, true, false, not, ◌&&◌, List, length, take, drop, Option, Some, None, Result, Ok, Err, nat_lt, ◌==◌, codes, slice_index_or, if◌then◌else◌}
 use Rattle.std.specs.Str.{bytes_eq}
-use Rattle.rational.specs.Number.{Number}
+use Rattle.fractions.specs.Number.{Number}
 use Rattle.fractions.specs.declared.Numbers.TheVariants.{Fractions}
 use Rattle.number_texts.specs.Form.{cut, is_slash, is_point, is_digits, number}
 use Rattle.number_texts.specs.Read.{read_of}

@@ -1,6 +1,6 @@
 -- What the lines so far have given, and what the next one has to be.
 use Rattle.std.specs.Prelude.{ℕ, false, zero, suc, pred, List, [], ◌∷◌, ◌++◌, length, Result, Ok, Err, unwrap_or, codes}
-use Rattle.rational.specs.Number.{Number, zero_ℚ}
+use Rattle.fractions.specs.Number.{Number, zero_ℚ}
 use Rattle.lp_model.specs.declared.program.Sense.TheVariants.{Min}
 use Rattle.undo_records.specs.Postsolve.{Postsolve}
 use Rattle.lp_model.specs.Flags.{Flags}

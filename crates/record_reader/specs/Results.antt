@@ -1,6 +1,6 @@
 -- What the steps of reading give.
 use Rattle.std.specs.Prelude.{◌≡◌, ℕ, List, Some, None, Result, Ok, Err}
-use Rattle.rational.specs.Number.{Number}
+use Rattle.fractions.specs.Number.{Number}
 use Rattle.text_lines.specs.Lines.{raw_lines_of}
 use Rattle.record_words.specs.declared.lines.LineError.{LineError}
 use Rattle.record_words.specs.declared.lines.LineError.TheVariants as line

@@ -1,7 +1,7 @@
 -- The words of ends, sides and fates are read as they are written.
 use Rattle.std.proofs.Common.{◌≡◌, Bool, false, cond, not, ◌||◌, Option, Some, None, Err, refl, ap, ap₂, ◌∙◌}
 use Rattle.std.specs.Prelude.{codes, is_some, unwrap_or}
-use Rattle.rational.specs.Number.{Number}
+use Rattle.fractions.specs.Number.{Number}
 use Rattle.number_texts.specs.declared.reading.ReadNumber.TheVariants.{NotNumber}
 use Rattle.undo_records.specs.declared.side.Side.{Side}
 use Rattle.undo_records.specs.declared.side.Side.TheVariants.{Lower, Upper}
@@ -13,7 +13,7 @@ use Rattle.record_fields.specs.Faults.{unless}
 use Rattle.record_fields.specs.Fields.{bound_fault}
 use Rattle.record_fields.specs.declared.faults.LineFault.TheVariants.{BadLine}
 use Rattle.record_fields.specs.Ratios.{ratio_read, ratio_of, number_fault}
-use Rattle.rational.specs.Lowest.{Fits}
+use Rattle.fractions.specs.Lowest.{Fits}
 use Rattle.record_round_trip.specs.Ranges.{EndFits}
 use Rattle.record_round_trip.proofs.Numerals.{number_again, number_passes, no_word}
 use Rattle.record_round_trip.proofs.Words.{Whole, ratio_whole}

@@ -7,8 +7,8 @@ use Rattle.std.proofs.lemmas.Bool.{and_from, lt-ltb, eqb-true, false_from_ne_tru
 use Rattle.std.proofs.lemmas.Bool.Decides.{nat_tests}
 use Rattle.std.proofs.lemmas.Slice.Eq.{bytes_eq-Decides}
 use Rattle.std.proofs.lemmas.List.Elements.{All-head, All-tail}
-use Rattle.rational.specs.Number.{Number}
-use Rattle.rational.specs.Lowest.{Fits}
+use Rattle.fractions.specs.Number.{Number}
+use Rattle.fractions.specs.Lowest.{Fits}
 use Rattle.lp_model.specs.declared.terms.Term.{Term}
 use Rattle.lp_model.specs.Sparse.{Ascends, has}
 use Rattle.number_texts.specs.Form.{number}

@@ -1,7 +1,7 @@
 -- Records whose ids and numbers have room.
 use Rattle.std.specs.Prelude.{ℕ, ◌^◌, ◌<◌, List, length, replicate, Option, Some, None, All, ⊤}
-use Rattle.rational.specs.Number.{Number}
-use Rattle.rational.specs.Lowest.{Fits}
+use Rattle.fractions.specs.Number.{Number}
+use Rattle.fractions.specs.Lowest.{Fits}
 use Rattle.lp_model.specs.declared.terms.Term.{Term}
 use Rattle.problem_model.specs.declared.part.Part.{Part}
 use Rattle.problem_model.specs.declared.part.Part.TheVariants.{Row, Sides, Col, Bounds}

@@ -1,7 +1,7 @@
 //! The range of records: what each value of their type keeps, and so what is asked for their text to be read again. The functions here go over a value, and change nothing.
 
 ghost use Rattle.std.specs.Prelude.{◌≡◌, ◌<◌, ◌^◌, All, None};
-ghost use Rattle.rational.specs.Lowest.{Fits};
+ghost use Rattle.fractions.specs.Lowest.{Fits};
 ghost use Rattle.record_values.specs.declared.version.TextVersion.TheVariants.{First, Second};
 ghost use Rattle.record_file.specs.RecordText.{record_text};
 ghost use Rattle.record_reader.specs.Reading.{first_fault, records_of};

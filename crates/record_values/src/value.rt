@@ -17,7 +17,7 @@ pub struct Listed<'a> {
 impl<'a> Model for Listed<'a> {
     ghost use Rattle.std.specs.Prelude.{List};
     ghost use Rattle.std.specs.Coded.{codes};
-    ghost use Rattle.rational.specs.Lowest.{number_code};
+    ghost use Rattle.fractions.specs.Lowest.{number_code};
     ghost use Rattle.lp_model.specs.declared.terms.Term.{Term};
 
     ghost Value = { List Term };

@@ -4,14 +4,14 @@ use Rattle.std.specs.Prelude.{if◌then◌else◌}
 use Rattle.std.specs.List.{All}
 use Rattle.std.proofs.lemmas.Bool.{eq-eqb, ne_eqb, cases_eq, true≢false}
 use Rattle.std.proofs.lemmas.List.Elements.{All-head, All-tail, All-nil, All-cons, All-filter}
-use Rattle.rational.specs.Ring.{ring, v, num, ◌:+◌}
-use Rattle.rational.specs.Number.{Number, rational, ◌+ℚ◌, zero_ℚ}
-use Rattle.rational.specs.Ends.{plus, scaled}
-use Rattle.rational.specs.Compare.{lt_ℚ}
-use Rattle.rational.proofs.Signs.{<ℚ-irrefl}
-use Rattle.rational.proofs.Comparisons.{lt_ℚ-is}
-use Rattle.rational.specs.Total.{put}
-use Rattle.rational.proofs.Totals.{put-same, put-other, at_or_off}
+use Rattle.fractions.specs.Ring.{ring, v, num, ◌:+◌}
+use Rattle.fractions.specs.Number.{Number, rational, ◌+ℚ◌, zero_ℚ}
+use Rattle.fractions.specs.Ends.{plus, scaled}
+use Rattle.fractions.specs.Compare.{lt_ℚ}
+use Rattle.fractions.proofs.Signs.{<ℚ-irrefl}
+use Rattle.fractions.proofs.Comparisons.{lt_ℚ-is}
+use Rattle.fractions.specs.Total.{put}
+use Rattle.fractions.proofs.Totals.{put-same, put-other, at_or_off}
 use Rattle.fractions.specs.declared.Past.{Past}
 use Rattle.lp_model.specs.declared.terms.Term.{Term}
 use Rattle.lp_model.specs.Sparse.{Ascends, dense}

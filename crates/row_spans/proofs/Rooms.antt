@@ -1,9 +1,9 @@
 -- What has room, as a test and as a fact.
 use Rattle.std.proofs.Common.{◌≡◌, ℕ, ◌<◌, ap₂, Bool, true, false, ◌&&◌, IsTrue, ◌↔◌, [], ◌∷◌, pos, sym, refl, ap, Result, Ok, Err, IfOk, IsOk, nat_lt}
 use Rattle.std.proofs.lemmas.Bool.{true≢false, lt-ltb, ltb-true}
-use Rattle.rational.specs.Ring.{ring, v, num, ◌:*◌}
-use Rattle.rational.specs.Number.{Number, rational, zero_ℚ, ◌*ℚ◌}
-use Rattle.rational.specs.Lowest.{Fits}
+use Rattle.fractions.specs.Ring.{ring, v, num, ◌:*◌}
+use Rattle.fractions.specs.Number.{Number, rational, zero_ℚ, ◌*ℚ◌}
+use Rattle.fractions.specs.Lowest.{Fits}
 use Rattle.fractions.specs.declared.Past.{Past}
 use Rattle.fractions.specs.FracWords.{SumFits}
 use Rattle.row_spans.specs.Exact.{fits, steps_fit, sum_fits, if_room}

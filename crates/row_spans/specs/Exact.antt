@@ -1,9 +1,9 @@
 -- Sums, differences, products and quotients as they are made: the exact number, or past where one has no room.
 use Rattle.std.specs.Prelude.{ℕ, ◌*◌, ◌/◌, ◌^◌, ℤ, pos, ◌+ℤ◌, ◌*ℤ◌, Bool, ◌&&◌, nat_lt, unsigned_abs, Option, Some, None, Result, Ok, Err, if◌then◌else◌}
-use Rattle.rational.specs.Gcd.{gcd}
-use Rattle.rational.specs.Number.{Number, ◌+ℚ◌, ◌-ℚ◌, ◌*ℚ◌, neg_ℚ}
-use Rattle.rational.specs.Division.{◌/ℚ◌}
-use Rattle.rational.specs.Lowest.{over_of, under_of}
+use Rattle.fractions.specs.Gcd.{gcd}
+use Rattle.fractions.specs.Number.{Number, ◌+ℚ◌, ◌-ℚ◌, ◌*ℚ◌, neg_ℚ}
+use Rattle.fractions.specs.Division.{◌/ℚ◌}
+use Rattle.fractions.specs.Lowest.{over_of, under_of}
 use Rattle.fractions.specs.declared.Past.{Past}
 
 -- the number has room

@@ -1,7 +1,7 @@
 -- The least and the greatest activity of a row as they are made: a sum starts at 0 and adds the terms by ascending id; it is past where
 -- a term or a step is. Where a term is infinite the activity is infinite, no sum is made, and it is never past.
 use Rattle.std.specs.Prelude.{ℕ, Bool, true, false, Option, Some, None, List, [], ◌∷◌, Result, Ok, Err, if◌then◌else◌}
-use Rattle.rational.specs.Number.{Number, zero_ℚ}
+use Rattle.fractions.specs.Number.{Number, zero_ℚ}
 use Rattle.fractions.specs.declared.Past.{Past}
 use Rattle.row_spans.specs.declared.span.Span.{Span}
 use Rattle.row_spans.specs.declared.span.Extreme.{Extreme}

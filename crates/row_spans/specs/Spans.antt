@@ -1,7 +1,7 @@
 -- The entries of a row with the bounds of their columns.
 use Rattle.std.specs.Prelude.{◌≢◌, ℕ, suc, ◌≤◌, ⊤, slice_index_or, not, nat_eq, true, false, Option, Some, None, option_map, List, [], ◌∷◌, map}
 use Rattle.std.specs.List.{filter}
-use Rattle.rational.specs.Number.{Number, zero_ℚ}
+use Rattle.fractions.specs.Number.{Number, zero_ℚ}
 use Rattle.lp_model.specs.declared.terms.Term.{Term}
 use Rattle.lp_theory.specs.Activities.{least_term, greatest_term}
 use Rattle.problem_model.specs.declared.part.Contents.{Contents}

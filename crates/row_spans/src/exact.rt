@@ -1,8 +1,8 @@
 //! Exact sums, differences, products and quotients, or that a number has no room.
 
 ghost use Rattle.std.specs.Prelude.{◌≡◌, ◌≢◌, IfOk};
-ghost use Rattle.rational.specs.Number.{zero_ℚ, ◌*ℚ◌};
-ghost use Rattle.rational.specs.Ends.{scaled};
+ghost use Rattle.fractions.specs.Number.{zero_ℚ, ◌*ℚ◌};
+ghost use Rattle.fractions.specs.Ends.{scaled};
 ghost use Rattle.row_spans.specs.Exact.{exact_sum, exact_difference, exact_product, exact_quotient, exact_end};
 
 use fractions::Past;

@@ -2,7 +2,7 @@
 //! nothing when they run: each states laws, and its check proves them.
 
 ghost use Rattle.std.specs.Prelude.{◌≡◌, ℕ, true, List, Option, Some, Ok, map};
-ghost use Rattle.rational.specs.Number.{Number};
+ghost use Rattle.fractions.specs.Number.{Number};
 ghost use Rattle.lp_theory.specs.Activities.{least, greatest, least_rest, greatest_rest};
 ghost use Rattle.problem_model.specs.Parts.{contents_of};
 ghost use Rattle.problem_model.specs.Problems.{IsSparse, row_at, row_entries};

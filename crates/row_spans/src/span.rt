@@ -1,7 +1,7 @@
 //! Entries of a row with the bounds of their columns.
 
 ghost use Rattle.std.specs.Prelude.{◌≡◌, IfOk};
-ghost use Rattle.rational.specs.Ends.{scaled};
+ghost use Rattle.fractions.specs.Ends.{scaled};
 ghost use Rattle.lp_theory.specs.Activities.{least_term};
 ghost use Rattle.row_spans.specs.Exact.{exact_end};
 ghost use Rattle.row_spans.specs.Spans.{end_at};

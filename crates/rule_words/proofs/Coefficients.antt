@@ -1,7 +1,7 @@
 -- The coefficients that a problem shows, by the live entries of its rows and columns.
 use Rattle.std.proofs.Common.{◌≡◌, ℕ, Bool, true, false, ◌&&◌, Option, refl, sym, ap, ◌∙◌}
 use Rattle.std.specs.Prelude.{if◌then◌else◌}
-use Rattle.rational.specs.Number.{Number, zero_ℚ}
+use Rattle.fractions.specs.Number.{Number, zero_ℚ}
 use Rattle.lp_model.specs.Sparse.{dense}
 use Rattle.problem_model.specs.Matrices.{IsMatrix}
 use Rattle.problem_model.specs.Problems.{row_at, column_at, row_entries, column_entries}

@@ -1,13 +1,13 @@
 -- What the tests of ends say.
 use Rattle.std.proofs.Common.{◌≡◌, Bool, true, false, not, ◌||◌, IsTrue, Option, Some, None, unwrap_or, is_none, refl, sym, ap, subst, true≢false}
 use Rattle.std.proofs.lemmas.Bool.{and_parts}
-use Rattle.rational.specs.Number.{Number, zero_ℚ}
-use Rattle.rational.specs.Order.{◌<ℚ◌}
-use Rattle.rational.specs.Compare.{eq_ℚ}
-use Rattle.rational.specs.Floor.{IsWhole, is_whole}
-use Rattle.rational.specs.Ends.{AtLeast, AtMost, Between}
-use Rattle.rational.proofs.Comparisons.{le_ℚ-is, lt_ℚ-is, eq_ℚ-is}
-use Rattle.rational.proofs.Floors.{is_whole-is}
+use Rattle.fractions.specs.Number.{Number, zero_ℚ}
+use Rattle.fractions.specs.Order.{◌<ℚ◌}
+use Rattle.fractions.specs.Compare.{eq_ℚ}
+use Rattle.fractions.specs.Floor.{IsWhole, is_whole}
+use Rattle.fractions.specs.Ends.{AtLeast, AtMost, Between}
+use Rattle.fractions.proofs.Comparisons.{le_ℚ-is, lt_ℚ-is, eq_ℚ-is}
+use Rattle.fractions.proofs.Floors.{is_whole-is}
 use Rattle.lp_theory.proofs.Pairs.{some_inj}
 use Rattle.lp_theory.specs.Crossed.{AreCrossed}
 use Rattle.lp_model.specs.EndTests.{is_in_order, is_crossed, is_apart, holds_zero, is_fixed, is_place}

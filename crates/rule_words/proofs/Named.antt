@@ -3,8 +3,8 @@ use Rattle.std.proofs.Common.{◌≡◌, ℕ, Bool, true, List, [], ◌∷◌, m
 use Rattle.std.specs.List.{All}
 use Rattle.std.proofs.lemmas.List.Elements.{All-nil, All-cons, All-map}
 use Rattle.std.proofs.Math.ListN.{get_or-map}
-use Rattle.rational.specs.Number.{rational, zero_ℚ, ◌+ℚ◌}
-use Rattle.rational.specs.Ring.{ring, num, ◌:+◌}
+use Rattle.fractions.specs.Number.{rational, zero_ℚ, ◌+ℚ◌}
+use Rattle.fractions.specs.Ring.{ring, num, ◌:+◌}
 use Rattle.lp_model.specs.declared.terms.Term.{Term}
 use Rattle.undo_pairs.specs.Ids.{is_on, ids_of}
 use Rattle.problem_model.specs.declared.edit.Edit.{Edit}

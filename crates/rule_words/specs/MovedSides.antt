@@ -1,7 +1,7 @@
 -- The sides of rows out of which a multiple of a column is taken.
-use Rattle.rational.specs.Number.{Number, ◌*ℚ◌}
-use Rattle.rational.specs.Lowest.{Fits}
-use Rattle.rational.specs.Ends.{less}
+use Rattle.fractions.specs.Number.{Number, ◌*ℚ◌}
+use Rattle.fractions.specs.Lowest.{Fits}
+use Rattle.fractions.specs.Ends.{less}
 use Rattle.fractions.specs.EndWords.{LessFits}
 use Rattle.lp_model.specs.declared.terms.Term.{Term}
 use Rattle.problem_model.specs.declared.edit.Edit.{Edit}

@@ -1,9 +1,9 @@
 -- Reductions that are applied once more, and ends that are compared.
 use Rattle.std.proofs.Common.{◌≡◌, ◌≢◌, ◌↔◌, ℕ, Bool, true, false, Option, sym, refl, ◌∙◌, IsTrue, arith}
 use Rattle.std.proofs.lemmas.Option.{none-some}
-use Rattle.rational.specs.Number.{Number}
-use Rattle.rational.specs.Ends.{same_end}
-use Rattle.rational.proofs.EndLaws.{same_end-is}
+use Rattle.fractions.specs.Number.{Number}
+use Rattle.fractions.specs.Ends.{same_end}
+use Rattle.fractions.proofs.EndLaws.{same_end-is}
 use Rattle.presolve_model.specs.declared.instance.Instance.TheVariants as at
 use Rattle.presolve_model.specs.declared.instance.Reduction.{Reduction}
 use Rattle.presolve_model.specs.declared.outcome.Outcome.{Outcome}

@@ -1,6 +1,6 @@
 -- The lines of what is refused or left.
 use Rattle.std.specs.Prelude.{◌≡◌, ◌⊎◌, ℕ, false, List, [], ◌∷◌, ◌++◌, Option, Some, None, IfSome, codes}
-use Rattle.rational.specs.Number.{Number, ◌-ℚ◌}
+use Rattle.fractions.specs.Number.{Number, ◌-ℚ◌}
 use Rattle.fractions.specs.Places.{is_decimal}
 use Rattle.number_texts.specs.Written.{written}
 use Rattle.lp_model.specs.ProgramData.{ProgramData}

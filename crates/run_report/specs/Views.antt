@@ -1,7 +1,7 @@
 -- How a row or a column stands in a problem, and how that is told.
 use Rattle.std.specs.Prelude.{ℕ, Bool, true, false, cond, not, ◌&&◌, List, [], ◌∷◌, ◌++◌, Option, Some, None, codes}
-use Rattle.rational.specs.Number.{Number}
-use Rattle.rational.specs.Ends.{same_end}
+use Rattle.fractions.specs.Number.{Number}
+use Rattle.fractions.specs.Ends.{same_end}
 use Rattle.number_texts.specs.Written.{written}
 use Rattle.lp_model.specs.ProgramData.{ProgramData}
 use Rattle.problem_model.specs.Problems.{bounds_at, column_at, row_at, sides_at}

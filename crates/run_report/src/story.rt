@@ -1,7 +1,7 @@
 //! What happened to a row or a column, in words.
 
 ghost use Rattle.std.specs.Prelude.{◌≡◌, ◌<◌, ◌≤◌, ◌^◌, ◌++◌, length, codes, IfOk, OnOk};
-ghost use Rattle.rational.specs.Ends.{same_end};
+ghost use Rattle.fractions.specs.Ends.{same_end};
 ghost use Rattle.lp_model.specs.Writable.{EntriesAscend, Writable};
 ghost use Rattle.problem_model.specs.Programs.{IsProblemOf};
 ghost use Rattle.problem_model.specs.Sparse.{Sparse};

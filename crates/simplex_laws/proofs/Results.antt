@@ -1,15 +1,15 @@
 -- What a tableau at which no rule finds a next step says of its program.
 use Rattle.std.proofs.Common.{◌≡◌, ◌≢◌, ℕ, ◌+◌, ◌<◌, pos, sym, refl, ap, ap₂, ◌∙◌, arith, [], ◌∷◌, ◌⊎◌, inl, inr, subst, Bool, true, false, true≢false, Option, Some, None}
 use Rattle.std.proofs.lemmas.Bool.{cases_eq}
-use Rattle.rational.specs.Ring.{ring, v, num, ◌:+◌, ◌:-◌, ◌:*◌, inv}
-use Rattle.rational.specs.Number.{Number, rational, zero_ℚ, one_ℚ, ◌+ℚ◌, ◌-ℚ◌, ◌*ℚ◌, neg_ℚ}
-use Rattle.rational.specs.Order.{◌≤ℚ◌, ◌<ℚ◌, ≤ℚ_refl, ≤ℚ-by, ≤ℚ_cases, <ℚ-not}
-use Rattle.rational.specs.Linear.{linear, fact}
-use Rattle.rational.specs.Inverse.{inv_ℚ, ◌/ℚ◌, not_one-≤-zero}
-use Rattle.rational.specs.Total.{total, put}
-use Rattle.rational.specs.Ends.{AtLeast, AtMost, Between}
-use Rattle.rational.proofs.Totals.{total_same, total-*, total-zero, total-≤, total-put_point, put-same, put-other, at_or_off}
-use Rattle.rational.proofs.Signs.{≤ℚ-same, over-times, over-≤_down, <ℚ-≢'}
+use Rattle.fractions.specs.Ring.{ring, v, num, ◌:+◌, ◌:-◌, ◌:*◌, inv}
+use Rattle.fractions.specs.Number.{Number, rational, zero_ℚ, one_ℚ, ◌+ℚ◌, ◌-ℚ◌, ◌*ℚ◌, neg_ℚ}
+use Rattle.fractions.specs.Order.{◌≤ℚ◌, ◌<ℚ◌, ≤ℚ_refl, ≤ℚ-by, ≤ℚ_cases, <ℚ-not}
+use Rattle.fractions.specs.Linear.{linear, fact}
+use Rattle.fractions.specs.Inverse.{inv_ℚ, ◌/ℚ◌, not_one-≤-zero}
+use Rattle.fractions.specs.Total.{total, put}
+use Rattle.fractions.specs.Ends.{AtLeast, AtMost, Between}
+use Rattle.fractions.proofs.Totals.{total_same, total-*, total-zero, total-≤, total-put_point, put-same, put-other, at_or_off}
+use Rattle.fractions.proofs.Signs.{≤ℚ-same, over-times, over-≤_down, <ℚ-≢'}
 use Rattle.lp_model.specs.declared.program.Sense.TheVariants.{Min}
 use Rattle.lp_model.specs.Vectors.{Vector}
 use Rattle.lp_model.specs.Gaps.{Clears}

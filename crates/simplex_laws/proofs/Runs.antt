@@ -1,6 +1,6 @@
 -- What the end of a run says of its program.
 use Rattle.std.proofs.Common.{◌≡◌, ℕ, ◌<◌, inl, inr, subst, true}
-use Rattle.rational.specs.Number.{Number}
+use Rattle.fractions.specs.Number.{Number}
 use Rattle.lp_model.specs.declared.program.Sense.{Sense}
 use Rattle.lp_model.specs.declared.program.Sense.TheVariants.{Min, Max}
 use Rattle.lp_model.specs.LinearProgram.{LinearProgram}

@@ -1,11 +1,11 @@
 -- Points and duals that are the same at each column and row of a program.
 use Rattle.std.proofs.Common.{◌≡◌, ℕ, zero, suc, ◌<◌, ap, subst, arith}
-use Rattle.rational.specs.Number.{◌+ℚ◌, ◌-ℚ◌, ◌*ℚ◌}
-use Rattle.rational.specs.Lowest.{Fits}
-use Rattle.rational.specs.Total.{total}
-use Rattle.rational.specs.Ends.{Between}
-use Rattle.rational.specs.Floor.{IsWhole}
-use Rattle.rational.proofs.Totals.{total_same}
+use Rattle.fractions.specs.Number.{◌+ℚ◌, ◌-ℚ◌, ◌*ℚ◌}
+use Rattle.fractions.specs.Lowest.{Fits}
+use Rattle.fractions.specs.Total.{total}
+use Rattle.fractions.specs.Ends.{Between}
+use Rattle.fractions.specs.Floor.{IsWhole}
+use Rattle.fractions.proofs.Totals.{total_same}
 use Rattle.fractions.specs.FracWords.{SumFits}
 use Rattle.lp_model.specs.declared.program.Sense.{Sense}
 use Rattle.lp_model.specs.Vectors.{Vector}

@@ -2,13 +2,13 @@
 use Rattle.std.proofs.Common.{◌≡◌, ◌≢◌, ℕ, zero, suc, ◌<◌, pos, sym, refl, ap, ap₂, ◌∙◌, [], ◌∷◌, ◌⊎◌, inl, inr, subst, Bool, true, false, true≢false, Option, Some, None}
 use Rattle.std.specs.Prelude.{if◌then◌else◌}
 use Rattle.std.proofs.lemmas.Bool.{eq-eqb, ne_eqb}
-use Rattle.rational.specs.Ring.{ring, v, num, ◌:+◌, ◌:-◌, ◌:*◌, inv}
-use Rattle.rational.specs.Number.{Number, rational, zero_ℚ, one_ℚ, ◌+ℚ◌, ◌-ℚ◌, ◌*ℚ◌, neg_ℚ}
-use Rattle.rational.specs.Order.{◌<ℚ◌, <ℚ-≤ℚ, <ℚ-not}
-use Rattle.rational.specs.Linear.{linear, fact}
-use Rattle.rational.specs.Compare.{lt_ℚ}
-use Rattle.rational.specs.Ends.{less, over}
-use Rattle.rational.proofs.Comparisons.{lt_ℚ-is}
+use Rattle.fractions.specs.Ring.{ring, v, num, ◌:+◌, ◌:-◌, ◌:*◌, inv}
+use Rattle.fractions.specs.Number.{Number, rational, zero_ℚ, one_ℚ, ◌+ℚ◌, ◌-ℚ◌, ◌*ℚ◌, neg_ℚ}
+use Rattle.fractions.specs.Order.{◌<ℚ◌, <ℚ-≤ℚ, <ℚ-not}
+use Rattle.fractions.specs.Linear.{linear, fact}
+use Rattle.fractions.specs.Compare.{lt_ℚ}
+use Rattle.fractions.specs.Ends.{less, over}
+use Rattle.fractions.proofs.Comparisons.{lt_ℚ-is}
 use Rattle.lp_model.specs.LinearProgram.{LinearProgram}
 use Rattle.lp_theory.proofs.Pairs.{below_if_not, not_below}
 use Rattle.tableau_laws.specs.Variables.{lower_end, upper_end, Rests}

@@ -1,9 +1,9 @@
 -- The rules by which a run chooses its next step.
 use Rattle.std.specs.Prelude.{◌≡◌, ◌⊎◌, ℕ, ◌<◌, ◌≤◌, true, false, nat_eq, if◌then◌else◌, Option, Some, None}
-use Rattle.rational.specs.Number.{Number, zero_ℚ, one_ℚ, ◌-ℚ◌, ◌*ℚ◌, neg_ℚ}
-use Rattle.rational.specs.Order.{◌<ℚ◌}
-use Rattle.rational.specs.Compare.{lt_ℚ}
-use Rattle.rational.specs.Ends.{Between, less, over}
+use Rattle.fractions.specs.Number.{Number, zero_ℚ, one_ℚ, ◌-ℚ◌, ◌*ℚ◌, neg_ℚ}
+use Rattle.fractions.specs.Order.{◌<ℚ◌}
+use Rattle.fractions.specs.Compare.{lt_ℚ}
+use Rattle.fractions.specs.Ends.{Between, less, over}
 use Rattle.lp_model.specs.LinearProgram.{LinearProgram}
 use Rattle.tableau_laws.specs.Variables.{lower_end, upper_end}
 use Rattle.tableau_laws.specs.Tableaus.{Tableau}

@@ -1,7 +1,7 @@
 -- When the limits of an entering variable have room.
 use Rattle.std.specs.Prelude.{◌≡◌, ◌≢◌, ⊤, ℕ, ◌<◌, Option, Some, None}
-use Rattle.rational.specs.Number.{Number, ◌*ℚ◌, neg_ℚ}
-use Rattle.rational.specs.Ends.{less}
+use Rattle.fractions.specs.Number.{Number, ◌*ℚ◌, neg_ℚ}
+use Rattle.fractions.specs.Ends.{less}
 use Rattle.fractions.specs.FracWords.{SumFits}
 use Rattle.fractions.specs.EndWords.{LessFits, OverFits}
 use Rattle.lp_model.specs.LinearProgram.{LinearProgram}

@@ -1,7 +1,7 @@
 -- A run of the simplex method, and how it ends.
 use Rattle.std.proofs.Common.{inl, inr}
 use Rattle.std.specs.Prelude.{◌≡◌, ◌≢◌, ◌⊎◌, ℕ, zero, suc, ◌+◌, ◌<◌, ◌≤◌, Some}
-use Rattle.rational.specs.Number.{Number, ◌*ℚ◌}
+use Rattle.fractions.specs.Number.{Number, ◌*ℚ◌}
 use Rattle.lp_model.specs.Vectors.{Vector}
 use Rattle.lp_model.specs.LinearProgram.{LinearProgram}
 use Rattle.lp_theory.specs.Crossed.{AreCrossed}

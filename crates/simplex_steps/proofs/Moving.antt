@@ -1,8 +1,8 @@
 -- Whether a value may move.
 use Rattle.std.proofs.Common.{◌≡◌, ◌↔◌, ◌⊎◌, inl, inr, Bool, true, false, IsTrue, Option, pos, refl, sym, ap, ◌∙◌, [], ◌∷◌}
-use Rattle.rational.specs.Ring.{ring, v, num, ◌:*◌, inv}
-use Rattle.rational.specs.Number.{Number, rational, zero_ℚ, ◌*ℚ◌, neg_ℚ}
-use Rattle.rational.specs.Order.{◌<ℚ◌, <ℚ-≤ℚ, <ℚ-not}
+use Rattle.fractions.specs.Ring.{ring, v, num, ◌:*◌, inv}
+use Rattle.fractions.specs.Number.{Number, rational, zero_ℚ, ◌*ℚ◌, neg_ℚ}
+use Rattle.fractions.specs.Order.{◌<ℚ◌, <ℚ-≤ℚ, <ℚ-not}
 use Rattle.simplex_laws.specs.Choices.{CanRise, CanFall}
 use Rattle.simplex_steps.specs.Signs.{sign_of}
 

@@ -1,9 +1,9 @@
 -- One more limit.
 use Rattle.std.proofs.Common.{◌≡◌, ◌⊎◌, inl, inr, ℕ, ◌+◌, ◌<◌, ◌≤◌, Option, Some, None, sym, ap, ◌∙◌, arith, subst}
 use Rattle.std.proofs.lemmas.Bool.{cases_eq}
-use Rattle.rational.specs.Number.{Number}
-use Rattle.rational.specs.Order.{◌≤ℚ◌, ◌<ℚ◌, ≤ℚ_antisym, ≤ℚ_cases}
-use Rattle.rational.proofs.Signs.{<ℚ_trans}
+use Rattle.fractions.specs.Number.{Number}
+use Rattle.fractions.specs.Order.{◌≤ℚ◌, ◌<ℚ◌, ≤ℚ_antisym, ≤ℚ_cases}
+use Rattle.fractions.proofs.Signs.{<ℚ_trans}
 use Rattle.simplex_steps.specs.declared.limits.Stop.{Stop}
 use Rattle.simplex_steps.specs.Best.{IsNearest, IsBest}
 

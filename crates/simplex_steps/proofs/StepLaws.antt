@@ -2,8 +2,8 @@
 use Rattle.std.proofs.Common.{◌≡◌, ◌≢◌, inl, inr, ℕ, Bool, Result, Ok, Err, IfErr, IsOk, ◌↔◌, Option, Some, None, refl, sym, ap, ap₂, ◌∙◌, subst}
 use Rattle.std.specs.Prelude.{if◌then◌else◌, OnOk}
 use Rattle.std.proofs.lemmas.Bool.{eq-eqb, ne_eqb}
-use Rattle.rational.specs.Number.{Number, ◌*ℚ◌}
-use Rattle.rational.specs.Ends.{less, over}
+use Rattle.fractions.specs.Number.{Number, ◌*ℚ◌}
+use Rattle.fractions.specs.Ends.{less, over}
 use Rattle.lp_model.specs.LinearProgram.{LinearProgram}
 use Rattle.tableau_laws.specs.Variables.{lower_end, upper_end}
 use Rattle.tableau_laws.specs.Tableaus.{Tableau, pivoted, shifted, CanPivot}

@@ -1,7 +1,7 @@
 -- The nearest limit so far.
 use Rattle.std.specs.Prelude.{◌≡◌, ◌⊎◌, ℕ, ◌<◌, ◌≤◌, Option, Some, None}
-use Rattle.rational.specs.Number.{Number}
-use Rattle.rational.specs.Order.{◌<ℚ◌}
+use Rattle.fractions.specs.Number.{Number}
+use Rattle.fractions.specs.Order.{◌<ℚ◌}
 use Rattle.simplex_steps.specs.declared.limits.Stop.{Stop}
 
 -- s is the nearest of the limits below k, and the first of these

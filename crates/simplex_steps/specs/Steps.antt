@@ -1,6 +1,6 @@
 -- What a step says.
 use Rattle.std.specs.Prelude.{◌≡◌, ℕ, Option, Some, None}
-use Rattle.rational.specs.Number.{Number}
+use Rattle.fractions.specs.Number.{Number}
 use Rattle.lp_model.specs.LinearProgram.{LinearProgram}
 use Rattle.tableau_laws.specs.Tableaus.{Tableau}
 use Rattle.simplex_laws.specs.Choices.{Leaves, NoneLeaves, Enters, NoneEnters, towards, downhill, direction, NoLimit}

@@ -1,7 +1,7 @@
 //! The rules by which a run chooses.
 
 ghost use Rattle.std.specs.Prelude.{◌≡◌, ◌↔◌, ℕ, ◌<◌, true, false, IsTrue, MatchOption};
-ghost use Rattle.rational.specs.Number.{neg_ℚ, ◌*ℚ◌};
+ghost use Rattle.fractions.specs.Number.{neg_ℚ, ◌*ℚ◌};
 ghost use Rattle.simplex_tableau.specs.Programs.{minimized};
 ghost use Rattle.tableau_laws.specs.Variables.{variables, lower_end as lower_of, upper_end as upper_of};
 ghost use Rattle.simplex_laws.specs.Choices.{CanMove, IsPast, IsWithin, Leaves, NoneLeaves, Enters, NoneEnters, downhill, towards};

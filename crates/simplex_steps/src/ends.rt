@@ -1,9 +1,9 @@
 //! The ends of variables.
 
 ghost use Rattle.std.specs.Prelude.{◌≡◌, ◌⊎◌, ◌↔◌, ◌<◌, Some, IsTrue, MatchOption};
-ghost use Rattle.rational.specs.Number.{zero_ℚ};
-ghost use Rattle.rational.specs.Order.{◌<ℚ◌};
-ghost use Rattle.rational.specs.Ends.{AtLeast, AtMost, Between};
+ghost use Rattle.fractions.specs.Number.{zero_ℚ};
+ghost use Rattle.fractions.specs.Order.{◌<ℚ◌};
+ghost use Rattle.fractions.specs.Ends.{AtLeast, AtMost, Between};
 ghost use Rattle.simplex_tableau.specs.Programs.{minimized};
 ghost use Rattle.lp_model.specs.Meaning.{meaning};
 ghost use Rattle.tableau_laws.specs.Variables.{variables, lower_end as lower_of, upper_end as upper_of};

@@ -1,10 +1,10 @@
 //! How far a variable can go.
 
 ghost use Rattle.std.specs.Prelude.{◌≡◌, ◌≢◌, ◌↔◌, ◌<◌, ◌+◌, ℕ, true, false, is_some, Option, Some, None, if◌then◌else◌, IsTrue, IfOk, IsOk, MatchOption};
-ghost use Rattle.rational.specs.Number.{Number, zero_ℚ, ◌*ℚ◌};
+ghost use Rattle.fractions.specs.Number.{Number, zero_ℚ, ◌*ℚ◌};
 ghost use Rattle.simplex_steps.specs.Best.{IsBest, IsNearest};
-ghost use Rattle.rational.specs.Compare.{lt_ℚ};
-ghost use Rattle.rational.specs.Ends.{less as less_of, over as over_of};
+ghost use Rattle.fractions.specs.Compare.{lt_ℚ};
+ghost use Rattle.fractions.specs.Ends.{less as less_of, over as over_of};
 ghost use Rattle.fractions.specs.EndWords.{LessFits, OverFits};
 ghost use Rattle.simplex_tableau.specs.Programs.{minimized};
 ghost use Rattle.tableau_laws.specs.Variables.{variables};

@@ -1,6 +1,6 @@
 -- A tableau as data.
 use Rattle.std.specs.Prelude.{◌≡◌, ℕ, Bool, true, false, List, [], length, slice_index_or}
-use Rattle.rational.specs.Number.{Number}
+use Rattle.fractions.specs.Number.{Number}
 use Rattle.lp_model.specs.Vectors.{vector_of}
 use Rattle.tableau_rows.specs.Places.{row_of}
 use Rattle.tableau_laws.specs.Tableaus.{Tableau}

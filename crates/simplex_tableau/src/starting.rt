@@ -1,7 +1,7 @@
 //! The parts of the tableau at which a run starts.
 
 ghost use Rattle.std.specs.Prelude.{◌≡◌, ◌↔◌, ℕ, ◌<◌, false, [], length, IfOk, IfErr, IsOk};
-ghost use Rattle.rational.specs.Number.{zero_ℚ};
+ghost use Rattle.fractions.specs.Number.{zero_ℚ};
 ghost use Rattle.lp_model.specs.Vectors.{vector_of};
 ghost use Rattle.lp_model.specs.Meaning.{meaning, column_at};
 ghost use Rattle.lp_model.specs.Gaps.{reach_lower as lowest, reach_upper as highest};

@@ -31,7 +31,7 @@ pub struct Tableau {
 impl Model for Tableau {
     ghost use Rattle.std.specs.Prelude.{◌≡◌, false, length};
     ghost use Rattle.std.specs.Coded.{codes};
-    ghost use Rattle.rational.specs.Lowest.{number_code};
+    ghost use Rattle.fractions.specs.Lowest.{number_code};
     ghost use Rattle.simplex_tableau.specs.Data.{TableauData, IsShaped};
 
     ghost Value = { TableauData };

@@ -1,7 +1,7 @@
 -- V1 of columns.
 use Rattle.std.proofs.Common.{◌≡◌, ℕ, Bool, true, false, Option, refl, sym, subst}
 use Rattle.std.specs.Prelude.{if◌then◌else◌}
-use Rattle.rational.specs.Number.{Number}
+use Rattle.fractions.specs.Number.{Number}
 use Rattle.lp_model.specs.Verdicts.{NoPoint}
 use Rattle.lp_theory.specs.Crossed.{AreCrossed}
 use Rattle.lp_columns.proofs.CrossedBounds.{crossed_column}

@@ -1,6 +1,6 @@
 -- K17: a column without entries is fixed where it costs least.
 use Rattle.std.specs.Prelude.{ℕ, ⊤, Bool, false, ◌&&◌, List, [], ◌∷◌, Option}
-use Rattle.rational.specs.Number.{Number}
+use Rattle.fractions.specs.Number.{Number}
 use Rattle.lp_columns.specs.EmptyColumn.{resting_place}
 use Rattle.undo_records.specs.declared.undo.Undo.{Undo}
 use Rattle.undo_records.specs.declared.undo.Undo.TheVariants as undo

@@ -1,7 +1,7 @@
 -- K2: a row with one entry becomes bounds of that entry's column.
 use Rattle.std.specs.Prelude.{ℕ, Bool, false, ◌&&◌, List, [], ◌∷◌, Option}
-use Rattle.rational.specs.Number.{Number}
-use Rattle.rational.specs.Ends.{meet_low, meet_high}
+use Rattle.fractions.specs.Number.{Number}
+use Rattle.fractions.specs.Ends.{meet_low, meet_high}
 use Rattle.fractions.specs.EndWords.{OverFits}
 use Rattle.lp_model.specs.declared.terms.Term.{Term}
 use Rattle.lp_theory.specs.MetEnds.{lower_over, upper_over}

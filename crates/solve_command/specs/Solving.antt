@@ -1,7 +1,7 @@
 -- What an ending of `solve` says of the files before and after it.
 use Rattle.std.specs.Prelude.{◌≡◌, ◌≢◌, ◌⊎◌, ◌==◌, ℕ, List, length, All, IfSome, Some, Result, Ok, Err}
-use Rattle.rational.specs.Lowest.{Fits}
-use Rattle.rational.specs.Number.{Number}
+use Rattle.fractions.specs.Lowest.{Fits}
+use Rattle.fractions.specs.Number.{Number}
 use Rattle.file_ports.specs.Ports.{KeepsOthers, Moment, Unsettled, Written}
 use Rattle.command_words.specs.Names.{SolveNames}
 use Rattle.lp_model.specs.LinearProgram.{cost_at}

@@ -1,7 +1,7 @@
 //! What is made of IN's text.
 
 ghost use Rattle.std.specs.Prelude.{◌≡◌, ◌≤◌, length, option_map, All, IfOk, IfSome, Some};
-ghost use Rattle.rational.specs.Lowest.{Fits};
+ghost use Rattle.fractions.specs.Lowest.{Fits};
 ghost use Rattle.lp_model.specs.Names.{names_of_columns, names_of_rows};
 ghost use Rattle.point_text.specs.PairText.{pair_text};
 ghost use Rattle.file_ports.specs.Ports.{Moment};

@@ -6,8 +6,8 @@ use Rattle.std.proofs.lemmas.Bool.{cases_lt}
 use Rattle.std.proofs.lemmas.List.{get_or-set_same, get_or-set_other, get_or_default, get_or_past, length-set}
 use Rattle.std.proofs.lemmas.List.Elements.{All-head, All-tail, filter-append}
 use Rattle.std.proofs.Math.Seq.{take-length}
-use Rattle.rational.specs.Number.{Number, zero_ℚ}
-use Rattle.rational.proofs.Totals.{at_or_off}
+use Rattle.fractions.specs.Number.{Number, zero_ℚ}
+use Rattle.fractions.proofs.Totals.{at_or_off}
 use Rattle.lp_model.specs.declared.terms.Term.{Term}
 use Rattle.lp_model.specs.Sparse.{Ascends, dense, has}
 use Rattle.problem_model.specs.Edits.{bounds_set, column_deleted, row_deleted}

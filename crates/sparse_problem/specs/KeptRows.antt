@@ -1,6 +1,6 @@
 -- What is kept of the rows of a problem.
 use Rattle.std.specs.Prelude.{◌≡◌, ℕ, false, List, Option, None, IfSome, slice_index_or, if◌then◌else◌}
-use Rattle.rational.specs.Number.{Number}
+use Rattle.fractions.specs.Number.{Number}
 use Rattle.lp_model.specs.Gaps.{reach_lower, reach_upper}
 use Rattle.lp_model.specs.declared.terms.Term.{Term}
 use Rattle.lp_model.specs.Sparse.{has}

@@ -1,7 +1,7 @@
 //! What is kept of rows, and how it is mended.
 
 ghost use Rattle.std.specs.Prelude.{◌≡◌, ◌≢◌, ◌++◌, ◌∷◌, [], true, false, List, IfOk, IfSome, slice_set};
-ghost use Rattle.rational.specs.Number.{zero_ℚ};
+ghost use Rattle.fractions.specs.Number.{zero_ℚ};
 ghost use Rattle.lp_model.specs.Sparse.{dense, has};
 ghost use Rattle.problem_model.specs.Edits.{bounds_set, column_deleted};
 ghost use Rattle.problem_model.specs.Problems.{bounds_at, column_at, row_at};

@@ -37,7 +37,7 @@ pub struct Problem {
 
 impl Model for Problem {
     ghost use Rattle.std.specs.Coded.{codes};
-    ghost use Rattle.rational.specs.Lowest.{number_code};
+    ghost use Rattle.fractions.specs.Lowest.{number_code};
     ghost use Rattle.problem_model.specs.Sparse.{Sparse};
 
     ghost Value = { Sparse };

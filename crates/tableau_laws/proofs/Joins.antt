@@ -1,10 +1,10 @@
 -- Functions that are joined from two, and their sums.
 use Rattle.std.proofs.Common.{◌≡◌, ℕ, zero, suc, ◌+◌, ◌-◌, ◌<◌, ◌≤◌, pos, refl, ap, ◌∙◌, arith, [], ◌∷◌, ◌⊎◌, inl, inr, subst}
 use Rattle.std.proofs.lemmas.Bool.{lt-ltb, le-ltb}
-use Rattle.rational.specs.Ring.{ring, v, num, ◌:+◌}
-use Rattle.rational.specs.Number.{Number, rational, zero_ℚ, ◌+ℚ◌}
-use Rattle.rational.specs.Total.{total}
-use Rattle.rational.proofs.Totals.{total-zero}
+use Rattle.fractions.specs.Ring.{ring, v, num, ◌:+◌}
+use Rattle.fractions.specs.Number.{Number, rational, zero_ℚ, ◌+ℚ◌}
+use Rattle.fractions.specs.Total.{total}
+use Rattle.fractions.proofs.Totals.{total-zero}
 use Rattle.tableau_laws.specs.Variables.{joined}
 
 pub joined-left : {A : Type 0} (n : ℕ) (f g : ℕ → A) (k : ℕ) → k < n → joined n f g k ≡ f k

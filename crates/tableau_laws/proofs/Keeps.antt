@@ -1,12 +1,12 @@
 -- Pivots and shifts keep what a tableau keeps.
 use Rattle.std.proofs.Common.{◌≡◌, ◌≢◌, ℕ, ◌<◌, pos, sym, refl, ap, ap₂, ◌∙◌, [], ◌∷◌, ◌⊎◌, inl, inr, subst, Bool, true, false, true≢false, Option, Some, None}
 use Rattle.std.proofs.lemmas.Bool.{cases_eq}
-use Rattle.rational.specs.Ring.{ring, v, num, ◌:+◌, ◌:-◌, ◌:*◌, inv}
-use Rattle.rational.specs.Number.{Number, rational, zero_ℚ, one_ℚ, ◌+ℚ◌, ◌-ℚ◌, ◌*ℚ◌, neg_ℚ}
-use Rattle.rational.specs.Inverse.{inv_ℚ, ◌/ℚ◌}
-use Rattle.rational.specs.Total.{total, put}
-use Rattle.rational.proofs.Totals.{total_same, total-put_point, put-same, put-other, at_or_off}
-use Rattle.rational.proofs.Signs.{over-times}
+use Rattle.fractions.specs.Ring.{ring, v, num, ◌:+◌, ◌:-◌, ◌:*◌, inv}
+use Rattle.fractions.specs.Number.{Number, rational, zero_ℚ, one_ℚ, ◌+ℚ◌, ◌-ℚ◌, ◌*ℚ◌, neg_ℚ}
+use Rattle.fractions.specs.Inverse.{inv_ℚ, ◌/ℚ◌}
+use Rattle.fractions.specs.Total.{total, put}
+use Rattle.fractions.proofs.Totals.{total_same, total-put_point, put-same, put-other, at_or_off}
+use Rattle.fractions.proofs.Signs.{over-times}
 use Rattle.lp_model.specs.Vectors.{Vector}
 use Rattle.lp_model.specs.LinearProgram.{LinearProgram}
 use Rattle.tableau_laws.specs.Variables.{lower_end, upper_end, Rests}

@@ -1,11 +1,11 @@
 -- A pivot keeps the points that solve a tableau, and what they cost.
 use Rattle.std.proofs.Common.{◌≡◌, ◌≢◌, ℕ, ◌<◌, pos, sym, refl, ap, ap₂, ◌∙◌, [], ◌∷◌, inl, inr, true, false, true≢false}
 use Rattle.std.proofs.lemmas.Bool.{cases_eq}
-use Rattle.rational.specs.Ring.{ring, v, num, ◌:+◌, ◌:-◌, ◌:*◌, inv}
-use Rattle.rational.specs.Number.{Number, rational, zero_ℚ, one_ℚ, ◌+ℚ◌, ◌-ℚ◌, ◌*ℚ◌, neg_ℚ}
-use Rattle.rational.specs.Inverse.{inv_ℚ, ◌/ℚ◌, *ℚ-inv_ℚ}
-use Rattle.rational.specs.Total.{total, put}
-use Rattle.rational.proofs.Totals.{total_same, total-+, total-*, total-put_factor, put-same, put-other, at_or_off}
+use Rattle.fractions.specs.Ring.{ring, v, num, ◌:+◌, ◌:-◌, ◌:*◌, inv}
+use Rattle.fractions.specs.Number.{Number, rational, zero_ℚ, one_ℚ, ◌+ℚ◌, ◌-ℚ◌, ◌*ℚ◌, neg_ℚ}
+use Rattle.fractions.specs.Inverse.{inv_ℚ, ◌/ℚ◌, *ℚ-inv_ℚ}
+use Rattle.fractions.specs.Total.{total, put}
+use Rattle.fractions.proofs.Totals.{total_same, total-+, total-*, total-put_factor, put-same, put-other, at_or_off}
 use Rattle.lp_model.specs.Vectors.{Vector}
 use Rattle.tableau_laws.specs.Tableaus.{Tableau, turned_row, replaced, pivoted, Solves, CanPivot}
 use Rattle.tableau_laws.specs.Keeping.{IsSplit}

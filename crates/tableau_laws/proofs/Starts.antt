@@ -1,9 +1,9 @@
 -- The tableau at which a run starts.
 use Rattle.std.proofs.Common.{◌≡◌, ℕ, ◌+◌, ◌<◌, pos, sym, refl, ap, ◌∙◌, arith, [], ◌∷◌, subst, true, false, true≢false, Option, Some, None, inl}
-use Rattle.rational.specs.Ring.{ring, v, num, ◌:*◌}
-use Rattle.rational.specs.Number.{Number, rational, zero_ℚ, ◌*ℚ◌}
-use Rattle.rational.specs.Total.{total}
-use Rattle.rational.proofs.Totals.{total_same}
+use Rattle.fractions.specs.Ring.{ring, v, num, ◌:*◌}
+use Rattle.fractions.specs.Number.{Number, rational, zero_ℚ, ◌*ℚ◌}
+use Rattle.fractions.specs.Total.{total}
+use Rattle.fractions.proofs.Totals.{total_same}
 use Rattle.lp_model.specs.Vectors.{Vector}
 use Rattle.lp_model.specs.LinearProgram.{LinearProgram, value_at}
 use Rattle.tableau_laws.specs.Variables.{joined, variables, resting, lower_end, upper_end, IsExtended, Rests}

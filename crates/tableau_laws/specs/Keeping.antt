@@ -1,7 +1,7 @@
 -- What a tableau of a program keeps.
 use Rattle.std.specs.Prelude.{◌≡◌, ◌↔◌, ℕ, ◌<◌, true, false}
-use Rattle.rational.specs.Number.{zero_ℚ, ◌*ℚ◌}
-use Rattle.rational.specs.Total.{total}
+use Rattle.fractions.specs.Number.{zero_ℚ, ◌*ℚ◌}
+use Rattle.fractions.specs.Total.{total}
 use Rattle.lp_model.specs.Vectors.{Vector}
 use Rattle.lp_model.specs.LinearProgram.{LinearProgram}
 use Rattle.tableau_laws.specs.Variables.{variables, lower_end, upper_end, IsExtended, Rests}

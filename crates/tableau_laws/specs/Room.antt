@@ -1,8 +1,8 @@
 -- When the numbers of a tableau have room: those of the start, of a pivot and of a shift.
 use Rattle.std.specs.Prelude.{◌≢◌, ℕ, ◌<◌}
-use Rattle.rational.specs.Number.{Number, zero_ℚ, one_ℚ, ◌*ℚ◌, neg_ℚ}
-use Rattle.rational.specs.Division.{◌/ℚ◌}
-use Rattle.rational.specs.Lowest.{Fits}
+use Rattle.fractions.specs.Number.{Number, zero_ℚ, one_ℚ, ◌*ℚ◌, neg_ℚ}
+use Rattle.fractions.specs.Division.{◌/ℚ◌}
+use Rattle.fractions.specs.Lowest.{Fits}
 use Rattle.fractions.specs.FracWords.{SumFits}
 use Rattle.lp_model.specs.Vectors.{Vector}
 use Rattle.lp_model.specs.LinearProgram.{LinearProgram}

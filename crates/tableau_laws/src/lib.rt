@@ -4,7 +4,7 @@
 #![tactic(auto)]
 
 ghost use Rattle.std.specs.Prelude.{◌≡◌, ℕ};
-ghost use Rattle.rational.specs.Number.{Number, ◌+ℚ◌};
+ghost use Rattle.fractions.specs.Number.{Number, ◌+ℚ◌};
 ghost use Rattle.lp_model.specs.LinearProgram.{LinearProgram};
 ghost use Rattle.tableau_laws.specs.Variables.{lower_end, upper_end, Rests};
 ghost use Rattle.tableau_laws.specs.Tableaus.{Tableau, start, pivoted, shifted, CanPivot, CanShift};

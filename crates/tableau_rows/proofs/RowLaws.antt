@@ -3,11 +3,11 @@ use Rattle.std.specs.Prelude.{OnOk}
 use Rattle.std.proofs.Math.Seq.{take-append_seam}
 use Rattle.std.proofs.Common.{Result, ◌++◌, take, drop, ◌≡◌, ◌≢◌, ℕ, ◌<◌, ◌≤◌, ◌⊎◌, inl, inr, List, length, get_or, set, pos, sym, refl, ap, ap₂, ◌∙◌, [], ◌∷◌, arith, subst}
 use Rattle.std.proofs.lemmas.List.{get_or-set_same, get_or-set_other, length-set, get_or_past}
-use Rattle.rational.specs.Ring.{ring, v, num, ◌:+◌, ◌:*◌, inv}
-use Rattle.rational.specs.Number.{Number, rational, zero_ℚ, one_ℚ, ◌+ℚ◌, ◌*ℚ◌, neg_ℚ}
-use Rattle.rational.specs.Division.{inv_ℚ, ◌/ℚ◌}
-use Rattle.rational.specs.Total.{put}
-use Rattle.rational.proofs.Totals.{put-same, put-other, at_or_off}
+use Rattle.fractions.specs.Ring.{ring, v, num, ◌:+◌, ◌:*◌, inv}
+use Rattle.fractions.specs.Number.{Number, rational, zero_ℚ, one_ℚ, ◌+ℚ◌, ◌*ℚ◌, neg_ℚ}
+use Rattle.fractions.specs.Division.{inv_ℚ, ◌/ℚ◌}
+use Rattle.fractions.specs.Total.{put}
+use Rattle.fractions.proofs.Totals.{put-same, put-other, at_or_off}
 use Rattle.tableau_rows.specs.Places.{row_of, TurnedAt, GainedAt, MovedAt, Everywhere, Turns, Replaces, Moves, MovesTo}
 use Rattle.lp_model.specs.Vectors.{Vector, vector_of}
 use Rattle.tableau_laws.specs.Tableaus.{turned, replacing}

@@ -1,9 +1,9 @@
 -- What becomes of a number at one place of a row.
 use Rattle.std.specs.Prelude.{◌≡◌, ◌≢◌, ℕ, ◌<◌, List, [], length, slice_index_or}
-use Rattle.rational.specs.Number.{Number, zero_ℚ, ◌+ℚ◌, ◌*ℚ◌, neg_ℚ}
-use Rattle.rational.specs.Division.{◌/ℚ◌}
-use Rattle.rational.specs.Lowest.{Fits}
-use Rattle.rational.specs.Total.{put}
+use Rattle.fractions.specs.Number.{Number, zero_ℚ, ◌+ℚ◌, ◌*ℚ◌, neg_ℚ}
+use Rattle.fractions.specs.Division.{◌/ℚ◌}
+use Rattle.fractions.specs.Lowest.{Fits}
+use Rattle.fractions.specs.Total.{put}
 use Rattle.lp_model.specs.Vectors.{Vector, vector_of}
 use Rattle.tableau_laws.specs.Room.{GainFits, RowFits}
 use Rattle.tableau_laws.specs.Tableaus.{turned, replacing}

@@ -1,7 +1,7 @@
 -- A pivot of the rows and the prices.
 use Rattle.std.specs.Prelude.{◌≡◌, ◌≢◌, ℕ, ◌<◌, List, [], length, slice_index_or}
-use Rattle.rational.specs.Number.{Number, zero_ℚ}
-use Rattle.rational.specs.Total.{put}
+use Rattle.fractions.specs.Number.{Number, zero_ℚ}
+use Rattle.fractions.specs.Total.{put}
 use Rattle.lp_model.specs.Vectors.{Vector, vector_of}
 use Rattle.tableau_laws.specs.Tableaus.{turned, replacing}
 use Rattle.tableau_laws.specs.Room.{TurnFits, RowFits}

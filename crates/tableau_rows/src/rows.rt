@@ -1,10 +1,10 @@
 //! Rows of numbers, one for each variable.
 
 ghost use Rattle.std.specs.Prelude.{◌≡◌, ◌≢◌, ◌↔◌, ℕ, ◌<◌, [], length, slice_index_or, IfOk, IsOk, OnOk};
-ghost use Rattle.rational.specs.Number.{zero_ℚ, one_ℚ, ◌+ℚ◌, ◌-ℚ◌, ◌*ℚ◌, neg_ℚ};
+ghost use Rattle.fractions.specs.Number.{zero_ℚ, one_ℚ, ◌+ℚ◌, ◌-ℚ◌, ◌*ℚ◌, neg_ℚ};
 ghost use Rattle.fractions.specs.FracWords.{SumFits};
-ghost use Rattle.rational.specs.Division.{◌/ℚ◌};
-ghost use Rattle.rational.specs.Lowest.{Fits};
+ghost use Rattle.fractions.specs.Division.{◌/ℚ◌};
+ghost use Rattle.fractions.specs.Lowest.{Fits};
 ghost use Rattle.lp_model.specs.Vectors.{vector_of};
 ghost use Rattle.tableau_laws.specs.Tableaus.{turned, replacing};
 ghost use Rattle.tableau_laws.specs.Room.{GainFits, TurnFits, RowFits, ValuesFit};
@@ -23,8 +23,8 @@ pub struct Row {
 impl Model for Row {
     ghost use Rattle.std.specs.Prelude.{List};
     ghost use Rattle.std.specs.Coded.{codes};
-    ghost use Rattle.rational.specs.Lowest.{number_code};
-    ghost use Rattle.rational.specs.Number.{Number};
+    ghost use Rattle.fractions.specs.Lowest.{number_code};
+    ghost use Rattle.fractions.specs.Number.{Number};
 
     ghost Value = { List Number };
 

@@ -1,6 +1,6 @@
 -- As many numbers, the same by id, are the same.
 use Rattle.std.proofs.Common.{◌≡◌, zero, suc, List, [], ◌∷◌, length, refl, ap, ap₂, arith}
-use Rattle.rational.specs.Number.{Number}
+use Rattle.fractions.specs.Number.{Number}
 use Rattle.lp_model.specs.Vectors.{Vector, vector_of}
 
 pub numbers_same : (xs ys : List Number) → length xs ≡ length ys → vector_of xs ≡ vector_of ys → xs ≡ ys

@@ -2,8 +2,8 @@
 use Rattle.std.proofs.Common.{◌≡◌, true, List, length, Option, Some, None, IfSome, sym, ap, ◌∙◌, subst}
 use Rattle.std.specs.List.{All}
 use Rattle.std.proofs.lemmas.List.{length-map}
-use Rattle.rational.specs.Number.{Number}
-use Rattle.rational.specs.Lowest.{Fits}
+use Rattle.fractions.specs.Number.{Number}
+use Rattle.fractions.specs.Lowest.{Fits}
 use Rattle.command_words.specs.Names.{PresolveNames}
 use Rattle.lp_model.specs.declared.program.Sense.{Sense}
 use Rattle.lp_model.specs.LinearProgram.{cost_at, Feasible}

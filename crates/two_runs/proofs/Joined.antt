@@ -1,6 +1,6 @@
 -- What two runs say, of the programs, records, points and duals that the bytes give.
 use Rattle.std.proofs.Common.{◌≡◌, ℕ, true, List, Option, Some, None, sym, ap, ◌∙◌, subst}
-use Rattle.rational.specs.Number.{Number}
+use Rattle.fractions.specs.Number.{Number}
 use Rattle.file_ports.specs.Ports.{Told, Written}
 use Rattle.command_words.specs.Names.{PostsolveNames, PresolveNames}
 use Rattle.lp_model.specs.Meaning.{meaning}

@@ -1,7 +1,7 @@
 -- What records make of a point, or of a point with duals, is one.
 use Rattle.std.proofs.Common.{◌≡◌, ◌⊎◌, inl, inr, ℕ, pred, ◌<◌, ◌≤◌, List, drop, Option, Some, None, sym, refl, ap, ◌∙◌, arith}
 use Rattle.std.proofs.lemmas.Bool.{cases_lt}
-use Rattle.rational.specs.Number.{Number}
+use Rattle.fractions.specs.Number.{Number}
 use Rattle.lp_model.specs.LinearProgram.{LinearProgram}
 use Rattle.lp_model.specs.Meaning.{meaning}
 use Rattle.lp_model.specs.ProgramData.{ProgramData}

@@ -1,6 +1,6 @@
 -- A solution comes back by two runs.
 use Rattle.std.specs.Prelude.{◌≡◌, ℕ, List, Some, None}
-use Rattle.rational.specs.Number.{Number, ◌+ℚ◌}
+use Rattle.fractions.specs.Number.{Number, ◌+ℚ◌}
 use Rattle.command_words.specs.Names.{PostsolveNames, PresolveNames}
 use Rattle.lp_model.specs.LinearProgram.{cost_at, Feasible}
 use Rattle.lp_model.specs.Meaning.{meaning}

@@ -1,6 +1,6 @@
 -- A presolve, and later a postsolve of what it left.
 use Rattle.std.specs.Prelude.{◌≡◌, ℕ, List, All, Option, Some, IfSome}
-use Rattle.rational.specs.Number.{Number}
+use Rattle.fractions.specs.Number.{Number}
 use Rattle.file_ports.specs.Ports.{Moment}
 use Rattle.command_words.specs.Names.{PostsolveNames, PresolveNames}
 use Rattle.lp_model.specs.Names.{names_of_columns, names_of_rows}

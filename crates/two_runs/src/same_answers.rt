@@ -1,7 +1,7 @@
 //! What is said of the same programs, points and records is one; and so is what a command prints and writes of the same bytes.
 
 ghost use Rattle.std.specs.Prelude.{◌≡◌, ℕ, List, Option};
-ghost use Rattle.rational.specs.Number.{Number};
+ghost use Rattle.fractions.specs.Number.{Number};
 ghost use Rattle.lp_model.specs.ProgramData.{ProgramData};
 ghost use Rattle.undo_records.specs.Postsolve.{Postsolve};
 ghost use Rattle.postsolve_command.specs.Lifted.{IsLifted, Stops};

@@ -2,7 +2,7 @@
 
 ghost use Rattle.std.specs.Prelude.{◌≡◌, ◌≢◌, ◌<◌, [], ◌∷◌, ◌++◌, ℕ, length, true, None, IfErr, IfOk, IfSome, OnErr, OnOk};
 ghost use Rattle.std.specs.Bool.{MatchBool};
-ghost use Rattle.rational.specs.Number.{◌-ℚ◌};
+ghost use Rattle.fractions.specs.Number.{◌-ℚ◌};
 ghost use Rattle.lp_model.specs.declared.program.Sense.TheVariants.{Min};
 ghost use Rattle.lp_model.specs.Reductions.{Reduces};
 ghost use Rattle.undo_records.specs.Lift.{lift};
@@ -59,7 +59,7 @@ pub struct Book {
 
 impl Model for Book {
     ghost use Rattle.std.specs.Coded.{codes};
-    ghost use Rattle.rational.specs.Lowest.{number_code};
+    ghost use Rattle.fractions.specs.Lowest.{number_code};
     ghost use Rattle.presolve_model.specs.Ledger.{Ledger};
 
     ghost Value = { Ledger };

@@ -4,8 +4,8 @@ use Rattle.std.proofs.Math.ListN.{set, get_or-append}
 use Rattle.std.proofs.Math.Seq.{get_or-append_seam}
 use Rattle.std.proofs.lemmas.Bool.{eq-eqb, eqb-true, ne_eqb, cases_eq}
 use Rattle.std.proofs.lemmas.List.{length-append}
-use Rattle.rational.specs.Total.{put}
-use Rattle.rational.proofs.Totals.{put-same, put-other, at_or_off}
+use Rattle.fractions.specs.Total.{put}
+use Rattle.fractions.proofs.Totals.{put-same, put-other, at_or_off}
 use Rattle.txn_world.specs.Workers.{WorkerData, newcomer, worker_in, nth_worker, IsAbsent, IsAt, SameWorkers, Replaces}
 
 at_tail : (d : WorkerData) (ds : List WorkerData) (w i : ℕ) → IsAt (d ∷ ds) w (suc i) → IsAt ds w i

@@ -18,7 +18,7 @@ pub struct Worker {
 
 impl Model for Worker {
     ghost use Rattle.std.specs.Coded.{codes};
-    ghost use Rattle.rational.specs.Lowest.{number_code};
+    ghost use Rattle.fractions.specs.Lowest.{number_code};
     ghost use Rattle.txn_world.specs.Workers.{WorkerData};
 
     ghost Value = { WorkerData };

@@ -1,11 +1,11 @@
 -- What undoing makes of a pair: a value and a reduced cost for each original column, a dual for each original row, minimizing.
 use Rattle.std.specs.Prelude.{ℕ, Bool, not, ◌&&◌, List, [], ◌∷◌, if◌then◌else◌, Option, Some}
-use Rattle.rational.specs.Number.{Number, zero_ℚ, neg_ℚ, ◌+ℚ◌, ◌-ℚ◌, ◌*ℚ◌}
-use Rattle.rational.specs.Compare.{lt_ℚ}
-use Rattle.rational.specs.Division.{◌/ℚ◌}
-use Rattle.rational.specs.MinMax.{min_ℚ, max_ℚ}
-use Rattle.rational.specs.Ends.{same_end}
-use Rattle.rational.specs.Total.{put}
+use Rattle.fractions.specs.Number.{Number, zero_ℚ, neg_ℚ, ◌+ℚ◌, ◌-ℚ◌, ◌*ℚ◌}
+use Rattle.fractions.specs.Compare.{lt_ℚ}
+use Rattle.fractions.specs.Division.{◌/ℚ◌}
+use Rattle.fractions.specs.MinMax.{min_ℚ, max_ℚ}
+use Rattle.fractions.specs.Ends.{same_end}
+use Rattle.fractions.specs.Total.{put}
 use Rattle.lp_model.specs.declared.terms.Term.{Term}
 use Rattle.lp_model.specs.Vectors.{Vector}
 use Rattle.lp_model.specs.Sparse.{dense, sparse_total}

@@ -1,13 +1,13 @@
 -- The number between two ends that is nearest to 0 is between them, and no number between them is nearer.
 use Rattle.std.proofs.Common.{◌≡◌, Bool, true, false, not, IsTrue, if◌then◌else◌, Option, Some, None, pos, [], ◌∷◌, refl, sym, ◌∙◌}
-use Rattle.rational.specs.Ring.{ring, v, num, inv, ◌:-◌}
-use Rattle.rational.specs.Number.{Number, rational, zero_ℚ, neg_ℚ}
-use Rattle.rational.specs.MinMax.{abs_ℚ}
-use Rattle.rational.specs.Order.{◌≤ℚ◌, ≤ℚ_refl, ≤ℚ_trans, ≤ℚ-by, <ℚ-≤ℚ}
-use Rattle.rational.specs.Compare.{lt_ℚ}
-use Rattle.rational.specs.Ends.{AtMost, Between}
-use Rattle.rational.proofs.Comparisons.{le_ℚ-is, lt_ℚ-is, lt_ℚ-not}
-use Rattle.rational.proofs.MinMaxLaws.{abs_ℚ_pos, ≤ℚ-abs_ℚ, neg_ℚ-≤-abs_ℚ, abs_ℚ-≤}
+use Rattle.fractions.specs.Ring.{ring, v, num, inv, ◌:-◌}
+use Rattle.fractions.specs.Number.{Number, rational, zero_ℚ, neg_ℚ}
+use Rattle.fractions.specs.MinMax.{abs_ℚ}
+use Rattle.fractions.specs.Order.{◌≤ℚ◌, ≤ℚ_refl, ≤ℚ_trans, ≤ℚ-by, <ℚ-≤ℚ}
+use Rattle.fractions.specs.Compare.{lt_ℚ}
+use Rattle.fractions.specs.Ends.{AtMost, Between}
+use Rattle.fractions.proofs.Comparisons.{le_ℚ-is, lt_ℚ-is, lt_ℚ-not}
+use Rattle.fractions.proofs.MinMaxLaws.{abs_ℚ_pos, ≤ℚ-abs_ℚ, neg_ℚ-≤-abs_ℚ, abs_ℚ-≤}
 use Rattle.undo_records.specs.Near.{zero_or_below, near}
 
 so : (t : Bool) → false ≡ not t → IsTrue t

@@ -2,7 +2,7 @@
 use Rattle.std.proofs.Common.{◌≡◌, ℕ, zero, suc, ◌≤◌, Bool, List, length, replicate, sym, ap, ◌∙◌, subst, arith, All}
 use Rattle.std.proofs.lemmas.List.{length-replicate}
 use Rattle.std.proofs.lemmas.List.Elements.{All-nil, All-cons}
-use Rattle.rational.specs.Number.{Number}
+use Rattle.fractions.specs.Number.{Number}
 use Rattle.lp_model.specs.declared.program.Sense.{Sense}
 use Rattle.transactions.specs.Transactions.{Transaction, IsPartOf, VersionsBelow, untold}
 use Rattle.undo_records.specs.declared.label.Label.{Label}

@@ -1,9 +1,9 @@
 -- When sums, products, differences and quotients have room.
 use Rattle.std.specs.Prelude.{List, [], ◌∷◌, Option, Some, None, ⊤}
-use Rattle.rational.specs.Number.{Number, neg_ℚ, ◌+ℚ◌, ◌-ℚ◌, ◌*ℚ◌}
-use Rattle.rational.specs.Division.{◌/ℚ◌}
-use Rattle.rational.specs.Lowest.{Fits}
-use Rattle.rational.specs.Ends.{less, minus_ends}
+use Rattle.fractions.specs.Number.{Number, neg_ℚ, ◌+ℚ◌, ◌-ℚ◌, ◌*ℚ◌}
+use Rattle.fractions.specs.Division.{◌/ℚ◌}
+use Rattle.fractions.specs.Lowest.{Fits}
+use Rattle.fractions.specs.Ends.{less, minus_ends}
 use Rattle.lp_model.specs.FracWords.{SumFits}
 use Rattle.lp_model.specs.declared.terms.Term.{Term}
 use Rattle.lp_model.specs.Vectors.{Vector}

@@ -1,6 +1,6 @@
 -- K3: a column with equal bounds was deleted.
 use Rattle.std.specs.Prelude.{ℕ, ◌<◌, List, [], ◌∷◌}
-use Rattle.rational.specs.Total.{put}
+use Rattle.fractions.specs.Total.{put}
 use Rattle.lp_model.specs.Vectors.{Vector}
 use Rattle.lp_model.specs.Sparse.{Ascends}
 use Rattle.undo_records.specs.declared.kinds.fixed_column.FixedColumn.{FixedColumn}

@@ -1,6 +1,6 @@
 -- Ids of rows and columns, entries and lists of terms, as records name them.
 use Rattle.std.specs.Prelude.{◌≢◌, ◌≡◌, ℕ, ◌<◌, Bool, false, List, map, slice_index_or}
-use Rattle.rational.specs.Number.{Number, zero_ℚ}
+use Rattle.fractions.specs.Number.{Number, zero_ℚ}
 use Rattle.lp_model.specs.declared.terms.Term.{Term}
 use Rattle.lp_model.specs.Sparse.{Ascends, has}
 

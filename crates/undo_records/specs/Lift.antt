@@ -1,6 +1,6 @@
 -- What undoing makes of a point: a number for each original column.
 use Rattle.std.specs.Prelude.{List, [], ◌∷◌, drop, if◌then◌else◌}
-use Rattle.rational.specs.Number.{Number, zero_ℚ}
+use Rattle.fractions.specs.Number.{Number, zero_ℚ}
 use Rattle.lp_model.specs.Vectors.{Vector, vector_of}
 use Rattle.undo_records.specs.declared.label.Label.{Label}
 use Rattle.undo_records.specs.declared.undo.Undo.{Undo}

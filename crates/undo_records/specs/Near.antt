@@ -1,8 +1,8 @@
 -- The number of a range that is nearest to 0.
 use Rattle.std.specs.Prelude.{if◌then◌else◌, Option, Some, None}
-use Rattle.rational.specs.Number.{Number, zero_ℚ}
-use Rattle.rational.specs.Compare.{lt_ℚ}
-use Rattle.rational.specs.Ends.{meet_low, meet_high, over}
+use Rattle.fractions.specs.Number.{Number, zero_ℚ}
+use Rattle.fractions.specs.Compare.{lt_ℚ}
+use Rattle.fractions.specs.Ends.{meet_low, meet_high, over}
 
 -- hi where hi < 0, else 0
 abbrev pub zero_or_below : Option Number → Number

@@ -1,6 +1,6 @@
 -- K15: a row that is a multiple of another was deleted, and the other one's sides were met with its sides over the factor.
 use Rattle.std.specs.Prelude.{◌≢◌, ℕ, List, [], ◌∷◌}
-use Rattle.rational.specs.Number.{zero_ℚ}
+use Rattle.fractions.specs.Number.{zero_ℚ}
 use Rattle.lp_model.specs.Sparse.{Ascends}
 use Rattle.undo_records.specs.declared.kinds.parallel_rows.ParallelRows.{ParallelRows}
 use Rattle.undo_records.specs.Ids.{AreTwo, ids_of}

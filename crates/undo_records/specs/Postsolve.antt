@@ -1,6 +1,6 @@
 -- What brings a solution of the reduced program back.
 use Rattle.std.specs.Prelude.{Bool, List}
-use Rattle.rational.specs.Number.{Number}
+use Rattle.fractions.specs.Number.{Number}
 use Rattle.lp_model.specs.declared.program.Sense.{Sense}
 use Rattle.undo_records.specs.declared.label.Label.{Label}
 use Rattle.undo_records.specs.declared.undo.Undo.{Undo}

@@ -1,10 +1,10 @@
 //! What holds of all records. The functions do nothing when they run: each states laws, and its check proves them.
 
 ghost use Rattle.std.specs.Prelude.{◌≡◌, ◌≢◌, ℕ, List, [], ◌∷◌, ◌++◌, All, Option, Some};
-ghost use Rattle.rational.specs.Number.{Number, zero_ℚ, ◌+ℚ◌, ◌*ℚ◌};
-ghost use Rattle.rational.specs.Order.{◌≤ℚ◌};
-ghost use Rattle.rational.specs.Ends.{Between};
-ghost use Rattle.rational.specs.MinMax.{abs_ℚ};
+ghost use Rattle.fractions.specs.Number.{Number, zero_ℚ, ◌+ℚ◌, ◌*ℚ◌};
+ghost use Rattle.fractions.specs.Order.{◌≤ℚ◌};
+ghost use Rattle.fractions.specs.Ends.{Between};
+ghost use Rattle.fractions.specs.MinMax.{abs_ℚ};
 ghost use Rattle.lp_model.specs.declared.terms.Term.{Term};
 ghost use Rattle.lp_model.specs.Sparse.{sparse_total};
 ghost use Rattle.lp_model.specs.Vectors.{Vector};

@@ -31,7 +31,7 @@ pub struct Records {
 
 impl Model for Records {
     ghost use Rattle.std.specs.Coded.{codes};
-    ghost use Rattle.rational.specs.Lowest.{number_code};
+    ghost use Rattle.fractions.specs.Lowest.{number_code};
     ghost use Rattle.undo_records.specs.Postsolve.{Postsolve};
 
     ghost Value = { Postsolve };

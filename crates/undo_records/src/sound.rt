@@ -1,7 +1,7 @@
 //! Whether the parts of a record are sound: ids, entries and lists.
 
 ghost use Rattle.std.specs.Prelude.{◌≡◌, ◌≢◌, ◌<◌, ◌≤◌, IsTrue, ◌↔◌};
-ghost use Rattle.rational.specs.Number.{zero_ℚ};
+ghost use Rattle.fractions.specs.Number.{zero_ℚ};
 ghost use Rattle.lp_model.specs.Sparse.{Ascends, has};
 ghost use Rattle.undo_records.specs.Ids.{AreOthers, AreTwo, IsEntry};
 

@@ -1,7 +1,7 @@
 //! Whether the records of a run are sound.
 
 ghost use Rattle.std.specs.Prelude.{◌≡◌, ◌↔◌, Bool, List, All, IfOk, IsTrue, length};
-ghost use Rattle.rational.specs.Number.{Number};
+ghost use Rattle.fractions.specs.Number.{Number};
 ghost use Rattle.lp_model.specs.declared.program.Sense.{Sense};
 ghost use Rattle.undo_records.specs.Sound.{IsSound};
 ghost use Rattle.transactions.specs.Transactions.{Transaction};

@@ -1,6 +1,6 @@
 -- What a run concluded walks.
 use Rattle.std.proofs.Common.{◌≡◌, true, List, [], ◌∷◌, map, Option, Some, None, inr, refl, sym, ap, ◌∙◌, subst, get_or}
-use Rattle.rational.specs.Number.{Number}
+use Rattle.fractions.specs.Number.{Number}
 use Rattle.fractions.specs.declared.Numbers.{Numbers}
 use Rattle.fractions.specs.declared.Numbers.TheVariants.{Decimal, Fractions}
 use Rattle.lp_model.specs.Ends.{IsWritten, WidthIsWritten}

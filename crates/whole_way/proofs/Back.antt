@@ -1,7 +1,7 @@
 -- Points come back.
 use Rattle.std.proofs.Common.{◌≡◌, ℕ, ◌<◌, List, length, sym, ap, ◌∙◌, subst}
 use Rattle.std.proofs.lemmas.List.{length-map}
-use Rattle.rational.specs.Number.{Number, ◌+ℚ◌}
+use Rattle.fractions.specs.Number.{Number, ◌+ℚ◌}
 use Rattle.lp_model.specs.LinearProgram.{cost_at, Feasible}
 use Rattle.lp_model.specs.Meaning.{meaning}
 use Rattle.lp_model.specs.ProgramData.{ProgramData}

@@ -1,6 +1,6 @@
 -- How a run ended is told of the program that is written too.
 use Rattle.std.proofs.Common.{◌≡◌, ℕ, List, length, slice_index, sym, ap, ◌∙◌, subst}
-use Rattle.rational.specs.Number.{Number}
+use Rattle.fractions.specs.Number.{Number}
 use Rattle.fractions.specs.declared.Numbers.{Numbers}
 use Rattle.lp_model.specs.ProgramData.{ProgramData}
 use Rattle.lp_model.specs.Turning.{signed}

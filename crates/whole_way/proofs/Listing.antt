@@ -1,9 +1,9 @@
 -- Points as lists, and points that agree at all columns.
 use Rattle.std.proofs.Common.{◌≡◌, ℕ, zero, suc, ◌<◌, List, [], ◌∷◌, length, refl, ap, subst, arith}
-use Rattle.rational.specs.Number.{Number, ◌+ℚ◌, ◌*ℚ◌}
-use Rattle.rational.specs.Ends.{Between}
-use Rattle.rational.specs.Floor.{IsWhole}
-use Rattle.rational.proofs.Totals.{total_same}
+use Rattle.fractions.specs.Number.{Number, ◌+ℚ◌, ◌*ℚ◌}
+use Rattle.fractions.specs.Ends.{Between}
+use Rattle.fractions.specs.Floor.{IsWhole}
+use Rattle.fractions.proofs.Totals.{total_same}
 use Rattle.lp_model.specs.Vectors.{Vector, vector_of}
 use Rattle.lp_model.specs.Gaps.{Clears}
 use Rattle.lp_model.specs.LinearProgram.{LinearProgram, value_at, cost_at, Feasible}

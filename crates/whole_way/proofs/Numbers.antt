@@ -1,7 +1,7 @@
 -- What can be written can be written with fractions.
 use Rattle.std.proofs.Common.{Option, Some, None, IfSome}
 use Rattle.std.proofs.lemmas.List.Elements.{All-weaker}
-use Rattle.rational.specs.Number.{Number, ◌-ℚ◌}
+use Rattle.fractions.specs.Number.{Number, ◌-ℚ◌}
 use Rattle.fractions.specs.declared.Numbers.{Numbers}
 use Rattle.fractions.specs.declared.Numbers.TheVariants.{Decimal, Fractions}
 use Rattle.lp_model.specs.declared.program.RowDef.{RowDef}

@@ -1,7 +1,7 @@
 -- Placed numbers are spread.
 use Rattle.std.proofs.Common.{◌≡◌, ℕ, zero, suc, ◌+◌, ◌<◌, Bool, true, false, List, [], ◌∷◌, drop, sym, refl, ap, ◌∙◌, arith}
-use Rattle.rational.specs.Number.{Number, zero_ℚ}
-use Rattle.rational.proofs.Totals.{put-same, put-other}
+use Rattle.fractions.specs.Number.{Number, zero_ℚ}
+use Rattle.fractions.proofs.Totals.{put-same, put-other}
 use Rattle.lp_model.specs.Vectors.{Vector, vector_of}
 use Rattle.lp_passages.specs.Renumbering.{spread}
 use Rattle.undo_records.specs.declared.label.Label.{Label}

@@ -1,6 +1,6 @@
 -- What it means that a point of the reduced program comes back, and a pair.
 use Rattle.std.specs.Prelude.{◌≡◌, List, length}
-use Rattle.rational.specs.Number.{Number, ◌+ℚ◌}
+use Rattle.fractions.specs.Number.{Number, ◌+ℚ◌}
 use Rattle.lp_model.specs.declared.program.Sense.{Sense}
 use Rattle.lp_model.specs.LinearProgram.{LinearProgram, cost_at, Feasible}
 use Rattle.lp_model.specs.Meaning.{meaning}

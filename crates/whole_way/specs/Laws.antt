@@ -1,6 +1,6 @@
 -- The laws of the whole way.
 use Rattle.std.specs.Prelude.{◌≡◌, ℕ, true, List, length, slice_index, Some, None, All}
-use Rattle.rational.specs.Number.{Number}
+use Rattle.fractions.specs.Number.{Number}
 use Rattle.lp_model.specs.LinearProgram.{Feasible}
 use Rattle.lp_model.specs.Meaning.{meaning}
 use Rattle.lp_model.specs.Names.{names_of_rows}

@@ -1,7 +1,7 @@
 -- The texts that pass from a presolve to a solver and to a postsolve.
 use Rattle.std.specs.Prelude.{◌≡◌, ◌≢◌, ℕ, true, List, codes, Option, Some, None, All}
-use Rattle.rational.specs.Number.{Number}
-use Rattle.rational.specs.Lowest.{Fits}
+use Rattle.fractions.specs.Number.{Number}
+use Rattle.fractions.specs.Lowest.{Fits}
 use Rattle.fractions.specs.declared.Numbers.TheVariants.{Fractions}
 use Rattle.lp_model.specs.Names.{names_of_columns, names_of_rows}
 use Rattle.lp_model.specs.ProgramData.{ProgramData}

@@ -1,6 +1,6 @@
 -- The laws of the way back.
 use Rattle.std.specs.Prelude.{◌≡◌, List}
-use Rattle.rational.specs.Number.{Number}
+use Rattle.fractions.specs.Number.{Number}
 use Rattle.lp_model.specs.LinearProgram.{Feasible}
 use Rattle.lp_model.specs.Meaning.{meaning}
 use Rattle.lp_model.specs.Optimality.{Continuous, Meets}

@@ -1,6 +1,6 @@
 -- Edits at other ids: their numbers are the same.
 use Rattle.std.proofs.Common.{◌≡◌, ◌↔◌, List, [], ◌∷◌, get_or, map, subst, sym}
-use Rattle.rational.specs.Number.{Number, ◌+ℚ◌}
+use Rattle.fractions.specs.Number.{Number, ◌+ℚ◌}
 use Rattle.fractions.specs.declared.Numbers.{Numbers}
 use Rattle.problem_model.specs.declared.edit.Edit.{Edit}
 use Rattle.problem_model.specs.declared.edit.Edit.TheVariants.{AddOffset, SetSides}

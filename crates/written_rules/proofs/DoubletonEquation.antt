@@ -3,10 +3,10 @@ use Rattle.std.proofs.Common.{◌≡◌, ◌↔◌, ℕ, Bool, true, false, ◌&
 use Rattle.std.specs.List.{All}
 use Rattle.std.proofs.lemmas.List.{map-append}
 use Rattle.std.proofs.lemmas.List.Elements.{All-append, All-filter, All-head, All-tail}
-use Rattle.rational.specs.Number.{Number, zero_ℚ, ◌-ℚ◌, ◌*ℚ◌}
-use Rattle.rational.specs.Division.{◌/ℚ◌}
-use Rattle.rational.specs.Ends.{less, meet_low, meet_high}
-use Rattle.rational.specs.Lowest.{Fits}
+use Rattle.fractions.specs.Number.{Number, zero_ℚ, ◌-ℚ◌, ◌*ℚ◌}
+use Rattle.fractions.specs.Division.{◌/ℚ◌}
+use Rattle.fractions.specs.Ends.{less, meet_low, meet_high}
+use Rattle.fractions.specs.Lowest.{Fits}
 use Rattle.fractions.specs.EndWords.{LessFits}
 use Rattle.lp_model.specs.declared.terms.Term.{Term}
 use Rattle.lp_model.specs.EndTests.{is_fixed, is_in_order}

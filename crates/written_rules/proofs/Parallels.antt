@@ -2,10 +2,10 @@
 use Rattle.std.proofs.Common.{◌≡◌, ◌↔◌, ℕ, Bool, true, false, not, ◌&&◌, List, [], ◌∷◌, map, Option, refl, sym, ap, ◌∙◌}
 use Rattle.std.specs.List.{All}
 use Rattle.std.proofs.lemmas.List.Elements.{All-append, All-head, All-tail}
-use Rattle.rational.specs.Number.{Number, ◌*ℚ◌}
-use Rattle.rational.specs.Compare.{eq_ℚ}
-use Rattle.rational.specs.Division.{◌/ℚ◌}
-use Rattle.rational.specs.Ends.{meet_high, meet_low, plus}
+use Rattle.fractions.specs.Number.{Number, ◌*ℚ◌}
+use Rattle.fractions.specs.Compare.{eq_ℚ}
+use Rattle.fractions.specs.Division.{◌/ℚ◌}
+use Rattle.fractions.specs.Ends.{meet_high, meet_low, plus}
 use Rattle.lp_model.specs.declared.terms.Term.{Term}
 use Rattle.lp_theory.specs.Activities.{greatest_term, least_term}
 use Rattle.lp_theory.specs.MetEnds.{lower_over, upper_over}

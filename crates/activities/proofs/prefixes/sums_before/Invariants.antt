@@ -1,5 +1,5 @@
 use Rattle.std.proofs.Common.{◌≡◌, ◌++◌, length, Ok}
-use Rattle.rational.specs.Number.{zero_ℚ}
+use Rattle.fractions.specs.Number.{zero_ℚ}
 use Rattle.activities.specs.Prefixes.{sums_before}
 use Rattle.row_spans.specs.Spans.{ends_at}
 use Rattle.activities.proofs.prefixes.sums_before.Given as goal

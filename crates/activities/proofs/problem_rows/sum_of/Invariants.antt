@@ -1,5 +1,5 @@
 use Rattle.std.proofs.Common.{◌≡◌, length}
-use Rattle.rational.specs.Number.{zero_ℚ}
+use Rattle.fractions.specs.Number.{zero_ℚ}
 use Rattle.row_spans.specs.RowSums.{sum_from}
 use Rattle.row_spans.specs.Spans.{ends_at}
 use Rattle.activities.specs.Walks.{spans_seen}

@@ -1,5 +1,5 @@
 use Rattle.std.proofs.Common.{◌<◌, arith, sym, ◌∙◌, ◌≡◌, ◌++◌, ◌∷◌, List, Option, Some, None, IfSome, Ok, ap}
-use Rattle.rational.specs.Number.{Number}
+use Rattle.fractions.specs.Number.{Number}
 use Rattle.row_spans.specs.RowSums.{activity, row_sum}
 use Rattle.row_spans.specs.Spans.{end_at, ends_at, others, spans_of}
 use Rattle.row_spans.proofs.Reading.{spans_of-are}

@@ -1,5 +1,5 @@
 use Rattle.std.proofs.Common.{◌≡◌, ◌+◌, ◌++◌, ◌∷◌, List, Option, Some, None, take, drop, ap, ◌∙◌, subst, Ok, IfSome}
-use Rattle.rational.specs.Number.{Number}
+use Rattle.fractions.specs.Number.{Number}
 use Rattle.kept_sums.specs.CommonSums.{IsCommonSum}
 use Rattle.row_spans.specs.RowSums.{row_sum}
 use Rattle.row_spans.specs.Spans.{end_at, ends_at}

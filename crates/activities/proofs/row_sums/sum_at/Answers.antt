@@ -1,5 +1,5 @@
 use Rattle.std.proofs.Common.{◌<◌, ℕ, length, get_or, List, Result, sym, ap, ◌∙◌, subst}
-use Rattle.rational.specs.Number.{Number, zero_ℚ}
+use Rattle.fractions.specs.Number.{Number, zero_ℚ}
 use Rattle.fractions.specs.declared.Past.{Past}
 use Rattle.activities.proofs.Pieces.{sums-length, sums-at}
 use Rattle.activities.proofs.row_sums.sum_at.Goals as goal

@@ -1,6 +1,6 @@
 use Rattle.std.proofs.Common.{◌≡◌, ◌<◌, ◌++◌, take, drop}
 use Rattle.std.specs.List.{All}
-use Rattle.rational.specs.Number.{Number}
+use Rattle.fractions.specs.Number.{Number}
 use Rattle.problem_model.specs.Entries.{put_term}
 use Rattle.entry_lines.proofs.entries.count_below.Given as goal
 

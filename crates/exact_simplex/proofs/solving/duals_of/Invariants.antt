@@ -1,5 +1,5 @@
 use Rattle.std.proofs.Common.{◌≡◌}
-use Rattle.rational.specs.Number.{zero_ℚ}
+use Rattle.fractions.specs.Number.{zero_ℚ}
 use Rattle.lp_model.specs.Meaning.{meaning}
 use Rattle.lp_model.specs.Turning.{signed}
 use Rattle.simplex_laws.specs.Runs.{duals_at}

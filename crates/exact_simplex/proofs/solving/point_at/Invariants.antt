@@ -1,5 +1,5 @@
 use Rattle.std.proofs.Common.{◌≡◌}
-use Rattle.rational.specs.Number.{zero_ℚ}
+use Rattle.fractions.specs.Number.{zero_ℚ}
 use Rattle.simplex_tableau.specs.Data.{shown}
 use Rattle.simplex_tableau.specs.Starting.{Lists}
 use Rattle.exact_simplex.proofs.solving.point_at.Given as goal

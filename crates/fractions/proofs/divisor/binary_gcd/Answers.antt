@@ -1,7 +1,7 @@
 use Rattle.std.proofs.Common.{◌≡◌, ◌<◌, ◌+◌, ◌-◌, ◌/◌, ◌^◌, ◌%◌, ℕ, min, inl, inr, ap, ap₂, ◌∙◌, sym, arith}
 use Rattle.std.specs.Int.Count.{count_trailing_zeros}
 use Rattle.std.proofs.lemmas.Bool.{cases_lt}
-use Rattle.rational.specs.Gcd.{gcd}
+use Rattle.fractions.specs.Gcd.{gcd}
 use Rattle.fractions.proofs.GcdSteps.{odd_part, part_is, difference_step, gcd_self}
 use Rattle.fractions.proofs.divisor.binary_gcd.Goals as goal
 

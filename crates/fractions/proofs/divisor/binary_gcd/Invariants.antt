@@ -1,5 +1,5 @@
 use Rattle.std.proofs.Common.{◌≡◌, ◌+◌, ◌%◌, ◌≤◌}
-use Rattle.rational.specs.Gcd.{gcd}
+use Rattle.fractions.specs.Gcd.{gcd}
 use Rattle.fractions.proofs.divisor.binary_gcd.Given as goal
 
 abbrev pub invariant-loop-x : goal.invariant-loop-x

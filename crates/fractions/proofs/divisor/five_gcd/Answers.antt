@@ -1,5 +1,5 @@
 use Rattle.std.proofs.Common.{◌≡◌, ◌≢◌, ◌≤◌, ◌*◌, ◌/◌, ◌%◌, ℕ, ap, ◌∙◌, sym, arith, div-add-mod', mul-le-mul_left}
-use Rattle.rational.specs.Gcd.{gcd}
+use Rattle.fractions.specs.Gcd.{gcd}
 use Rattle.fractions.proofs.GcdSteps.{odd_fifth, five_of_one, five_of_both, gcd_one}
 use Rattle.fractions.proofs.divisor.five_gcd.Goals as goal
 

@@ -1,6 +1,6 @@
 use Rattle.std.proofs.Common.{sym, ap, ◌∙◌}
-use Rattle.rational.specs.Gcd.{gcd}
-use Rattle.rational.specs.Divisors.{gcd_pos_l, gcd_pos_r}
+use Rattle.fractions.specs.Gcd.{gcd}
+use Rattle.fractions.specs.Divisors.{gcd_pos_l, gcd_pos_r}
 use Rattle.fractions.proofs.GcdSteps.{gcd_one, gcd_self, gcd-≤}
 use Rattle.fractions.proofs.divisor.gcd.Goals as goal
 

@@ -1,5 +1,5 @@
 use Rattle.std.proofs.Common.{◌≡◌, ℕ, sym, ap, ◌∙◌}
-use Rattle.rational.specs.Gcd.{gcd}
+use Rattle.fractions.specs.Gcd.{gcd}
 use Rattle.fractions.proofs.GcdSteps.{gcd_comm, gcd-%, gcd_zero}
 use Rattle.fractions.proofs.divisor.long_gcd.Goals as goal
 use Rattle.fractions.proofs.divisor.long_gcd.Goals.{then-long, else-long}

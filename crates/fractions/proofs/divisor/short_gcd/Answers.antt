@@ -1,7 +1,7 @@
 use Rattle.std.proofs.Common.{◌≡◌, ◌<◌, ◌^◌, ◌%◌, ◌*◌, ℕ, ap, ap₂, ◌∙◌, sym, arith, lt_of_le_of_lt}
 use Rattle.std.specs.Int.Count.{count_trailing_zeros}
 use native.Mathlib.Nat.{mod-eq_of_lt}
-use Rattle.rational.specs.Gcd.{gcd}
+use Rattle.fractions.specs.Gcd.{gcd}
 use Rattle.fractions.proofs.GcdSteps.{OddPart, odd_part, part_is, twos_of_both, gcd_comm, gcd_zero, gcd-≤}
 use Rattle.fractions.proofs.divisor.short_gcd.Goals as goal
 

@@ -1,5 +1,5 @@
 use Rattle.std.proofs.Common.{◌≡◌}
-use Rattle.rational.specs.Gcd.{gcd}
+use Rattle.fractions.specs.Gcd.{gcd}
 use Rattle.fractions.proofs.divisor.shortened.Given as goal
 
 abbrev pub invariant-loop-y : goal.invariant-loop-y

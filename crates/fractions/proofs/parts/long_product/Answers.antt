@@ -1,5 +1,5 @@
 use Rattle.std.proofs.Common.{refl, rules}
-use Rattle.rational.specs.Gcd.{gcd-IsGcd}
+use Rattle.fractions.specs.Gcd.{gcd-IsGcd}
 use Rattle.fractions.proofs.ProductSteps.{product_lowest, product_of_steps, Fits-is}
 use Rattle.fractions.proofs.parts.long_product.Goals as goal
 

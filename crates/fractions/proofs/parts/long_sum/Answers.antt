@@ -1,4 +1,4 @@
-use Rattle.rational.specs.Gcd.{gcd-IsGcd}
+use Rattle.fractions.specs.Gcd.{gcd-IsGcd}
 use Rattle.fractions.proofs.SumSteps.{sum_of_steps}
 use Rattle.fractions.proofs.parts.long_sum.Goals as goal
 

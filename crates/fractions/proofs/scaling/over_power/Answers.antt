@@ -1,6 +1,6 @@
 use Rattle.std.proofs.Common.{◌≡◌, ◌+◌, ◌-◌, ◌^◌, arith, ap, ap₂, ◌∙◌, sym, ℕ, pos}
-use Rattle.rational.specs.Lowest.{ratio}
-use Rattle.rational.specs.Number.{◌*ℚ◌}
+use Rattle.fractions.specs.Lowest.{ratio}
+use Rattle.fractions.specs.Number.{◌*ℚ◌}
 use Rattle.fractions.specs.Scaled.{scaled}
 use Rattle.fractions.proofs.ScalingLaws.{past_down, scaled-down, down_twice, OkIff-from, known}
 use Rattle.fractions.proofs.scaling.over_power.Goals as goal

@@ -1,6 +1,6 @@
 use Rattle.std.proofs.Common.{◌^◌, arith, ap, ◌∙◌, sym, ℕ, ℤ, pos, ◌*ℤ◌}
-use Rattle.rational.specs.Lowest.{ratio, Fits}
-use Rattle.rational.proofs.Quotients.{of_whole, whole_fits}
+use Rattle.fractions.specs.Lowest.{ratio, Fits}
+use Rattle.fractions.proofs.Quotients.{of_whole, whole_fits}
 use Rattle.fractions.proofs.ScalingLaws.{past_up, scaled-up, OkIff-err, known}
 use Rattle.fractions.proofs.scaling.times_power.Goals as goal
 

@@ -1,5 +1,5 @@
 use Rattle.std.proofs.Common.{◌≡◌, ◌*◌, ◌/◌, ◌^◌, ◌<◌, ℕ, ap, ◌∙◌, subst, sym}
-use Rattle.rational.specs.Gcd.{gcd}
+use Rattle.fractions.specs.Gcd.{gcd}
 use Rattle.kept_sums.specs.CommonSums.{IsCommonMultiple}
 use Rattle.kept_sums.proofs.Numerators.{common_is}
 use Rattle.kept_sums.proofs.common.common_multiple.Goals as goal

@@ -1,5 +1,5 @@
 use Rattle.std.proofs.Common.{sym, ap, ◌∙◌, Ok, Some}
-use Rattle.rational.specs.Lowest.{ratio}
+use Rattle.fractions.specs.Lowest.{ratio}
 use Rattle.kept_sums.proofs.Numerators.{rest_finite}
 use Rattle.kept_sums.proofs.common.less_number.Goals as goal
 

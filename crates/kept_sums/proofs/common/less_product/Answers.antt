@@ -1,5 +1,5 @@
 use Rattle.std.proofs.Common.{sym, ap, ◌∙◌, Ok}
-use Rattle.rational.specs.Number.{◌*ℚ◌}
+use Rattle.fractions.specs.Number.{◌*ℚ◌}
 use Rattle.kept_sums.proofs.Numerators.{rest_infinite}
 use Rattle.kept_sums.proofs.common.less_product.Goals as goal
 

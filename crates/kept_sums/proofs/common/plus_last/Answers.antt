@@ -1,5 +1,5 @@
 use Rattle.std.proofs.Common.{◌++◌, ◌∷◌, [], List, Option, IfSome, Some, None}
-use Rattle.rational.specs.Number.{Number}
+use Rattle.fractions.specs.Number.{Number}
 use Rattle.row_spans.specs.Spans.{end_at}
 use Rattle.kept_sums.specs.CommonSums.{IsCommonSum}
 use Rattle.kept_sums.specs.declared.common.CommonSum.{CommonSum}

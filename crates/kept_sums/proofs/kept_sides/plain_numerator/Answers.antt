@@ -1,5 +1,5 @@
 use Rattle.std.proofs.Common.{◌≡◌, ◌*◌, ◌*ℤ◌, ℕ, ℤ, pos, ap, ap₂, sym, ◌∙◌}
-use Rattle.rational.specs.Lowest.{over_of, under_of}
+use Rattle.fractions.specs.Lowest.{over_of, under_of}
 use Rattle.kept_sums.proofs.Replaced.{product_over}
 use Rattle.kept_sums.proofs.kept_sides.plain_numerator.Goals as goal
 

@@ -1,7 +1,7 @@
 use Rattle.std.proofs.Common.{◌<◌, ◌^◌, ◌∷◌, [], ℕ, Option, Some, None, IfSome, IfNone, subst, sym, ◌∙◌}
 use Prim.Native.Nat.{◌∣◌}
-use Rattle.rational.specs.Number.{Number}
-use Rattle.rational.specs.Lowest.{under_of}
+use Rattle.fractions.specs.Number.{Number}
+use Rattle.fractions.specs.Lowest.{under_of}
 use Rattle.kept_sums.specs.RowTotals.{IsLeastMultiple, IsLeastWith, IsPastWith}
 use Rattle.kept_sums.proofs.Totals.{end_past, number_with, number_past}
 use Rattle.kept_sums.proofs.row_totals.denominator_with_end.Goals as goal

@@ -1,6 +1,6 @@
 use Rattle.std.proofs.Common.{◌≡◌, ◌≢◌, rules, subst, sym}
 use Rattle.std.specs.List.{All}
-use Rattle.rational.specs.Number.{zero_ℚ}
+use Rattle.fractions.specs.Number.{zero_ℚ}
 use Rattle.problem_model.specs.Problems.{column_at}
 use Rattle.problem_laws.proofs.Entries.{column_entries-none_zero}
 use Rattle.line_groups.proofs.KeyLaws.{read_none_zero}

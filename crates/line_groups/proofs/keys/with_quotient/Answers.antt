@@ -1,4 +1,4 @@
-use Rattle.rational.specs.Division.{◌/ℚ◌}
+use Rattle.fractions.specs.Division.{◌/ℚ◌}
 use Rattle.line_groups.proofs.KeyLaws.{number_ok, number_past}
 use Rattle.line_groups.proofs.keys.with_quotient.Goals as goal
 

@@ -1,5 +1,5 @@
 use Rattle.std.proofs.Common.{Option, ◌+◌, sym, subst}
-use Rattle.rational.specs.Number.{Number}
+use Rattle.fractions.specs.Number.{Number}
 use Rattle.lp_prices.specs.Prices.{IsSum}
 use Rattle.lp_prices.proofs.Steps.{sum_of_result}
 use Rattle.lp_check.proofs.sums.with_product.Goals as goal

@@ -1,6 +1,6 @@
 use Rattle.std.proofs.Common.{◌≡◌, ◌<◌, length, refl, le_antisymm, sym, ap, ◌∙◌, subst}
 use Rattle.std.proofs.lemmas.Result.{err_from_is_err_and}
-use Rattle.rational.specs.Number.{zero_ℚ}
+use Rattle.fractions.specs.Number.{zero_ℚ}
 use Rattle.fractions.specs.FracWords.{SumFits}
 use Rattle.lp_model.specs.Vectors.{vector_of}
 use Rattle.lp_model.specs.Meaning.{no_column, meaning}

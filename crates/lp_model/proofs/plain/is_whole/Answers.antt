@@ -1,5 +1,5 @@
 use Rattle.std.proofs.Common.{sym, ◌∙◌}
-use Rattle.rational.proofs.Floors.{is_whole-is}
+use Rattle.fractions.proofs.Floors.{is_whole-is}
 use Rattle.lp_model.proofs.plain.is_whole.Goals as goal
 
 pub returns : goal.returns

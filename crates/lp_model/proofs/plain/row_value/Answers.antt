@@ -1,6 +1,6 @@
 use Rattle.std.proofs.Common.{◌<◌, length, refl, sym, ap, ◌∙◌, subst}
 use Rattle.std.proofs.lemmas.Result.{err_from_is_err_and}
-use Rattle.rational.specs.Number.{zero_ℚ}
+use Rattle.fractions.specs.Number.{zero_ℚ}
 use Rattle.lp_model.specs.Sparse.{dense}
 use Rattle.lp_model.specs.Meaning.{no_column}
 use Rattle.lp_model.proofs.Sums.{summed_none, summed_more, no_room, not_so, read_at}

@@ -1,5 +1,5 @@
 use Rattle.std.proofs.Common.{ℕ, ◌<◌}
-use Rattle.rational.specs.Ends.{Between}
+use Rattle.fractions.specs.Ends.{Between}
 use Rattle.lp_model.specs.LinearProgram.{value_at}
 use Rattle.lp_model.specs.Meaning.{row_at, meaning}
 use Rattle.lp_model.specs.Vectors.{vector_of}

@@ -1,6 +1,6 @@
 use Rattle.std.proofs.Common.{◌≡◌, ◌∙◌, ℕ, ap, List}
 use Rattle.std.specs.Prelude.{unwrap_or}
-use Rattle.rational.specs.Number.{Number, zero_ℚ, neg_ℚ}
+use Rattle.fractions.specs.Number.{Number, zero_ℚ, neg_ℚ}
 use Rattle.mps_profile.specs.Texts.{Text, field}
 use Rattle.mps_profile.specs.Rows.{row_names, right_side}
 use Rattle.mps_profile.specs.Program.{objective_place, terms_below}

@@ -1,6 +1,6 @@
 use Rattle.std.proofs.Common.{◌≡◌, ◌<◌, ℕ, length}
 use Rattle.std.specs.Prelude.{unwrap_or}
-use Rattle.rational.specs.Number.{zero_ℚ}
+use Rattle.fractions.specs.Number.{zero_ℚ}
 use Rattle.mps_stores.specs.Entries.{value_in, IsOnce}
 use Rattle.mps_assembly.specs.Columnwise.{cost_at}
 use Rattle.mps_assembly.proofs.costs.costs_by_column.Given as goal

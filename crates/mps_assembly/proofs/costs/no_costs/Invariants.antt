@@ -1,5 +1,5 @@
 use Rattle.std.proofs.Common.{◌≡◌, ℕ, length}
-use Rattle.rational.specs.Number.{zero_ℚ}
+use Rattle.fractions.specs.Number.{zero_ℚ}
 use Rattle.mps_assembly.specs.Columnwise.{cost_at}
 use Rattle.mps_assembly.proofs.costs.no_costs.Given as goal
 

@@ -1,6 +1,6 @@
 use Rattle.std.proofs.Common.{◌≡◌}
 use Rattle.std.specs.Prelude.{None, unwrap_or, slice_index_or}
-use Rattle.rational.specs.Number.{zero_ℚ}
+use Rattle.fractions.specs.Number.{zero_ℚ}
 use Rattle.mps_profile.specs.Program.{rows_below}
 use Rattle.mps_assembly.proofs.rows.row_definitions.Given as goal
 

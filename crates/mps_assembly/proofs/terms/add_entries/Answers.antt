@@ -1,6 +1,6 @@
 use Rattle.std.proofs.Common.{◌∙◌, ◌++◌, ap, sym, List}
 use Rattle.std.specs.Prelude.{unwrap_or}
-use Rattle.rational.specs.Number.{zero_ℚ}
+use Rattle.fractions.specs.Number.{zero_ℚ}
 use Rattle.mps_stores.specs.declared.single_row.Entry.{Entry}
 use Rattle.mps_stores.specs.Entries.{value_in}
 use Rattle.mps_assembly.specs.Columnwise.{terms_at, number_terms}

@@ -1,6 +1,6 @@
 use Rattle.std.proofs.Common.{◌≡◌, ◌<◌, ◌++◌, ℕ, length}
 use Rattle.std.specs.Prelude.{unwrap_or}
-use Rattle.rational.specs.Number.{zero_ℚ}
+use Rattle.fractions.specs.Number.{zero_ℚ}
 use Rattle.mps_stores.specs.Entries.{value_in, IsOnce}
 use Rattle.mps_assembly.specs.Columnwise.{terms_at, number_terms}
 use Rattle.mps_assembly.proofs.terms.add_entries.Given as goal

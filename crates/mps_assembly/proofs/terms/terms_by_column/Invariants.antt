@@ -1,6 +1,6 @@
 use Rattle.std.proofs.Common.{◌≡◌, ◌<◌, ℕ, length}
 use Rattle.std.specs.Prelude.{unwrap_or}
-use Rattle.rational.specs.Number.{zero_ℚ}
+use Rattle.fractions.specs.Number.{zero_ℚ}
 use Rattle.mps_profile.specs.Program.{terms_below, id_of}
 use Rattle.mps_stores.specs.Stores.{number_in}
 use Rattle.mps_assembly.specs.Columnwise.{terms_at}

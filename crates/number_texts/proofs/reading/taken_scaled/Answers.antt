@@ -1,5 +1,5 @@
 use Rattle.std.proofs.Common.{arith, ap, sym, ◌∙◌, Ok}
-use Rattle.rational.specs.Number.{Number}
+use Rattle.fractions.specs.Number.{Number}
 use Rattle.fractions.specs.Scaled.{scaled}
 use Rattle.fractions.proofs.ScalingLaws.{decimal-scaled}
 use Rattle.number_texts.proofs.RangeLaws.{in_range-decimal, in_range-past}

@@ -1,5 +1,5 @@
 use Rattle.std.proofs.Common.{◌∙◌, sym, ap}
-use Rattle.rational.specs.Number.{Number}
+use Rattle.fractions.specs.Number.{Number}
 use Rattle.number_texts.specs.Views.{terms_seen}
 use Rattle.number_texts.specs.Read.{in_range}
 use Rattle.number_texts.proofs.ReadingLaws.{read-past, read-by}

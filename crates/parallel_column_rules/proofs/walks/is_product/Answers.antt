@@ -1,4 +1,4 @@
-use Rattle.rational.specs.Number.{◌*ℚ◌}
+use Rattle.fractions.specs.Number.{◌*ℚ◌}
 use Rattle.parallel_column_rules.proofs.EntryWalks.{past_product}
 use Rattle.parallel_column_rules.proofs.walks.is_product.Goals as goal
 

@@ -1,5 +1,5 @@
 use Rattle.std.proofs.Common.{List, ap, ◌∙◌}
-use Rattle.rational.specs.Number.{Number, zero_ℚ}
+use Rattle.fractions.specs.Number.{Number, zero_ℚ}
 use Rattle.lp_model.specs.Vectors.{vector_of}
 use Rattle.undo_pairs.specs.LiftPair.{furthest}
 use Rattle.postsolve_dual.proofs.Pairs.{forced_is}

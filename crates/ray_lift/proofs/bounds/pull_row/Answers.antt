@@ -1,6 +1,6 @@
 use Rattle.std.proofs.Common.{ap, ap₂, ◌∙◌}
-use Rattle.rational.specs.Number.{◌+ℚ◌}
-use Rattle.rational.specs.Total.{put}
+use Rattle.fractions.specs.Number.{◌+ℚ◌}
+use Rattle.fractions.specs.Total.{put}
 use Rattle.lp_model.specs.Sparse.{dense}
 use Rattle.lp_model.specs.Vectors.{Vector, vector_of}
 use Rattle.ray_steps.specs.declared.shift.Shift.TheVariants.{Pull}

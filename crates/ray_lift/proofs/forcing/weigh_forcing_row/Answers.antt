@@ -1,5 +1,5 @@
 use Rattle.std.proofs.Common.{◌≡◌, List, sym, subst, ap, ap₂, ◌∙◌}
-use Rattle.rational.specs.Total.{put}
+use Rattle.fractions.specs.Total.{put}
 use Rattle.lp_model.specs.declared.terms.Term.{Term}
 use Rattle.lp_model.specs.Sparse.{dense}
 use Rattle.lp_model.specs.Vectors.{Vector, vector_of}

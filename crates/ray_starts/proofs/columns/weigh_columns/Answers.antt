@@ -1,6 +1,6 @@
 use Rattle.std.proofs.Common.{refl, ap, ◌∙◌}
 use Rattle.lp_model.specs.Vectors.{vector_of}
-use Rattle.rational.specs.Total.{put}
+use Rattle.fractions.specs.Total.{put}
 use Rattle.ray_starts.proofs.Placing.{placed_none, placed_more, placed_all}
 use Rattle.ray_starts.proofs.Weighed.{no_lower_weight, no_upper_weight}
 use Rattle.ray_starts.proofs.columns.weigh_columns.Goals as goal

@@ -1,5 +1,5 @@
 use Rattle.std.proofs.Common.{ℕ, ◌<◌, slice_index_or}
-use Rattle.rational.specs.Lowest.{Fits}
+use Rattle.fractions.specs.Lowest.{Fits}
 use Rattle.lp_model.specs.declared.terms.Term.{Term}
 use Rattle.record_round_trip.specs.Ranges.{IsId}
 use Rattle.record_round_trip.proofs.ranges.list_fits.Given as goal

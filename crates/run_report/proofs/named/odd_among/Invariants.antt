@@ -1,5 +1,5 @@
 use Rattle.std.proofs.Common.{length}
-use Rattle.rational.specs.Number.{Number}
+use Rattle.fractions.specs.Number.{Number}
 use Rattle.run_report.specs.Reasons.{IsOfEdits}
 use Rattle.run_report.proofs.named.odd_among.Given as goal
 

@@ -1,5 +1,5 @@
 use Rattle.std.proofs.Common.{◌<◌, ◌≤◌, length, sym, ap, ◌∙◌, subst}
-use Rattle.rational.specs.Number.{zero_ℚ}
+use Rattle.fractions.specs.Number.{zero_ℚ}
 use Rattle.lp_model.specs.Sparse.{dense}
 use Rattle.lp_model.specs.Meaning.{meaning, no_column}
 use Rattle.lp_model.specs.declared.program.ColumnDef.{ColumnDef}

@@ -1,5 +1,5 @@
 use Rattle.std.proofs.Common.{◌<◌, ◌≤◌, length, sym, ap, ap₂, ◌∙◌, subst}
-use Rattle.rational.specs.Number.{zero_ℚ}
+use Rattle.fractions.specs.Number.{zero_ℚ}
 use Rattle.lp_model.specs.Meaning.{column_at, no_column}
 use Rattle.lp_model.specs.Turning.{signed}
 use Rattle.lp_model.specs.declared.program.ColumnDef.{ColumnDef}

@@ -1,5 +1,5 @@
 use Rattle.std.proofs.Common.{◌≡◌}
-use Rattle.rational.specs.Number.{zero_ℚ}
+use Rattle.fractions.specs.Number.{zero_ℚ}
 use Rattle.simplex_tableau.specs.Starting.{Lists, first_prices}
 use Rattle.simplex_tableau.proofs.starting.first_prices.Given as goal
 

@@ -1,5 +1,5 @@
 use Rattle.std.proofs.Common.{◌≡◌, ◌<◌, ◌≤◌, ◌-◌, List, length, ap, ◌∙◌, subst}
-use Rattle.rational.specs.Number.{Number, zero_ℚ}
+use Rattle.fractions.specs.Number.{Number, zero_ℚ}
 use Rattle.lp_model.specs.Meaning.{meaning}
 use Rattle.tableau_laws.specs.Variables.{joined, variables}
 use Rattle.simplex_tableau.specs.Starting.{Lists, IsFirstRow}

@@ -1,5 +1,5 @@
 use Rattle.std.proofs.Common.{◌≡◌, ℕ, ◌<◌}
-use Rattle.rational.specs.Number.{zero_ℚ}
+use Rattle.fractions.specs.Number.{zero_ℚ}
 use Rattle.lp_model.specs.Meaning.{meaning}
 use Rattle.tableau_laws.specs.Tableaus.{start}
 use Rattle.simplex_tableau.specs.Starting.{Lists, FirstFits}

@@ -1,6 +1,6 @@
 use Rattle.std.proofs.Common.{refl}
 use Rattle.lp_model.specs.Vectors.{vector_of}
-use Rattle.rational.specs.Number.{zero_ℚ}
+use Rattle.fractions.specs.Number.{zero_ℚ}
 use Rattle.lp_model.proofs.Sums.{not_so}
 use Rattle.tableau_rows.specs.Places.{GainedAt, GainFitsAt}
 use Rattle.tableau_rows.proofs.Sweeps.{Both, swept_none, swept_more, swept_past, swept_all, swept_room, err_fits}

@@ -1,5 +1,5 @@
 use Rattle.lp_model.specs.Vectors.{vector_of}
-use Rattle.rational.specs.Number.{zero_ℚ}
+use Rattle.fractions.specs.Number.{zero_ℚ}
 use Rattle.tableau_rows.specs.Places.{GainedAt, GainFitsAt}
 use Rattle.tableau_rows.proofs.Sweeps.{Swept, Both}
 use Rattle.tableau_rows.proofs.rows.gain_others.Given as goal

@@ -1,5 +1,5 @@
 use Rattle.tableau_rows.specs.Places.{row_of, MovedAt, MoveFitsAt}
-use Rattle.rational.specs.Number.{zero_ℚ}
+use Rattle.fractions.specs.Number.{zero_ℚ}
 use Rattle.tableau_rows.proofs.Sweeps.{Swept, Both}
 use Rattle.tableau_rows.proofs.rows.move_others.Given as goal
 

@@ -1,5 +1,5 @@
 use Rattle.std.proofs.Common.{ap, ◌∙◌}
-use Rattle.rational.specs.Number.{◌+ℚ◌}
+use Rattle.fractions.specs.Number.{◌+ℚ◌}
 use Rattle.tableau_rows.proofs.RowLaws.{move_to_value}
 use Rattle.tableau_rows.proofs.rows.move_to.Goals as goal
 

@@ -1,5 +1,5 @@
 use Rattle.std.proofs.Common.{◌≢◌, sym, ap, ◌∙◌}
-use Rattle.rational.specs.Number.{zero_ℚ, ◌*ℚ◌}
+use Rattle.fractions.specs.Number.{zero_ℚ, ◌*ℚ◌}
 use Rattle.lp_model.specs.Vectors.{vector_of}
 use Rattle.lp_model.proofs.Sums.{not_so}
 use Rattle.tableau_rows.proofs.RowLaws.{replace_none, replace_value}

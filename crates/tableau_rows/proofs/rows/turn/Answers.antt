@@ -1,5 +1,5 @@
 use Rattle.std.proofs.Common.{ap, ◌∙◌}
-use Rattle.rational.specs.Division.{◌/ℚ◌}
+use Rattle.fractions.specs.Division.{◌/ℚ◌}
 use Rattle.tableau_rows.proofs.RowLaws.{turn_value}
 use Rattle.tableau_rows.proofs.rows.turn.Goals as goal
 

@@ -1,5 +1,5 @@
 use Rattle.std.proofs.Common.{refl}
-use Rattle.rational.specs.Number.{zero_ℚ}
+use Rattle.fractions.specs.Number.{zero_ℚ}
 use Rattle.lp_model.proofs.Sums.{not_so}
 use Rattle.tableau_rows.specs.Places.{TurnedAt, TurnFitsAt}
 use Rattle.tableau_rows.proofs.Sweeps.{Both, swept_none, swept_more, swept_past, swept_all, swept_room, err_fits}

@@ -1,4 +1,4 @@
-use Rattle.rational.specs.Number.{zero_ℚ}
+use Rattle.fractions.specs.Number.{zero_ℚ}
 use Rattle.tableau_rows.specs.Places.{TurnedAt, TurnFitsAt}
 use Rattle.tableau_rows.proofs.Sweeps.{Swept, Both}
 use Rattle.tableau_rows.proofs.rows.turn_others.Given as goal

@@ -1,6 +1,6 @@
 use Rattle.std.proofs.Common.{List, subst, length, [], refl, ap, ◌∙◌, ◌<◌, arith}
 use Rattle.std.proofs.lemmas.List.{get_or_default}
-use Rattle.rational.specs.Number.{Number}
+use Rattle.fractions.specs.Number.{Number}
 use Rattle.lp_model.specs.Vectors.{vector_of}
 use Rattle.lp_model.proofs.Sums.{not_so}
 use Rattle.tableau_laws.specs.Room.{RowFits}

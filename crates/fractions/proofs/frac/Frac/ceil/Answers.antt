@@ -1,6 +1,6 @@
 use Rattle.std.proofs.Common.{sym, ap, ◌∙◌}
-use Rattle.rational.specs.Number.{of_ℤ, neg_ℚ, of_ℤ-neg_ℤ}
-use Rattle.rational.specs.Floor.{floor_of, ceil_of}
+use Rattle.fractions.specs.Number.{of_ℤ, neg_ℚ, of_ℤ-neg_ℤ}
+use Rattle.fractions.specs.Floor.{floor_of, ceil_of}
 use Rattle.fractions.proofs.frac.Frac.ceil.Goals as goal
 
 pub returns : goal.returns

@@ -1,7 +1,7 @@
 use Rattle.std.proofs.Common.{sym, ap, ◌∙◌}
-use Rattle.rational.specs.Number.{of_ℤ}
-use Rattle.rational.specs.Floor.{floor_of}
-use Rattle.rational.proofs.Floors.{floor_of-ratio}
+use Rattle.fractions.specs.Number.{of_ℤ}
+use Rattle.fractions.specs.Floor.{floor_of}
+use Rattle.fractions.proofs.Floors.{floor_of-ratio}
 use Rattle.fractions.proofs.frac.Frac.floor.Goals as goal
 
 pub returns : goal.returns

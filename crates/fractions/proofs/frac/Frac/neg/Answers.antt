@@ -1,6 +1,6 @@
 use Rattle.std.proofs.Common.{ℤ, ap, ◌∙◌}
-use Rattle.rational.specs.Number.{neg_ℚ}
-use Rattle.rational.specs.Lowest.{ratio, neg_ℚ-ratio}
+use Rattle.fractions.specs.Number.{neg_ℚ}
+use Rattle.fractions.specs.Lowest.{ratio, neg_ℚ-ratio}
 use Rattle.fractions.proofs.frac.Frac.neg.Goals as goal
 
 pub returns : goal.returns

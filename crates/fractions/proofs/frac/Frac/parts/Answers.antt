@@ -1,5 +1,5 @@
 use Rattle.std.proofs.Common.{ap, ◌∙◌, sym}
-use Rattle.rational.specs.Lowest.{over_of, under_of, over_of-ratio, under_of-ratio}
+use Rattle.fractions.specs.Lowest.{over_of, under_of, over_of-ratio, under_of-ratio}
 use Rattle.fractions.proofs.LowestTerms.{Fits-ratio}
 use Rattle.fractions.proofs.frac.Frac.parts.Goals as goal
 

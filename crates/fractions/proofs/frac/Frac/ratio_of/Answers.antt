@@ -1,4 +1,4 @@
-use Rattle.rational.specs.Gcd.{gcd-IsGcd}
+use Rattle.fractions.specs.Gcd.{gcd-IsGcd}
 use Rattle.fractions.proofs.Reducing.{reduced_by}
 use Rattle.fractions.proofs.LowestTerms.{Fits-ratio}
 use Rattle.fractions.proofs.frac.Frac.ratio_of.Goals as goal

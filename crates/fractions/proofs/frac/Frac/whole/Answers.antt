@@ -1,4 +1,4 @@
-use Rattle.rational.proofs.Floors.{of_ℤ-ratio, IsLowest-whole}
+use Rattle.fractions.proofs.Floors.{of_ℤ-ratio, IsLowest-whole}
 use Rattle.fractions.proofs.LowestTerms.{Fits-ratio}
 use Rattle.fractions.proofs.frac.Frac.whole.Goals as goal
 

@@ -1,5 +1,5 @@
 use Rattle.std.proofs.Common.{sym, ap₂, ◌∙◌}
-use Rattle.rational.specs.Compare.{number_cmp, number_cmp-ratio}
+use Rattle.fractions.specs.Compare.{number_cmp, number_cmp-ratio}
 use Rattle.fractions.proofs.frac.FracOrd.cmp.Goals as goal
 
 pub returns : goal.returns

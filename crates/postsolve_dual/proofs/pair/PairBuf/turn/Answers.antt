@@ -1,6 +1,6 @@
 use Rattle.std.proofs.Common.{◌≡◌, List, length, ap, ◌∙◌, arith}
 use Rattle.std.proofs.lemmas.List.{with_items_is}
-use Rattle.rational.specs.Number.{Number}
+use Rattle.fractions.specs.Number.{Number}
 use Rattle.lp_model.specs.Vectors.{vector_of}
 use Rattle.postsolve_dual.proofs.Pairs.{turned_is}
 use Rattle.postsolve_dual.proofs.pair.PairBuf.turn.Goals as goal

@@ -1,6 +1,6 @@
 use Rattle.std.proofs.Common.{◌≡◌, ◌∙◌, ◌<◌, ℕ, length, sym, arith}
 use Rattle.std.proofs.lemmas.List.{get_or_default}
-use Rattle.rational.specs.Number.{zero_ℚ}
+use Rattle.fractions.specs.Number.{zero_ℚ}
 use Rattle.problem_model.specs.Matrices.{no_line}
 use Rattle.problem_model.specs.Problems.{bounds_at, column_at, cost_at, no_bounds}
 use Rattle.problem_data.proofs.WrittenRows.{columns_step}

@@ -1,5 +1,5 @@
 use Rattle.std.proofs.Common.{◌≡◌, ◌<◌, List, [], true, false, length, get_or, set, take, drop, ◌++◌, refl, sym, ap, ◌∙◌, arith, subst}
-use Rattle.rational.specs.Number.{Number}
+use Rattle.fractions.specs.Number.{Number}
 use Rattle.lp_model.proofs.Sums.{not_so}
 use Rattle.tableau_laws.specs.Tableaus.{gain, pivoted}
 use Rattle.tableau_laws.specs.Room.{PivotFits}

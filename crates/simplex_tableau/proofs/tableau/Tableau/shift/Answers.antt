@@ -1,5 +1,5 @@
 use Rattle.std.proofs.Common.{◌≡◌, List, false, length, take, drop, ◌++◌, refl, sym, ap, ◌∙◌, subst}
-use Rattle.rational.specs.Number.{Number}
+use Rattle.fractions.specs.Number.{Number}
 use Rattle.fractions.specs.FracWords.{SumFits}
 use Rattle.lp_model.specs.Vectors.{vector_of}
 use Rattle.tableau_laws.specs.Tableaus.{shifted}

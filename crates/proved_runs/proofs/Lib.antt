@@ -1,0 +1,5 @@
+mod OneSolve
+mod OneVerify
+mod Solved
+mod Taken
+mod Verified

@@ -1,0 +1,3 @@
+pub mod Rays
+pub mod Solved
+pub mod Verified

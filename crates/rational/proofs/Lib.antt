@@ -1,8 +1,0 @@
-pub mod Signs
-pub mod Comparisons
-pub mod MinMaxLaws
-pub mod EndLaws
-pub mod Floors
-pub mod Decimals
-pub mod Totals
-pub mod Quotients

@@ -1,5 +1,0 @@
-use Rattle.rational.proofs.EndLaws.{meet_low-is, meet_high-is, over-low, over-low_down}
-use Rattle.rational.proofs.ends_meet.Goals as goal
-
-pub returns : goal.returns
-returns c = record { low = meet_low-is; high = meet_high-is; over = over-low; turned = over-low_down }

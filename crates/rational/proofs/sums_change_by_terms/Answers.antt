@@ -1,5 +1,0 @@
-use Rattle.rational.proofs.Totals.{total-put, total_swap}
-use Rattle.rational.proofs.sums_change_by_terms.Goals as goal
-
-pub returns : goal.returns
-returns c = record { changed = total-put; exchanged = total_swap }

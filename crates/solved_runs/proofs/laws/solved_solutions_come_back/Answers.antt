@@ -1,5 +1,0 @@
-use Rattle.solved_runs.proofs.Solved.{solved_back}
-use Rattle.solved_runs.proofs.laws.solved_solutions_come_back.Goals as goal
-
-pub returns : goal.returns
-returns c = solved_back (record { fault = c.written_pair_is_read.ensures.fault; point = c.written_pair_is_read.ensures.point; duals = c.written_pair_is_read.ensures.duals })

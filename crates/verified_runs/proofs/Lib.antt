@@ -1,2 +1,0 @@
-mod OneVerify
-mod Verified

@@ -1,5 +1,0 @@
-use Rattle.verified_runs.proofs.Verified.{left_is_verified}
-use Rattle.verified_runs.proofs.laws.what_presolve_left_is_verified.Goals as goal
-
-pub returns : goal.returns
-returns c = left_is_verified
