@@ -9,8 +9,8 @@ use Rattle.fractions.specs.Division.{◌/ℚ◌}
 use Rattle.fractions.specs.Order.{<ℚ-≤ℚ, ◌<ℚ◌}
 use Rattle.fractions.specs.Compare.{lt_ℚ}
 use Rattle.fractions.specs.Ends.{HighAbove, LowBelow, minus_ends, over}
-use Rattle.fractions.proofs.Comparisons.{lt_ℚ-is}
-use Rattle.fractions.proofs.Signs.{<ℚ-irrefl}
+use Rattle.fractions.specs.Comparisons.{lt_ℚ-is}
+use Rattle.fractions.specs.Signs.{<ℚ-irrefl}
 use Rattle.fractions.specs.declared.Past.{Past}
 use Rattle.lp_model.specs.Edits.{with_bounds}
 use Rattle.lp_model.specs.LinearProgram.{LinearProgram}

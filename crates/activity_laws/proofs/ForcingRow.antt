@@ -8,7 +8,7 @@ use Rattle.fractions.specs.Number.{Number, zero_ℚ, ◌+ℚ◌}
 use Rattle.fractions.specs.Order.{≤ℚ_antisym, <ℚ-not, <ℚ-≤ℚ}
 use Rattle.fractions.specs.Compare.{lt_ℚ}
 use Rattle.fractions.specs.Total.{put}
-use Rattle.fractions.proofs.Comparisons.{le_ℚ-is}
+use Rattle.fractions.specs.Comparisons.{le_ℚ-is}
 use Rattle.fractions.proofs.EndLaws.{same_end-is}
 use Rattle.fractions.proofs.Totals.{put-same, put-other}
 use Rattle.lp_model.specs.Edits.{with_bounds, without_row}

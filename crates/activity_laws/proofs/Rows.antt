@@ -4,7 +4,7 @@ use Rattle.std.specs.Prelude.{if◌then◌else◌}
 use Rattle.std.proofs.lemmas.Bool.{and_parts}
 use Rattle.fractions.specs.Number.{Number, zero_ℚ}
 use Rattle.fractions.specs.Ends.{LowBelow, HighAbove}
-use Rattle.fractions.proofs.Comparisons.{le_ℚ-is}
+use Rattle.fractions.specs.Comparisons.{le_ℚ-is}
 use Rattle.fractions.specs.declared.Past.{Past}
 use Rattle.lp_model.specs.EndTests.{is_in_order}
 use Rattle.lp_model.specs.Sparse.{dense}

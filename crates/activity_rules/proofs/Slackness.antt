@@ -8,8 +8,8 @@ use Rattle.fractions.specs.Ring.{v, ◌:+◌, ◌:-◌}
 use Rattle.fractions.specs.Compare.{lt_ℚ}
 use Rattle.fractions.specs.Division.{◌/ℚ◌}
 use Rattle.fractions.specs.Ends.{scaled}
-use Rattle.fractions.proofs.Comparisons.{le_ℚ-is, lt_ℚ-is, lt_ℚ-not}
-use Rattle.fractions.proofs.Signs.{low_pos, high_pos, low_neg, high_neg}
+use Rattle.fractions.specs.Comparisons.{le_ℚ-is, lt_ℚ-is, lt_ℚ-not}
+use Rattle.fractions.specs.Signs.{low_pos, high_pos, low_neg, high_neg}
 use Rattle.lp_theory.specs.Activities.{least_term}
 use Rattle.lp_theory.proofs.ActivityLaws.{lt_true}
 use Rattle.lp_theory.proofs.MetEndLaws.{below_zero}

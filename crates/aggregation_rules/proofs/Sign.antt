@@ -5,8 +5,8 @@ use Rattle.fractions.specs.Number.{Number, rational, zero_ℚ, ◌*ℚ◌}
 use Rattle.fractions.specs.Order.{◌≤ℚ◌, ◌<ℚ◌, ≤ℚ_cases, ≤ℚ-*ℚ, <ℚ-≤ℚ, <ℚ-not, ≤ℚ_antisym}
 use Rattle.fractions.specs.Compare.{lt_ℚ}
 use Rattle.fractions.specs.Division.{◌/ℚ◌}
-use Rattle.fractions.proofs.Comparisons.{lt_ℚ-is}
-use Rattle.fractions.proofs.Signs.{over-times, <ℚ-≢, ≤ℚ-*ℚ_down, <ℚ-*ℚ, <ℚ-*ℚ_down}
+use Rattle.fractions.specs.Comparisons.{lt_ℚ-is}
+use Rattle.fractions.specs.Signs.{over-times, <ℚ-≢, ≤ℚ-*ℚ_down, <ℚ-*ℚ, <ℚ-*ℚ_down}
 use Rattle.lp_theory.proofs.ActivityLaws.{lt_false}
 
 pub same_test : (x y : Bool) → (x ≡ true → y ≡ true) → (y ≡ true → x ≡ true) → x ≡ y

@@ -7,7 +7,7 @@ use Rattle.fractions.specs.Ring.{ring, v, inv}
 use Rattle.fractions.specs.Order.{◌<ℚ◌}
 use Rattle.fractions.specs.MinMax.{abs_ℚ}
 use Rattle.fractions.specs.Total.{put}
-use Rattle.fractions.proofs.Signs.{<ℚ-irrefl}
+use Rattle.fractions.specs.Signs.{<ℚ-irrefl}
 use Rattle.fractions.proofs.Totals.{put-same}
 use Rattle.lp_model.specs.LinearProgram.{LinearProgram}
 use Rattle.lp_model.specs.Sparse.{dense, has}

@@ -6,13 +6,13 @@ use Rattle.fractions.specs.Number.{Number, rational, zero_ℚ, one_ℚ, neg_ℚ,
 use Rattle.fractions.specs.Ring.{ring, v, num, inv, ◌:*◌, ◌:+◌, ◌:-◌}
 use Rattle.fractions.specs.Order.{◌<ℚ◌, <ℚ-≤ℚ, non_neg_ℚ}
 use Rattle.fractions.proofs.MinMaxLaws.{abs_ℚ-is, abs_ℚ-neg}
-use Rattle.fractions.proofs.Signs.{<ℚ-≢, <ℚ-≢'}
+use Rattle.fractions.specs.Signs.{<ℚ-≢, <ℚ-≢'}
 use Rattle.lp_theory.proofs.ActivityLaws.{lt_true, lt_false}
 use Rattle.fractions.specs.Compare.{lt_ℚ}
 use Rattle.fractions.specs.Ends.{scaled}
 use Rattle.fractions.specs.Floor.{IsWhole, is_whole}
 use Rattle.fractions.specs.MinMax.{abs_ℚ}
-use Rattle.fractions.proofs.Comparisons.{lt_ℚ-is}
+use Rattle.fractions.specs.Comparisons.{lt_ℚ-is}
 use Rattle.fractions.proofs.Floors.{is_whole-is}
 use Rattle.fractions.specs.declared.Past.{Past}
 use Rattle.lp_model.specs.declared.program.Sense.TheVariants.{Min}

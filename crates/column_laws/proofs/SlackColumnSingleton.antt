@@ -7,7 +7,7 @@ use Rattle.fractions.specs.Order.{≤ℚ_antisym}
 use Rattle.fractions.specs.Compare.{eq_ℚ, lt_ℚ}
 use Rattle.fractions.specs.Ends.{less, meet_high, meet_low, minus_ends, scaled}
 use Rattle.fractions.specs.Total.{put}
-use Rattle.fractions.proofs.Comparisons.{eq_ℚ-is}
+use Rattle.fractions.specs.Comparisons.{eq_ℚ-is}
 use Rattle.fractions.proofs.Totals.{put-same, put-other}
 use Rattle.lp_model.specs.EndTests.{is_fixed, is_in_order}
 use Rattle.lp_model.specs.Ends.{IsSided}

@@ -8,7 +8,7 @@ use Rattle.fractions.specs.Number.{Number, rational, zero_ℚ, ◌+ℚ◌, ◌-�
 use Rattle.fractions.specs.Ring.{ring, v, num, ◌:+◌, ◌:-◌, ◌:*◌}
 use Rattle.fractions.specs.Division.{◌/ℚ◌}
 use Rattle.fractions.specs.Total.{put, total}
-use Rattle.fractions.proofs.Comparisons.{le_ℚ-is}
+use Rattle.fractions.specs.Comparisons.{le_ℚ-is}
 use Rattle.fractions.proofs.Totals.{put-same, put-other}
 use Rattle.lp_model.specs.Edits.{with_cost}
 use Rattle.lp_model.specs.EndTests.{is_in_order}

@@ -7,7 +7,7 @@ use Rattle.std.proofs.lemmas.List.Elements.{All-cons, All-head}
 use Rattle.fractions.specs.Number.{Number, zero_ℚ}
 use Rattle.fractions.specs.Order.{◌≤ℚ◌, ≤ℚ_refl}
 use Rattle.fractions.specs.Compare.{le_ℚ}
-use Rattle.fractions.proofs.Comparisons.{le_ℚ-is}
+use Rattle.fractions.specs.Comparisons.{le_ℚ-is}
 use Rattle.lp_model.specs.declared.terms.Term.{Term}
 use Rattle.lp_model.specs.Edits.{with_bounds}
 use Rattle.lp_model.specs.EndTests.{is_apart, is_place}

@@ -5,7 +5,7 @@ use Rattle.std.proofs.lemmas.Bool.{and_parts, cases_eq}
 use Rattle.fractions.specs.Number.{Number, zero_ℚ}
 use Rattle.fractions.specs.Order.{◌≤ℚ◌, ◌<ℚ◌, ≤ℚ_refl, <ℚ-not}
 use Rattle.fractions.specs.Compare.{lt_ℚ}
-use Rattle.fractions.proofs.Comparisons.{lt_ℚ-is}
+use Rattle.fractions.specs.Comparisons.{lt_ℚ-is}
 use Rattle.lp_model.specs.declared.terms.Term.{Term}
 use Rattle.lp_model.specs.Sparse.{dense, has}
 use Rattle.lp_columns.specs.Locks.{HasNoDownLock, HasNoUpLock}

@@ -8,9 +8,9 @@ use Rattle.std.proofs.Math.Seq.{take-length}
 use Rattle.std.proofs.lemmas.Bool.{and_parts, false≢true, and_from, cases_eq, cases_order}
 use Rattle.fractions.specs.Number.{Number, zero_ℚ}
 use Rattle.fractions.specs.Compare.{le_ℚ, lt_ℚ}
-use Rattle.fractions.proofs.Comparisons.{eq_ℚ-is, le_ℚ-is, lt_ℚ-is, lt_ℚ-not}
+use Rattle.fractions.specs.Comparisons.{eq_ℚ-is, le_ℚ-is, lt_ℚ-is, lt_ℚ-not}
 use Rattle.fractions.specs.Order.{≤ℚ_refl}
-use Rattle.fractions.proofs.Signs.{<ℚ-≤ℚ_trans, ≤ℚ-<ℚ}
+use Rattle.fractions.specs.Signs.{<ℚ-≤ℚ_trans, ≤ℚ-<ℚ}
 use Rattle.lp_model.specs.declared.terms.Term.{Term}
 use Rattle.lp_model.specs.Sparse.{Ascends, dense, has}
 use Rattle.problem_model.specs.declared.part.Contents.TheVariants as holding

@@ -4,7 +4,7 @@ use Rattle.std.proofs.lemmas.Bool.{eq-eqb, cases_eq, ne_eqb}
 use Rattle.fractions.specs.Number.{Number}
 use Rattle.fractions.specs.Compare.{eq_ℚ}
 use Rattle.fractions.specs.Ends.{same_end}
-use Rattle.fractions.proofs.Comparisons.{eq_ℚ-is}
+use Rattle.fractions.specs.Comparisons.{eq_ℚ-is}
 use Rattle.fractions.proofs.EndLaws.{same_end-is}
 use Rattle.lp_model.specs.declared.terms.Term.{Term}
 use Rattle.problem_model.specs.declared.part.Contents.{Contents}

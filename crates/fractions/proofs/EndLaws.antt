@@ -4,9 +4,9 @@ use Rattle.fractions.specs.Ring.{ring, v, ◌:+◌, ◌:-◌}
 use Rattle.fractions.specs.Number.{Number, rational, ◌+ℚ◌, ◌-ℚ◌, ◌*ℚ◌, zero_ℚ}
 use Rattle.fractions.specs.Order.{◌<ℚ◌, ≤ℚ_trans, ≤ℚ-by}
 use Rattle.fractions.specs.Ends.{AtLeast, AtMost, same_end, meet_low, meet_high, less, over}
-use Rattle.fractions.proofs.Comparisons.{eq_ℚ-is}
+use Rattle.fractions.specs.Comparisons.{eq_ℚ-is}
 use Rattle.fractions.proofs.MinMaxLaws.{≤ℚ-max_ℚ_left, ≤ℚ-max_ℚ_right, max_ℚ-≤, min_ℚ-≤_left, min_ℚ-≤_right, ≤ℚ-min_ℚ}
-use Rattle.fractions.proofs.Signs.{low_pos, low_pos', high_pos, high_pos', low_neg, low_neg', high_neg, high_neg'}
+use Rattle.fractions.specs.Signs.{low_pos, low_pos', high_pos, high_pos', low_neg, low_neg', high_neg, high_neg'}
 
 -- at or above both lower ends
 pub meet_low-is : (p q : Option Number) (x : Number) → AtLeast (meet_low p q) x ↔ (AtLeast p x × AtLeast q x)

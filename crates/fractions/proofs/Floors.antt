@@ -10,7 +10,7 @@ use Rattle.fractions.specs.Lowest.{over_of, under_of, under_of_positive, shown, 
 use Rattle.fractions.specs.Gcd.{coprime_by}
 use Rattle.fractions.specs.Order.{◌≤ℚ◌, ◌<ℚ◌, ≤ℚ_refl, ≤ℚ_cases, ≤ℚ_trans, ≤ℚ-cross}
 use Rattle.fractions.specs.Floor.{floor_by, floor_of, ceil_of, IsWhole, is_whole}
-use Rattle.fractions.proofs.Signs.{≤ℚ-same, neg_ℚ-≤}
+use Rattle.fractions.specs.Signs.{≤ℚ-same, neg_ℚ-≤}
 
 floor_low : (n : ℤ) (d : ℕ) → 0 < d → (floor_by n d *ℤ pos d) ≤ℤ n
 floor_low (pos n) d p = let e : n / d * d + n % d ≡ n = div-add-mod' n d in omega (arith, ints)

@@ -1,5 +1,3 @@
-pub mod Signs
-pub mod Comparisons
 pub mod MinMaxLaws
 pub mod EndLaws
 pub mod Floors

@@ -5,8 +5,8 @@ use Rattle.fractions.specs.Number.{Number, rational, ◌+ℚ◌, ◌*ℚ◌, neg
 use Rattle.fractions.specs.Order.{◌≤ℚ◌, ≤ℚ_refl, ≤ℚ_trans, ≤ℚ_antisym, ≤ℚ-by, ≤ℚ_cases, ≤ℚ-+ℚ, <ℚ-≤ℚ}
 use Rattle.fractions.specs.Compare.{le_ℚ}
 use Rattle.fractions.specs.MinMax.{min_ℚ, max_ℚ, abs_ℚ}
-use Rattle.fractions.proofs.Comparisons.{le_ℚ-is}
-use Rattle.fractions.proofs.Signs.{*ℚ_pos, *ℚ_pos_neg, *ℚ_neg}
+use Rattle.fractions.specs.Comparisons.{le_ℚ-is}
+use Rattle.fractions.specs.Signs.{*ℚ_pos, *ℚ_pos_neg, *ℚ_neg}
 
 other : (p q : Number) → le_ℚ p q ≡ false → q ≤ℚ p
 other p q e = elim (≤ℚ_cases p q) [ inl h ↦ absurd (true≢false (sym ((le_ℚ-is p q).1 h) ∙ e)) | inr h ↦ <ℚ-≤ℚ h ]

@@ -6,7 +6,7 @@ use Rattle.fractions.specs.Gcd.{gcd}
 use Rattle.fractions.specs.Number.{Number, zero_ℚ, ◌+ℚ◌, ◌*ℚ◌}
 use Rattle.fractions.specs.Compare.{lt_ℚ, number_cmp, number_cmp-ratio}
 use Rattle.fractions.specs.Lowest.{ratio, IsLowest}
-use Rattle.fractions.proofs.Comparisons.{lt_ℚ-is, cmp-Less}
+use Rattle.fractions.specs.Comparisons.{lt_ℚ-is, cmp-Less}
 use Rattle.fractions.proofs.Floors.{IsLowest-whole}
 use Rattle.fractions.proofs.Quotients.{of_whole}
 use Rattle.fractions.specs.FracWords.{StepsFit}

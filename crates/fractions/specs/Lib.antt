@@ -14,6 +14,8 @@ pub mod MinMax
 pub mod Ends
 pub mod Decimal
 pub mod Total
+pub mod Signs
+pub mod Comparisons
 pub mod FracWords
 pub mod FracFields
 pub mod EndWords

@@ -7,8 +7,8 @@ use Rattle.fractions.specs.Number.{Number, rational, zero_ℚ, ◌*ℚ◌}
 use Rattle.fractions.specs.Ring.{ring, v, num, ◌:*◌}
 use Rattle.fractions.specs.Compare.{eq_ℚ}
 use Rattle.fractions.specs.Division.{◌/ℚ◌}
-use Rattle.fractions.proofs.Comparisons.{eq_ℚ-is}
-use Rattle.fractions.proofs.Signs.{over-times, times-over}
+use Rattle.fractions.specs.Comparisons.{eq_ℚ-is}
+use Rattle.fractions.specs.Signs.{over-times, times-over}
 use Rattle.lp_model.specs.declared.terms.Term.{Term}
 use Rattle.rule_words.specs.Entries.{has_none}
 use Rattle.rule_words.proofs.EndTestsSay.{not_true}

@@ -5,7 +5,7 @@ use Rattle.std.specs.List.{Contains}
 use Rattle.std.proofs.lemmas.Bool.{and_parts}
 use Rattle.fractions.specs.Number.{zero_ℚ, ◌*ℚ◌}
 use Rattle.fractions.specs.Compare.{eq_ℚ}
-use Rattle.fractions.proofs.Comparisons.{eq_ℚ-is}
+use Rattle.fractions.specs.Comparisons.{eq_ℚ-is}
 use Rattle.problem_model.specs.declared.part.Contents.{Contents}
 use Rattle.problem_model.specs.declared.part.Contents.TheVariants as holding
 use Rattle.problem_model.specs.declared.part.Part.TheVariants as part

@@ -8,7 +8,7 @@ use Rattle.fractions.specs.Floor.{IsWhole}
 use Rattle.fractions.specs.Total.{total, put}
 use Rattle.fractions.specs.Ends.{Between}
 use Rattle.fractions.proofs.Totals.{put-same, put-other, at_or_off, total-*, total-put_point}
-use Rattle.fractions.proofs.Signs.{≤ℚ-cancel, ≤ℚ-cancel_down}
+use Rattle.fractions.specs.Signs.{≤ℚ-cancel, ≤ℚ-cancel_down}
 use Rattle.lp_model.specs.declared.program.Sense.TheVariants.{Min}
 use Rattle.lp_model.specs.Vectors.{Vector}
 use Rattle.lp_model.specs.LinearProgram.{LinearProgram, value_at, cost_at, Feasible}

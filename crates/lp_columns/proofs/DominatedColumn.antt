@@ -9,7 +9,7 @@ use Rattle.fractions.specs.Total.{total, put}
 use Rattle.fractions.specs.Ends.{AtLeast, AtMost, Between}
 use Rattle.fractions.proofs.Floors.{IsWhole-+ℚ, IsWhole-neg_ℚ}
 use Rattle.fractions.proofs.Totals.{put-same, put-other, at_or_off, total_same, total-+, total-put_point}
-use Rattle.fractions.proofs.Signs.{≤ℚ-same, *ℚ_pos, *ℚ_pos_neg, *ℚ_neg}
+use Rattle.fractions.specs.Signs.{≤ℚ-same, *ℚ_pos, *ℚ_pos_neg, *ℚ_neg}
 use Rattle.lp_model.specs.declared.program.Sense.TheVariants.{Min}
 use Rattle.lp_model.specs.Vectors.{Vector}
 use Rattle.lp_model.specs.LinearProgram.{LinearProgram, value_at, cost_at, Feasible}

@@ -3,7 +3,7 @@ use Rattle.std.proofs.Common.{◌≡◌, ℕ, ◌<◌, subst, inl, inr, None}
 use Rattle.fractions.specs.Number.{Number, zero_ℚ, ◌-ℚ◌, ◌*ℚ◌, *ℚ_comm}
 use Rattle.fractions.specs.Order.{◌≤ℚ◌}
 use Rattle.fractions.specs.Ends.{AtLeast, AtMost, Between}
-use Rattle.fractions.proofs.Signs.{*ℚ_pos_neg}
+use Rattle.fractions.specs.Signs.{*ℚ_pos_neg}
 use Rattle.lp_model.specs.declared.program.Sense.TheVariants.{Min}
 use Rattle.lp_model.specs.LinearProgram.{LinearProgram}
 use Rattle.lp_model.specs.Reductions.{Reduces, ReducesPairs}

@@ -6,7 +6,7 @@ use Rattle.fractions.specs.Number.{Number, rational, zero_ℚ, ◌+ℚ◌, ◌-�
 use Rattle.fractions.specs.Order.{◌≤ℚ◌, ◌<ℚ◌, ≤ℚ_antisym, ≤ℚ-by, ≤ℚ-*ℚ, ≤ℚ_cases, <ℚ-≤ℚ, <ℚ-not}
 use Rattle.fractions.specs.Compare.{lt_ℚ}
 use Rattle.fractions.specs.Ends.{AtLeast, AtMost, Between}
-use Rattle.fractions.proofs.Signs.{≤ℚ-same, ≤ℚ-*ℚ_down}
+use Rattle.fractions.specs.Signs.{≤ℚ-same, ≤ℚ-*ℚ_down}
 use Rattle.lp_model.specs.declared.program.Sense.TheVariants.{Min}
 use Rattle.lp_model.specs.LinearProgram.{LinearProgram}
 use Rattle.lp_model.specs.Reductions.{Reduces, ReducesPairs}

@@ -10,7 +10,7 @@ use Rattle.fractions.specs.Total.{total, put}
 use Rattle.fractions.specs.Ends.{AtLeast, AtMost, Between, plus, minus_ends, meet_low, meet_high, over}
 use Rattle.fractions.proofs.Floors.{IsWhole-+ℚ, IsWhole-*ℚ, IsWhole-neg_ℚ}
 use Rattle.fractions.proofs.Totals.{put-same, put-other, at_or_off, total-put_point, total-put_both, total-put_factor}
-use Rattle.fractions.proofs.Signs.{times-over}
+use Rattle.fractions.specs.Signs.{times-over}
 use Rattle.lp_model.specs.declared.program.Sense.{Sense}
 use Rattle.lp_model.specs.Vectors.{Vector}
 use Rattle.lp_model.specs.LinearProgram.{LinearProgram, cost_at, Feasible}

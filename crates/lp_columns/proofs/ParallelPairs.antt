@@ -7,7 +7,7 @@ use Rattle.fractions.specs.Linear.{linear, fact}
 use Rattle.fractions.specs.Total.{total, put}
 use Rattle.fractions.specs.Ends.{AtLeast, AtMost, Between, plus}
 use Rattle.fractions.proofs.Totals.{put-same, put-other, at_or_off, total_same, total-*}
-use Rattle.fractions.proofs.Signs.{≤ℚ-same}
+use Rattle.fractions.specs.Signs.{≤ℚ-same}
 use Rattle.lp_model.specs.declared.program.Sense.TheVariants.{Min}
 use Rattle.lp_model.specs.Vectors.{Vector}
 use Rattle.lp_model.specs.LinearProgram.{LinearProgram}

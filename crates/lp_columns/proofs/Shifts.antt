@@ -6,7 +6,7 @@ use Rattle.fractions.specs.Order.{◌≤ℚ◌, ◌<ℚ◌, ≤ℚ_trans, ≤ℚ
 use Rattle.fractions.specs.Ends.{AtLeast, AtMost, Between}
 use Rattle.fractions.specs.Total.{total}
 use Rattle.fractions.proofs.Totals.{total-zero, total-≤}
-use Rattle.fractions.proofs.Signs.{≤ℚ-same, *ℚ_pos, *ℚ_pos_neg, *ℚ_neg}
+use Rattle.fractions.specs.Signs.{≤ℚ-same, *ℚ_pos, *ℚ_pos_neg, *ℚ_neg}
 use Rattle.lp_theory.proofs.Pairs.{below_if_not}
 
 pub more_than : (y d : Number) → zero_ℚ ≤ℚ d → y ≤ℚ (y +ℚ d)

@@ -11,7 +11,7 @@ use Rattle.fractions.specs.Total.{put}
 use Rattle.fractions.specs.Ends.{Between}
 use Rattle.fractions.proofs.Floors.{≤-ceil_of, IsWhole-+ℚ, IsWhole-*ℚ, IsWhole-neg_ℚ}
 use Rattle.fractions.proofs.MinMaxLaws.{≤ℚ-max_ℚ_left, ≤ℚ-max_ℚ_right}
-use Rattle.fractions.proofs.Signs.{≤ℚ-*ℚ_down, over-times, <ℚ-≢'}
+use Rattle.fractions.specs.Signs.{≤ℚ-*ℚ_down, over-times, <ℚ-≢'}
 use Rattle.fractions.proofs.Totals.{put-same, put-other, at_or_off}
 use Rattle.lp_model.specs.declared.program.Sense.TheVariants.{Min}
 use Rattle.lp_model.specs.Vectors.{Vector}

@@ -10,7 +10,7 @@ use Rattle.fractions.specs.Total.{total}
 use Rattle.fractions.specs.Ends as ends
 use Rattle.fractions.specs.Ends.{Between}
 use Rattle.fractions.proofs.Floors.{of_ℤ-≤}
-use Rattle.fractions.proofs.Signs.{*ℚ_pos}
+use Rattle.fractions.specs.Signs.{*ℚ_pos}
 use Rattle.fractions.proofs.Totals.{total_same, total-zero, total-≤}
 use Rattle.lp_model.specs.declared.program.Sense.TheVariants.{Min}
 use Rattle.lp_model.specs.declared.program.RowDef.{RowDef}

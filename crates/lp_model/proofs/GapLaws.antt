@@ -6,7 +6,7 @@ use Rattle.fractions.specs.Order.{◌≤ℚ◌, ◌<ℚ◌, ≤ℚ_refl, ≤ℚ_
 use Rattle.fractions.specs.Ends.{AtLeast, AtMost, Between}
 use Rattle.fractions.specs.MinMax.{min_ℚ, max_ℚ}
 use Rattle.fractions.proofs.MinMaxLaws.{min_ℚ-≤_left, min_ℚ-≤_right, ≤ℚ-max_ℚ_left, ≤ℚ-max_ℚ_right}
-use Rattle.fractions.proofs.Comparisons.{lt_ℚ-is}
+use Rattle.fractions.specs.Comparisons.{lt_ℚ-is}
 use Rattle.lp_model.specs.EndTests.{is_crossed}
 use Rattle.lp_model.specs.Gaps.{Gap, OffGap, Lies, Clears, gap_of, low_or_zero, high_or_zero, hull_lower, hull_upper, reach_lower, reach_upper}
 

@@ -3,7 +3,7 @@ use Rattle.std.proofs.Common.{◌≡◌, ◌↔◌, Bool, true, false, Option, S
 use Rattle.std.specs.Prelude.{IfSome, if◌then◌else◌}
 use Rattle.fractions.specs.Number.{Number, ◌-ℚ◌}
 use Rattle.fractions.specs.Compare.{eq_ℚ}
-use Rattle.fractions.proofs.Comparisons.{eq_ℚ-is}
+use Rattle.fractions.specs.Comparisons.{eq_ℚ-is}
 use Rattle.fractions.specs.declared.Numbers.{Numbers}
 use Rattle.lp_model.specs.Writable.{WritableNumber}
 use Rattle.lp_model.specs.Ends.{WidthIsWritten, width}

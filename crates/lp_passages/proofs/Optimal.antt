@@ -16,7 +16,7 @@ use Rattle.lp_model.specs.declared.program.Sense.TheVariants.{Min, Max}
 use Rattle.lp_model.specs.Senses.{NoWorse}
 use Rattle.lp_model.specs.Optimality.{reduced_cost, Meets}
 use Rattle.fractions.proofs.Totals.{total_same, total-zero, total-+, total-*, total-≤, total_swap}
-use Rattle.fractions.proofs.Signs.{≤ℚ-same, ≤ℚ-*ℚ_down}
+use Rattle.fractions.specs.Signs.{≤ℚ-same, ≤ℚ-*ℚ_down}
 
 -- a price times what another value has more
 term_ge : (z x w : Number) (l u : Option Number) → (zero_ℚ <ℚ z → l ≡ Some x) → (z <ℚ zero_ℚ → u ≡ Some x) → Between l u w → zero_ℚ ≤ℚ (z *ℚ (w -ℚ x))

@@ -11,7 +11,7 @@ use Rattle.fractions.specs.Division.{◌/ℚ◌}
 use Rattle.fractions.specs.Total.{put}
 use Rattle.fractions.specs.Ends.{AtLeast, AtMost, Between, over, minus_ends, same_end}
 use Rattle.fractions.proofs.Totals.{put-same, put-other, at_or_off}
-use Rattle.fractions.proofs.Signs.{≤ℚ-same, ≤ℚ-*ℚ_down, over-times}
+use Rattle.fractions.specs.Signs.{≤ℚ-same, ≤ℚ-*ℚ_down, over-times}
 use Rattle.fractions.proofs.EndLaws.{same_end-is}
 use Rattle.lp_model.specs.declared.program.Sense.{Sense}
 use Rattle.lp_model.specs.declared.program.Sense.TheVariants.{Min}

@@ -14,7 +14,7 @@ use Rattle.fractions.specs.Ends.{AtLeast, AtMost, Between}
 use Rattle.fractions.proofs.Floors.{of_ℤ-≤}
 use Rattle.fractions.proofs.MinMaxLaws.{abs_ℚ-is, abs_ℚ-neg}
 use Rattle.fractions.proofs.Totals.{put-same, put-other, at_or_off}
-use Rattle.fractions.proofs.Signs.{≤ℚ-same, ≤ℚ-*ℚ_down}
+use Rattle.fractions.specs.Signs.{≤ℚ-same, ≤ℚ-*ℚ_down}
 use Rattle.lp_model.specs.declared.program.Sense.{Sense}
 use Rattle.lp_model.specs.Vectors.{Vector}
 use Rattle.lp_model.specs.LinearProgram.{LinearProgram, value_at}

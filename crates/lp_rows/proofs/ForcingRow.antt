@@ -11,7 +11,7 @@ use Rattle.fractions.specs.Division.{◌/ℚ◌}
 use Rattle.fractions.specs.Total.{total}
 use Rattle.fractions.specs.Ends.{AtLeast, AtMost, Between, plus, scaled}
 use Rattle.fractions.proofs.MinMaxLaws.{min_ℚ_one, max_ℚ_one, ≤ℚ-max_ℚ_left, ≤ℚ-max_ℚ_right, min_ℚ-≤_left, min_ℚ-≤_right}
-use Rattle.fractions.proofs.Signs.{≤ℚ-same, ≤ℚ-*ℚ_down, over-times, <ℚ-≢, <ℚ-≢'}
+use Rattle.fractions.specs.Signs.{≤ℚ-same, ≤ℚ-*ℚ_down, over-times, <ℚ-≢, <ℚ-≢'}
 use Rattle.lp_model.specs.declared.program.Sense.{Sense}
 use Rattle.lp_model.specs.declared.program.Sense.TheVariants.{Min}
 use Rattle.lp_model.specs.Vectors.{Vector}

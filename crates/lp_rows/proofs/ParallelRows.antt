@@ -10,7 +10,7 @@ use Rattle.fractions.specs.Division.{◌/ℚ◌}
 use Rattle.fractions.specs.Total.{total, put}
 use Rattle.fractions.specs.Ends.{Between, over, same_end}
 use Rattle.fractions.proofs.Totals.{put-same, put-other, at_or_off, total_same, total-*, total-put_factor}
-use Rattle.fractions.proofs.Signs.{over-times}
+use Rattle.fractions.specs.Signs.{over-times}
 use Rattle.fractions.proofs.EndLaws.{meet_low-is, meet_high-is, same_end-is}
 use Rattle.lp_model.specs.declared.program.Sense.{Sense}
 use Rattle.lp_model.specs.declared.program.Sense.TheVariants.{Min}

@@ -10,7 +10,7 @@ use Rattle.fractions.specs.Floor.{IsWhole}
 use Rattle.fractions.specs.Total.{total, put}
 use Rattle.fractions.specs.Ends.{AtLeast, AtMost, Between, less, meet_low, meet_high}
 use Rattle.fractions.proofs.Totals.{put-same, put-other, at_or_off}
-use Rattle.fractions.proofs.Signs.{≤ℚ-*ℚ_down, times-over, over-times, ≤ℚ-cancel, ≤ℚ-cancel_down}
+use Rattle.fractions.specs.Signs.{≤ℚ-*ℚ_down, times-over, over-times, ≤ℚ-cancel, ≤ℚ-cancel_down}
 use Rattle.fractions.proofs.EndLaws.{meet_low-is, meet_high-is}
 use Rattle.fractions.proofs.Floors.{IsWhole-+ℚ, IsWhole-*ℚ, IsWhole-neg_ℚ}
 use Rattle.lp_model.specs.declared.program.Sense.{Sense}

@@ -9,7 +9,7 @@ use Rattle.fractions.specs.Compare.{lt_ℚ}
 use Rattle.fractions.specs.Total.{total, put}
 use Rattle.fractions.specs.Ends.{less, meet_low, meet_high}
 use Rattle.fractions.proofs.Totals.{put-same, put-other, at_or_off, total_same, total-+, total-*}
-use Rattle.fractions.proofs.Signs.{over-times}
+use Rattle.fractions.specs.Signs.{over-times}
 use Rattle.lp_model.specs.declared.program.Sense.TheVariants.{Min}
 use Rattle.lp_model.specs.Vectors.{Vector}
 use Rattle.lp_model.specs.LinearProgram.{LinearProgram, value_at}

@@ -9,7 +9,7 @@ use Rattle.fractions.specs.Division.{◌/ℚ◌}
 use Rattle.fractions.specs.Total.{put}
 use Rattle.fractions.specs.Ends.{AtLeast, AtMost, Between, same_end, minus_ends, LowBelow, HighAbove}
 use Rattle.fractions.proofs.Totals.{put-same, put-other, at_or_off, total_same}
-use Rattle.fractions.proofs.Signs.{≤ℚ-same, over-times}
+use Rattle.fractions.specs.Signs.{≤ℚ-same, over-times}
 use Rattle.fractions.proofs.EndLaws.{same_end-is}
 use Rattle.lp_model.specs.declared.program.Sense.TheVariants.{Min}
 use Rattle.lp_model.specs.Vectors.{Vector}

@@ -9,9 +9,9 @@ use Rattle.fractions.specs.Compare.{lt_ℚ, eq_ℚ}
 use Rattle.fractions.specs.Division.{inv_ℚ, ◌/ℚ◌}
 use Rattle.fractions.specs.Total.{put}
 use Rattle.fractions.specs.Ends.{AtLeast, AtMost, Between, less, minus_ends}
-use Rattle.fractions.proofs.Comparisons.{eq_ℚ-is}
+use Rattle.fractions.specs.Comparisons.{eq_ℚ-is}
 use Rattle.fractions.proofs.Totals.{put-same, put-other, at_or_off}
-use Rattle.fractions.proofs.Signs.{over-times}
+use Rattle.fractions.specs.Signs.{over-times}
 use Rattle.lp_model.specs.declared.program.Sense.{Sense}
 use Rattle.lp_model.specs.declared.program.Sense.TheVariants.{Min}
 use Rattle.lp_model.specs.Vectors.{Vector}

@@ -11,7 +11,7 @@ use Rattle.fractions.specs.Ends.{AtLeast, AtMost, Between, plus, scaled}
 use Rattle.fractions.specs.Compare.{lt_ℚ}
 use Rattle.lp_theory.specs.Activities.{total_ends, least_term, greatest_term, least_terms, greatest_terms, least, greatest, least_rest, greatest_rest}
 use Rattle.fractions.proofs.Totals.{put-same, put-other, at_or_off, total-put}
-use Rattle.fractions.proofs.Signs.{≤ℚ-same, ≤ℚ-*ℚ_down}
+use Rattle.fractions.specs.Signs.{≤ℚ-same, ≤ℚ-*ℚ_down}
 
 pub AtLeast-+ : (p q : Option Number) (a b : Number) → AtLeast p a → AtLeast q b → AtLeast (plus p q) (a +ℚ b)
 AtLeast-+ None q a b h k = tt

@@ -8,7 +8,7 @@ use Rattle.fractions.specs.Floor.{IsWhole}
 use Rattle.fractions.specs.Total.{total, put}
 use Rattle.fractions.specs.Ends.{AtLeast, AtMost, Between, less, minus_ends}
 use Rattle.fractions.proofs.Totals.{put-same, put-other, at_or_off, total_same, total-zero, total-+, total-*, total-put, total-put_both, total-put_factor}
-use Rattle.fractions.proofs.Signs.{over-times}
+use Rattle.fractions.specs.Signs.{over-times}
 use Rattle.fractions.proofs.EndLaws.{less-low, less-high}
 use Rattle.lp_model.specs.declared.program.Sense.TheVariants.{Min}
 use Rattle.lp_model.specs.Vectors.{Vector}

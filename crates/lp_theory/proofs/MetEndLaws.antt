@@ -7,7 +7,7 @@ use Rattle.fractions.specs.Order.{◌≤ℚ◌, ◌<ℚ◌, ≤ℚ_antisym, ≤�
 use Rattle.fractions.specs.Compare.{lt_ℚ, le_ℚ}
 use Rattle.fractions.specs.Division.{◌/ℚ◌, inv_ℚ}
 use Rattle.fractions.specs.Ends.{Between, over, meet_low, meet_high, same_end}
-use Rattle.fractions.proofs.Signs.{over-times, over-≤, over-≤_down}
+use Rattle.fractions.specs.Signs.{over-times, over-≤, over-≤_down}
 use Rattle.fractions.proofs.EndLaws.{same_end-is, over-low, over-high, over-low_down, over-high_down}
 use Rattle.lp_theory.specs.MetEnds.{lower_over, upper_over}
 use Rattle.lp_theory.proofs.ActivityLaws.{lt_true, lt_false}

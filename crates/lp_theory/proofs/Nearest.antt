@@ -8,7 +8,7 @@ use Rattle.fractions.specs.Floor.{IsWhole}
 use Rattle.fractions.specs.Ends.{AtMost, Between, meet_low, meet_high, scaled, over}
 use Rattle.fractions.proofs.EndLaws.{meet_low-is, meet_high-is}
 use Rattle.fractions.proofs.MinMaxLaws.{max_ℚ_one, min_ℚ_one}
-use Rattle.fractions.proofs.Signs.{low_pos, high_pos, low_neg, high_neg, over-≤, over-≤_down}
+use Rattle.fractions.specs.Signs.{low_pos, high_pos, low_neg, high_neg, over-≤, over-≤_down}
 use Rattle.lp_theory.specs.Activities.{least_term, greatest_term}
 use Rattle.lp_theory.specs.MetEnds.{lower_over, upper_over}
 use Rattle.lp_theory.specs.Nearest.{InOrder, near_below, near}

@@ -18,7 +18,7 @@ use Rattle.fractions.specs.Compare.{lt_ℚ}
 use Rattle.lp_theory.specs.Activities.{least_term, total_ends}
 use Rattle.lp_model.specs.Edits.{without_row}
 use Rattle.fractions.proofs.Totals.{put-same, put-other, at_or_off, total_same, total-put_factor}
-use Rattle.fractions.proofs.Signs.{times-over, <ℚ-≢, <ℚ-≢'}
+use Rattle.fractions.specs.Signs.{times-over, <ℚ-≢, <ℚ-≢'}
 use Rattle.lp_theory.proofs.ActivityLaws.{lt_true, lt_false, total_ends-low, total_ends-high}
 use Rattle.lp_theory.proofs.Steps.{value-without_row}
 

@@ -5,7 +5,7 @@ use Rattle.fractions.specs.Number.{Number, zero_ℚ, ◌+ℚ◌, ◌-ℚ◌, ◌
 use Rattle.fractions.specs.Order.{◌<ℚ◌, ≤ℚ_trans}
 use Rattle.fractions.specs.Linear.{linear, fact}
 use Rattle.fractions.specs.Ends.{AtLeast, AtMost, LowBelow, HighAbove, minus_ends, over}
-use Rattle.fractions.proofs.Signs.{low_pos, high_pos, low_neg, high_neg}
+use Rattle.fractions.specs.Signs.{low_pos, high_pos, low_neg, high_neg}
 
 pub at_least_from : (p q : Option Number) (x : Number) → LowBelow p q → AtLeast q x → AtLeast p x
 at_least_from None q x b h = tt

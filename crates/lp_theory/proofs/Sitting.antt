@@ -7,7 +7,7 @@ use Rattle.fractions.specs.Number.{Number, rational, zero_ℚ, ◌+ℚ◌, ◌*�
 use Rattle.fractions.specs.Order.{◌≤ℚ◌, ≤ℚ_cases, ≤ℚ_antisym, ≤ℚ-by, ≤ℚ-*ℚ, ◌<ℚ◌, <ℚ-≤ℚ, <ℚ-not}
 use Rattle.fractions.specs.Compare.{lt_ℚ, le_ℚ}
 use Rattle.fractions.specs.Ends.{AtLeast, AtMost, Between, meet_low, meet_high, less, same_end}
-use Rattle.fractions.proofs.Signs.{≤ℚ-same, ≤ℚ-*ℚ_down, *ℚ_pos, *ℚ_pos_neg, *ℚ_neg}
+use Rattle.fractions.specs.Signs.{≤ℚ-same, ≤ℚ-*ℚ_down, *ℚ_pos, *ℚ_pos_neg, *ℚ_neg}
 use Rattle.fractions.proofs.EndLaws.{same_end-is}
 use Rattle.lp_model.specs.declared.program.Sense.TheVariants.{Min}
 use Rattle.lp_model.specs.LinearProgram.{LinearProgram, value_at, Feasible}

@@ -6,7 +6,7 @@ use Rattle.fractions.specs.Order.{≤ℚ_trans, ≤ℚ-by}
 use Rattle.fractions.specs.Total.{total, put}
 use Rattle.fractions.specs.Ends.{Between}
 use Rattle.fractions.proofs.Totals.{put-same, put-other, at_or_off}
-use Rattle.fractions.proofs.Signs.{≤ℚ-same}
+use Rattle.fractions.specs.Signs.{≤ℚ-same}
 use Rattle.lp_model.specs.declared.program.Sense.{Sense}
 use Rattle.lp_model.specs.declared.program.Sense.TheVariants.{Min, Max}
 use Rattle.lp_model.specs.Vectors.{Vector}

@@ -4,7 +4,7 @@ use Rattle.std.specs.Prelude.{◌==◌, not, filter, Option, Some, None, unwrap_
 use Rattle.std.proofs.lemmas.Bool.{ne_eqb, cases_eq}
 use Rattle.std.proofs.lemmas.List.{take_all}
 use Rattle.fractions.specs.Number.{Number, zero_ℚ}
-use Rattle.fractions.proofs.Comparisons.{eq_ℚ-is}
+use Rattle.fractions.specs.Comparisons.{eq_ℚ-is}
 use Rattle.lp_model.specs.declared.terms.Term.{Term}
 use Rattle.mps_profile.specs.Rows.{is_free}
 use Rattle.mps_profile.specs.Program.{kind_at, id_of}

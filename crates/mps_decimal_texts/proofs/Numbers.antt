@@ -8,8 +8,8 @@ use Rattle.fractions.specs.Order.{◌≤ℚ◌}
 use Rattle.fractions.specs.Ring.{ring, v, inv}
 use Rattle.fractions.specs.Lowest.{ratio, neg_ℚ-ratio}
 use Rattle.fractions.specs.Compare.{le_ℚ}
-use Rattle.fractions.proofs.Comparisons.{le_ℚ-is}
-use Rattle.fractions.proofs.Signs.{neg_ℚ-≤}
+use Rattle.fractions.specs.Comparisons.{le_ℚ-is}
+use Rattle.fractions.specs.Signs.{neg_ℚ-≤}
 use Rattle.fractions.specs.declared.Numbers.TheVariants.{Decimal, Fractions}
 use Rattle.fractions.specs.Places.{is_decimal}
 use Rattle.fractions.specs.Scaled.{scaled}

@@ -6,7 +6,7 @@ use Rattle.std.proofs.lemmas.List.Elements.{All-nil, All-push, filter_more}
 use Rattle.std.proofs.lemmas.Bool.{cases_lt, both_ways}
 use Rattle.fractions.specs.Number.{Number, zero_ℚ}
 use Rattle.fractions.specs.Compare.{eq_ℚ}
-use Rattle.fractions.proofs.Comparisons.{eq_ℚ-is}
+use Rattle.fractions.specs.Comparisons.{eq_ℚ-is}
 use Rattle.lp_model.specs.declared.terms.Term.{Term}
 use Rattle.lp_model.specs.declared.program.ColumnDef.{ColumnDef}
 use Rattle.lp_model.specs.Sparse.{Ascends}

@@ -5,7 +5,7 @@ use Rattle.std.proofs.lemmas.Bool.Decides.{nat_tests}
 use Rattle.fractions.specs.Number.{Number, of_ℤ, zero_ℚ, neg_ℚ, ◌+ℚ◌, lift2}
 use Rattle.fractions.specs.Order.{◌≤ℚ◌, ≤ℚ_trans, non_neg_ℚ}
 use Rattle.fractions.specs.Compare.{le_ℚ}
-use Rattle.fractions.proofs.Comparisons.{le_ℚ-is}
+use Rattle.fractions.specs.Comparisons.{le_ℚ-is}
 use Rattle.fractions.specs.Scaled.{scaled}
 use Rattle.number_texts.specs.Form.{Terms, number, up_of, down_of}
 use Rattle.number_texts.specs.Reach.{reaches}

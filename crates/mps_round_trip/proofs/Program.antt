@@ -7,7 +7,7 @@ use Rattle.std.proofs.lemmas.Option.{slice_get-get_or}
 use Rattle.std.proofs.lemmas.Iterator.Adapters.{position_from-zero}
 use Rattle.fractions.specs.Number.{Number, neg_ℚ, zero_ℚ}
 use Rattle.fractions.specs.Compare.{eq_ℚ}
-use Rattle.fractions.proofs.Comparisons.{eq_ℚ-is}
+use Rattle.fractions.specs.Comparisons.{eq_ℚ-is}
 use Rattle.fractions.specs.declared.Numbers.{Numbers}
 use Rattle.lp_model.specs.declared.program.Sense.{Sense}
 use Rattle.lp_model.specs.declared.program.Sense.TheVariants.{Min, Max}

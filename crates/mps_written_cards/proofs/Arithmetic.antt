@@ -7,7 +7,7 @@ use Rattle.fractions.specs.Ring.{ring, v, num, ◌:+◌, ◌:-◌, inv}
 use Rattle.fractions.specs.Number.{Number, rational, zero_ℚ, ◌+ℚ◌, ◌-ℚ◌, neg_ℚ}
 use Rattle.fractions.specs.Order.{◌≤ℚ◌, ≤ℚ-by, <ℚ-not}
 use Rattle.fractions.specs.Compare.{eq_ℚ, lt_ℚ}
-use Rattle.fractions.proofs.Comparisons.{lt_ℚ-is, eq_ℚ-is}
+use Rattle.fractions.specs.Comparisons.{lt_ℚ-is, eq_ℚ-is}
 use Rattle.fractions.specs.FracWords.{StepsFit, SumFits}
 use Rattle.fractions.specs.declared.Numbers.{Numbers}
 use Rattle.number_texts.specs.Read.{is_taken}

@@ -12,7 +12,7 @@ use Rattle.fractions.specs.Lowest.{over_of, under_of, under_of_positive, coprime
 use Rattle.fractions.specs.Divisors.{nat_abs-neg}
 use Rattle.fractions.specs.Gcd.{gcd}
 use Rattle.fractions.specs.Compare.{le_ℚ}
-use Rattle.fractions.proofs.Comparisons.{le_ℚ-is}
+use Rattle.fractions.specs.Comparisons.{le_ℚ-is}
 use Rattle.fractions.specs.declared.Numbers.{Numbers}
 use Rattle.fractions.specs.declared.Numbers.TheVariants.{Decimal, Fractions}
 use Rattle.fractions.specs.Places.{place_of, is_decimal}

@@ -3,7 +3,7 @@ use Rattle.std.proofs.Common.{◌≡◌, ℕ, zero, suc, ◌<◌, ◌≤◌, ◌
 use Rattle.std.proofs.lemmas.Bool.{lt-ltb, le-ltb, eq-eqb, ne_eqb, cases_order, and_parts, false_from_ne_true}
 use Rattle.fractions.specs.Number.{Number, zero_ℚ}
 use Rattle.fractions.specs.Compare.{eq_ℚ}
-use Rattle.fractions.proofs.Comparisons.{eq_ℚ-is}
+use Rattle.fractions.specs.Comparisons.{eq_ℚ-is}
 use Rattle.lp_model.specs.declared.program.RowDef.{RowDef}
 use Rattle.lp_model.specs.declared.program.ColumnDef.{ColumnDef}
 use Rattle.lp_model.specs.declared.terms.Term.{Term}

@@ -8,7 +8,7 @@ use Rattle.fractions.specs.Number.{Number, zero_ℚ, ◌*ℚ◌}
 use Rattle.fractions.specs.Compare.{eq_ℚ}
 use Rattle.fractions.specs.Division.{◌/ℚ◌}
 use Rattle.fractions.specs.Lowest.{Fits}
-use Rattle.fractions.proofs.Comparisons.{eq_ℚ-is}
+use Rattle.fractions.specs.Comparisons.{eq_ℚ-is}
 use Rattle.fractions.specs.declared.Past.{Past}
 use Rattle.lp_model.specs.declared.terms.Term.{Term}
 use Rattle.problem_model.specs.declared.line.Line.{Line}

@@ -9,7 +9,7 @@ use Rattle.fractions.specs.Compare.{eq_ℚ}
 use Rattle.fractions.specs.Ends.{meet_high, meet_low, minus_ends, plus}
 use Rattle.fractions.specs.Floor.{IsWhole, is_whole}
 use Rattle.fractions.specs.Total.{put}
-use Rattle.fractions.proofs.Comparisons.{eq_ℚ-is, le_ℚ-is}
+use Rattle.fractions.specs.Comparisons.{eq_ℚ-is, le_ℚ-is}
 use Rattle.fractions.proofs.Floors.{is_whole-is}
 use Rattle.fractions.proofs.Totals.{put-same, put-other, at_or_off}
 use Rattle.lp_model.specs.declared.program.Sense.TheVariants.{Min}

@@ -6,7 +6,7 @@ use Rattle.std.proofs.lemmas.Bool.{eq-eqb, ne_eqb, cases_eq}
 use Rattle.std.specs.List.{All}
 use Rattle.std.proofs.lemmas.List.Elements.{All-nil, All-cons, All-head, All-tail, All-map, All-append}
 use Rattle.fractions.specs.Number.{Number, zero_ℚ}
-use Rattle.fractions.proofs.Comparisons.{eq_ℚ-is}
+use Rattle.fractions.specs.Comparisons.{eq_ℚ-is}
 use Rattle.lp_model.specs.declared.terms.Term.{Term}
 use Rattle.lp_model.specs.Sparse.{has, dense}
 use Rattle.problem_model.specs.declared.edit.Edit.{Edit}

@@ -10,7 +10,7 @@ use Rattle.fractions.specs.Division.{◌/ℚ◌}
 use Rattle.fractions.specs.Total.{total, put}
 use Rattle.fractions.specs.Ends.{less}
 use Rattle.fractions.proofs.Totals.{put-same, put-other, at_or_off, total_same, total-*}
-use Rattle.fractions.proofs.Signs.{over-times}
+use Rattle.fractions.specs.Signs.{over-times}
 use Rattle.lp_model.specs.Vectors.{Vector}
 use Rattle.lp_model.specs.LinearProgram.{LinearProgram}
 use Rattle.lp_theory.specs.Elsewhere.{substituted}

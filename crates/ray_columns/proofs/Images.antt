@@ -7,7 +7,7 @@ use Rattle.fractions.specs.Order.{◌≤ℚ◌, <ℚ-≤ℚ}
 use Rattle.fractions.specs.Compare.{lt_ℚ}
 use Rattle.fractions.specs.Inverse.{inv_ℚ}
 use Rattle.fractions.specs.Division.{◌/ℚ◌}
-use Rattle.fractions.proofs.Signs.{*ℚ_pos}
+use Rattle.fractions.specs.Signs.{*ℚ_pos}
 use Rattle.lp_theory.proofs.ActivityLaws.{lt_true, lt_false}
 use Rattle.lp_substitutions.specs.DoubletonEquation.{image, image_lower, image_upper}
 use Rattle.lp_rays.specs.Ray.{IsWeight, worth}

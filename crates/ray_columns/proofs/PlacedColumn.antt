@@ -10,7 +10,7 @@ use Rattle.fractions.specs.Linear.{linear, fact}
 use Rattle.fractions.specs.Ends.{same_end}
 use Rattle.fractions.specs.Total.{total, put}
 use Rattle.fractions.proofs.Totals.{put-same, put-other, at_or_off, total-zero, total-≤}
-use Rattle.fractions.proofs.Signs.{≤ℚ-same, *ℚ_pos, *ℚ_pos_neg}
+use Rattle.fractions.specs.Signs.{≤ℚ-same, *ℚ_pos, *ℚ_pos_neg}
 use Rattle.fractions.proofs.EndLaws.{same_end-is}
 use Rattle.lp_model.specs.LinearProgram.{LinearProgram}
 use Rattle.lp_columns.specs.BestPlace.{column_fixed_at}

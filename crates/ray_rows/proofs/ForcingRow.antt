@@ -10,7 +10,7 @@ use Rattle.fractions.specs.Division.{◌/ℚ◌}
 use Rattle.fractions.specs.Total.{total, put}
 use Rattle.fractions.specs.Ends.{scaled}
 use Rattle.fractions.proofs.Totals.{total-*, total_same}
-use Rattle.fractions.proofs.Signs.{over-times, <ℚ-≢, ≤ℚ-*_pos}
+use Rattle.fractions.specs.Signs.{over-times, <ℚ-≢, ≤ℚ-*_pos}
 use Rattle.lp_model.specs.Vectors.{Vector}
 use Rattle.lp_model.specs.LinearProgram.{LinearProgram}
 use Rattle.lp_theory.specs.Activities.{least_term, greatest_term, least_terms, greatest_terms}

@@ -15,7 +15,7 @@ use Rattle.fractions.specs.Gcd.{gcd, gcd-times}
 use Rattle.fractions.specs.Number.{Number, zero_ℚ}
 use Rattle.fractions.specs.Compare.{eq_ℚ}
 use Rattle.fractions.specs.Lowest.{over_of, under_of, under_of_positive, coprime_of, ratio, Fits}
-use Rattle.fractions.proofs.Comparisons.{eq_ℚ-is}
+use Rattle.fractions.specs.Comparisons.{eq_ℚ-is}
 use Rattle.number_texts.specs.Form.{cut, is_slash, is_minus, number}
 use Rattle.number_texts.specs.Read.{signed}
 use Rattle.number_texts.specs.declared.reading.ReadNumber.{ReadNumber}

@@ -8,8 +8,8 @@ use Rattle.fractions.specs.Ring.{ring, v, num, ◌:+◌}
 use Rattle.fractions.specs.Number.{Number, rational, ◌+ℚ◌, zero_ℚ}
 use Rattle.fractions.specs.Ends.{plus, scaled}
 use Rattle.fractions.specs.Compare.{lt_ℚ}
-use Rattle.fractions.proofs.Signs.{<ℚ-irrefl}
-use Rattle.fractions.proofs.Comparisons.{lt_ℚ-is}
+use Rattle.fractions.specs.Signs.{<ℚ-irrefl}
+use Rattle.fractions.specs.Comparisons.{lt_ℚ-is}
 use Rattle.fractions.specs.Total.{put}
 use Rattle.fractions.proofs.Totals.{put-same, put-other, at_or_off}
 use Rattle.fractions.specs.declared.Past.{Past}

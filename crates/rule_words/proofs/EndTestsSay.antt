@@ -6,7 +6,7 @@ use Rattle.fractions.specs.Order.{◌<ℚ◌}
 use Rattle.fractions.specs.Compare.{eq_ℚ}
 use Rattle.fractions.specs.Floor.{IsWhole, is_whole}
 use Rattle.fractions.specs.Ends.{AtLeast, AtMost, Between}
-use Rattle.fractions.proofs.Comparisons.{le_ℚ-is, lt_ℚ-is, eq_ℚ-is}
+use Rattle.fractions.specs.Comparisons.{le_ℚ-is, lt_ℚ-is, eq_ℚ-is}
 use Rattle.fractions.proofs.Floors.{is_whole-is}
 use Rattle.lp_theory.proofs.Pairs.{some_inj}
 use Rattle.lp_theory.specs.Crossed.{AreCrossed}

@@ -4,7 +4,7 @@ use Rattle.std.proofs.lemmas.Bool.{and_parts, cases_eq, eqb-true}
 use Rattle.fractions.specs.Number.{Number, rational, zero_ℚ, ◌*ℚ◌}
 use Rattle.fractions.specs.Ring.{ring, v, num, ◌:*◌}
 use Rattle.fractions.specs.Compare.{eq_ℚ}
-use Rattle.fractions.proofs.Comparisons.{eq_ℚ-is}
+use Rattle.fractions.specs.Comparisons.{eq_ℚ-is}
 use Rattle.lp_model.specs.declared.terms.Term.{Term}
 use Rattle.lp_model.specs.Sparse.{Ascends, dense}
 use Rattle.problem_laws.proofs.Terms.{dense-cons_other, dense-cons_same}

@@ -4,7 +4,7 @@ use Rattle.std.proofs.lemmas.Bool.{cases_order}
 use Rattle.fractions.specs.Number.{Number, ◌*ℚ◌}
 use Rattle.fractions.specs.Order.{◌<ℚ◌, <ℚ-≤ℚ, <ℚ-not}
 use Rattle.fractions.specs.Ends.{AtLeast, AtMost, Between}
-use Rattle.fractions.proofs.Signs.{<ℚ_trans}
+use Rattle.fractions.specs.Signs.{<ℚ_trans}
 use Rattle.lp_model.specs.LinearProgram.{LinearProgram}
 use Rattle.lp_theory.specs.Crossed.{AreCrossed}
 use Rattle.lp_theory.proofs.Pairs.{not_below}

@@ -9,7 +9,7 @@ use Rattle.fractions.specs.Inverse.{inv_ℚ, ◌/ℚ◌, not_one-≤-zero}
 use Rattle.fractions.specs.Total.{total, put}
 use Rattle.fractions.specs.Ends.{AtLeast, AtMost, Between}
 use Rattle.fractions.proofs.Totals.{total_same, total-*, total-zero, total-≤, total-put_point, put-same, put-other, at_or_off}
-use Rattle.fractions.proofs.Signs.{≤ℚ-same, over-times, over-≤_down, <ℚ-≢'}
+use Rattle.fractions.specs.Signs.{≤ℚ-same, over-times, over-≤_down, <ℚ-≢'}
 use Rattle.lp_model.specs.declared.program.Sense.TheVariants.{Min}
 use Rattle.lp_model.specs.Vectors.{Vector}
 use Rattle.lp_model.specs.Gaps.{Clears}

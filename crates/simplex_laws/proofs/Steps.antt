@@ -8,7 +8,7 @@ use Rattle.fractions.specs.Order.{◌<ℚ◌, <ℚ-≤ℚ, <ℚ-not}
 use Rattle.fractions.specs.Linear.{linear, fact}
 use Rattle.fractions.specs.Compare.{lt_ℚ}
 use Rattle.fractions.specs.Ends.{less, over}
-use Rattle.fractions.proofs.Comparisons.{lt_ℚ-is}
+use Rattle.fractions.specs.Comparisons.{lt_ℚ-is}
 use Rattle.lp_model.specs.LinearProgram.{LinearProgram}
 use Rattle.lp_theory.proofs.Pairs.{below_if_not, not_below}
 use Rattle.tableau_laws.specs.Variables.{lower_end, upper_end, Rests}

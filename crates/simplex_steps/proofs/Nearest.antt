@@ -3,7 +3,7 @@ use Rattle.std.proofs.Common.{◌≡◌, ◌⊎◌, inl, inr, ℕ, ◌+◌, ◌<
 use Rattle.std.proofs.lemmas.Bool.{cases_eq}
 use Rattle.fractions.specs.Number.{Number}
 use Rattle.fractions.specs.Order.{◌≤ℚ◌, ◌<ℚ◌, ≤ℚ_antisym, ≤ℚ_cases}
-use Rattle.fractions.proofs.Signs.{<ℚ_trans}
+use Rattle.fractions.specs.Signs.{<ℚ_trans}
 use Rattle.simplex_steps.specs.declared.limits.Stop.{Stop}
 use Rattle.simplex_steps.specs.Best.{IsNearest, IsBest}
 

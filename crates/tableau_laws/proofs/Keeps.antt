@@ -6,7 +6,7 @@ use Rattle.fractions.specs.Number.{Number, rational, zero_ℚ, one_ℚ, ◌+ℚ�
 use Rattle.fractions.specs.Inverse.{inv_ℚ, ◌/ℚ◌}
 use Rattle.fractions.specs.Total.{total, put}
 use Rattle.fractions.proofs.Totals.{total_same, total-put_point, put-same, put-other, at_or_off}
-use Rattle.fractions.proofs.Signs.{over-times}
+use Rattle.fractions.specs.Signs.{over-times}
 use Rattle.lp_model.specs.Vectors.{Vector}
 use Rattle.lp_model.specs.LinearProgram.{LinearProgram}
 use Rattle.tableau_laws.specs.Variables.{lower_end, upper_end, Rests}

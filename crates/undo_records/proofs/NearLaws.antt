@@ -6,7 +6,7 @@ use Rattle.fractions.specs.MinMax.{abs_ℚ}
 use Rattle.fractions.specs.Order.{◌≤ℚ◌, ≤ℚ_refl, ≤ℚ_trans, ≤ℚ-by, <ℚ-≤ℚ}
 use Rattle.fractions.specs.Compare.{lt_ℚ}
 use Rattle.fractions.specs.Ends.{AtMost, Between}
-use Rattle.fractions.proofs.Comparisons.{le_ℚ-is, lt_ℚ-is, lt_ℚ-not}
+use Rattle.fractions.specs.Comparisons.{le_ℚ-is, lt_ℚ-is, lt_ℚ-not}
 use Rattle.fractions.proofs.MinMaxLaws.{abs_ℚ_pos, ≤ℚ-abs_ℚ, neg_ℚ-≤-abs_ℚ, abs_ℚ-≤}
 use Rattle.undo_records.specs.Near.{zero_or_below, near}
 

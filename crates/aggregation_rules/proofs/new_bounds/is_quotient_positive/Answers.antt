@@ -1,5 +1,5 @@
 use Rattle.std.proofs.Common.{◌∙◌, sym}
-use Rattle.fractions.proofs.Comparisons.{lt_ℚ-is}
+use Rattle.fractions.specs.Comparisons.{lt_ℚ-is}
 use Rattle.fractions.specs.Number.{zero_ℚ}
 use Rattle.aggregation_rules.proofs.Sign.{sign_by_positive, sign_by_negative}
 use Rattle.aggregation_rules.proofs.new_bounds.is_quotient_positive.Goals as goal

@@ -1,5 +1,5 @@
 use Rattle.fractions.specs.Order.{≤ℚ_trans, ≤ℚ_antisym, ≤ℚ_cases, <ℚ-not, ≤ℚ-+ℚ, ≤ℚ-*ℚ}
-use Rattle.fractions.proofs.Signs.{≤ℚ-*ℚ_down}
+use Rattle.fractions.specs.Signs.{≤ℚ-*ℚ_down}
 use Rattle.fractions.proofs.Floors.{of_ℤ-≤}
 use Rattle.fractions.proofs.number_laws.numbers_are_ordered.Goals as goal
 

@@ -1,4 +1,4 @@
-use Rattle.fractions.proofs.Signs.{*ℚ_pos, *ℚ_neg, *ℚ_pos_neg, *ℚ-zero, <ℚ-*ℚ, <ℚ-*ℚ_down, over-≤, over-≤_down}
+use Rattle.fractions.specs.Signs.{*ℚ_pos, *ℚ_neg, *ℚ_pos_neg, *ℚ-zero, <ℚ-*ℚ, <ℚ-*ℚ_down, over-≤, over-≤_down}
 use Rattle.fractions.proofs.number_laws.signs_of_products_and_quotients.Goals as goal
 
 pub returns : goal.returns

@@ -1,4 +1,4 @@
-use Rattle.fractions.proofs.Comparisons.{le_ℚ-is, lt_ℚ-is, eq_ℚ-is, number_cmp_total}
+use Rattle.fractions.specs.Comparisons.{le_ℚ-is, lt_ℚ-is, eq_ℚ-is, number_cmp_total}
 use Rattle.fractions.proofs.number_laws.tests_decide_the_order.Goals as goal
 
 pub returns : goal.returns

@@ -1,7 +1,7 @@
 use Rattle.std.proofs.Common.{sym, ap, ◌∙◌}
 use Rattle.std.specs.Ordering.{is_le}
 use Rattle.fractions.specs.Compare.{number_cmp-ratio}
-use Rattle.fractions.proofs.Comparisons.{is_le-cmp}
+use Rattle.fractions.specs.Comparisons.{is_le-cmp}
 use Rattle.kept_sums.proofs.kept_sides.is_at_most.Goals as goal
 
 pub returns-in-Some : goal.returns-in-Some

@@ -1,6 +1,6 @@
 use Rattle.std.proofs.Common.{sym, ◌∙◌}
 use Rattle.fractions.specs.Number.{zero_ℚ}
-use Rattle.fractions.proofs.Comparisons.{lt_ℚ-is}
+use Rattle.fractions.specs.Comparisons.{lt_ℚ-is}
 use Rattle.simplex_steps.proofs.Moving.{move_up}
 use Rattle.simplex_steps.proofs.ends.can_move.Goals as goal
 

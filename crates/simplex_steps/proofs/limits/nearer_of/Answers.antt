@@ -1,6 +1,6 @@
 use Rattle.std.proofs.Common.{sym, ◌∙◌, true≢false}
 use Rattle.fractions.specs.Order.{◌<ℚ◌}
-use Rattle.fractions.proofs.Comparisons.{le_ℚ-is}
+use Rattle.fractions.specs.Comparisons.{le_ℚ-is}
 use Rattle.lp_theory.proofs.Pairs.{below_if_not}
 use Rattle.simplex_steps.proofs.Nearest.{best_kept, best_taken}
 use Rattle.simplex_steps.proofs.limits.nearer_of.Goals as goal

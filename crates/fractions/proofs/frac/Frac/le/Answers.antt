@@ -1,6 +1,6 @@
 use Rattle.std.proofs.Common.{ap, ◌∙◌}
 use Rattle.std.specs.Ordering.{is_le}
-use Rattle.fractions.proofs.Comparisons.{is_le-cmp}
+use Rattle.fractions.specs.Comparisons.{is_le-cmp}
 use Rattle.fractions.proofs.frac.Frac.le.Goals as goal
 
 pub returns : goal.returns

@@ -1,6 +1,6 @@
 use Rattle.std.proofs.Common.{ap, ◌∙◌}
 use Rattle.std.specs.Ordering.{is_lt}
-use Rattle.fractions.proofs.Comparisons.{is_lt-cmp}
+use Rattle.fractions.specs.Comparisons.{is_lt-cmp}
 use Rattle.fractions.proofs.frac.Frac.lt.Goals as goal
 
 pub returns : goal.returns
