@@ -8,6 +8,7 @@ The scripts of this folder and of bench/ import it."""
 import os
 import re
 import resource
+import signal
 import subprocess
 from collections import namedtuple
 from decimal import Decimal
@@ -57,6 +58,11 @@ def run(words, place, log, seconds=None):
         _, status, usage = os.wait4(child.pid, 0)
     child.returncode = os.waitstatus_to_exitcode(status)
     return Run(child.returncode, usage.ru_utime + usage.ru_stime)
+
+
+def is_out_of_time(done, seconds):
+    """Whether a command was ended by the limit of its time."""
+    return seconds is not None and done.status in (-signal.SIGXCPU, -signal.SIGKILL)
 
 
 def fields(line):
@@ -261,7 +267,7 @@ def ask(solver, place, reduced, guess=False, seconds=None, path=None, options=()
         os.remove(stale)
     write_model(place, solver)
     done = run([path or solver.name, *solver.words(reduced, list(options))], place, 'solver.log', seconds)
-    if done.status < 0 and seconds is not None and done.seconds >= seconds:
+    if is_out_of_time(done, seconds):
         return Answer(NO_TIME, {}, {}, done.seconds)
     try:
         verdict, *told = solver.read(place, reduced)
