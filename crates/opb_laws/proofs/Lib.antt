@@ -5,3 +5,6 @@ pub mod Faultless
 pub mod Ranges
 pub mod Writing
 pub mod Few
+pub mod Named
+pub mod Unnamed
+pub mod Growing

@@ -1,9 +1,9 @@
 //! What holds of the tokens of each text.
 
-ghost use Rattle.std.specs.Prelude.{◌≡◌, None, ℕ, ◌≤◌, suc, List, length};
+ghost use Rattle.std.specs.Prelude.{◌≡◌, None, ℕ, ◌<◌, ◌≤◌, ◌^◌, suc, List, length};
 ghost use Rattle.fractions.specs.declared.Numbers.{Numbers};
 ghost use Rattle.lp_model.specs.Writable.{EntriesAscend, Writable};
-ghost use Rattle.lp_model.specs.Names.{Differ};
+ghost use Rattle.lp_model.specs.Names.{Differ, WellNamed};
 ghost use Rattle.opb_text.specs.Tokens.{Token};
 ghost use Rattle.opb_text.specs.Statements.{open_row};
 ghost use Rattle.opb_text.specs.Columns.{column_names};
@@ -23,6 +23,11 @@ pub fn text_is_writable()
 /// No two columns have one name.
 pub fn names_differ()
     ensures { (tokens : List Token) → Differ (column_names tokens) }
+{}
+
+/// The objective, the rows and the columns of a text's program have names, and they differ, where a row's number has room.
+pub fn text_is_well_named()
+    ensures { (text : List ℕ) → length text < 2 ^ 63 → WellNamed (program_of text).objective (program_of text).rows (program_of text).columns }
 {}
 
 /// A text has no more tokens than bytes; tokens have one row more than there are of them at most, that of `min:` among

@@ -4,4 +4,4 @@
 
 mod laws;
 
-pub use laws::{entries_ascend, names_differ, text_bounds, text_is_writable};
+pub use laws::{entries_ascend, names_differ, text_bounds, text_is_well_named, text_is_writable};

@@ -1,9 +1,10 @@
 -- The program of a text without a fault.
-use Rattle.std.specs.Prelude.{ℕ, zero, suc, true, false, List, [], ◌∷◌, ◌++◌, length, Some, None, codes}
+use Rattle.std.specs.Prelude.{ℕ, ℤ, zero, suc, true, false, List, [], ◌∷◌, ◌++◌, length, Some, None, codes}
 use Rattle.std.specs.Fmt.{decimal}
 use Rattle.fractions.specs.Number.{of_ℤ, zero_ℚ, one_ℚ}
 use Rattle.lp_model.specs.declared.program.Sense.TheVariants.{Min}
 use Rattle.lp_model.specs.declared.program.ColumnDef.{ColumnDef}
+use Rattle.lp_model.specs.declared.terms.Term.{Term}
 use Rattle.lp_model.specs.ProgramData.{ProgramData}
 use Rattle.mps_profile.specs.Texts.{field}
 use Rattle.mps_profile.specs.Program.{rows_below, terms_below, columns_below}
@@ -22,17 +23,15 @@ row_names zero = []
 row_names (suc zero) = codes "obj" ∷ []
 row_names (suc (suc i)) = row_names (suc i) ++ constraint_name (suc i) ∷ []
 
--- column j is whole and lies between 0 and 1
+-- a column that is whole and lies between 0 and 1
+abbrev pub binary_column : Text → ℤ → List Term → ColumnDef
+binary_column name cost entries = record { name = name; cost = of_ℤ cost; lower = Some zero_ℚ; upper = Some one_ℚ; whole = true; semi = false; entries = entries }
+
+-- column j, with its costs and its terms in the rows
 abbrev pub column_def : List Token → ℕ → ColumnDef
-column_def tokens j = record {
-  name = field (column_names tokens) j;
-  cost = of_ℤ (coefficient tokens 0 (field (column_names tokens) j));
-  lower = Some zero_ℚ;
-  upper = Some one_ℚ;
-  whole = true;
-  semi = false;
-  entries = terms_below (row_kinds tokens) (λ i. of_ℤ (coefficient tokens i (field (column_names tokens) j))) (open_row tokens);
-}
+column_def tokens j =
+    let name : Text = field (column_names tokens) j in
+    binary_column name (coefficient tokens 0 name) (terms_below (row_kinds tokens) (λ i. of_ℤ (coefficient tokens i name)) (open_row tokens))
 
 -- the program that the statements say
 abbrev pub program_in : List Token → ProgramData
