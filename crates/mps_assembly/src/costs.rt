@@ -22,7 +22,7 @@ fn no_costs(alloc: Global, count: usize) -> Result<Vec<Frac>, AllocError>
 }
 
 /// Sets the cost of an entry's column. A column past the last is left out.
-fn set_cost(costs: &mut Vec<Frac>, entry: Entry)
+pub fn set_cost(costs: &mut Vec<Frac>, entry: Entry)
     ensures count { length costs.new.items ≡ length costs.old.items }
     ensures set { (j : ℕ) → j < length costs.old.items → cost_at costs.new.items j ≡ (if entry.column == j then entry.value else cost_at costs.old.items j) }
 {

@@ -29,7 +29,7 @@ pub struct RowTables<'a> {
 
 /// The sides of a row with a right side, and with the sides of its range where it has one. An N row
 /// has none.
-fn sides(kind: RowKind, side: Frac, range: Option<Interval>) -> Option<(Ext, Ext)>
+pub fn sides(kind: RowKind, side: Frac, range: Option<Interval>) -> Option<(Ext, Ext)>
     ensures { result ≡ sides_of kind side range }
 {
     match (kind, range) {
@@ -41,8 +41,12 @@ fn sides(kind: RowKind, side: Frac, range: Option<Interval>) -> Option<(Ext, Ext
     }
 }
 
-/// Adds a row, unless it is an N row.
-fn add_row(
+/// Adds a row with its sides, unless it is an N row, which has none.
+///
+/// # Errors
+///
+/// Where there is no memory.
+pub fn add_row(
     found: &mut Vec<RowDef>,
     alloc: Global,
     name: &[u8],

@@ -74,8 +74,17 @@ fn add_number(terms: &mut Terms, alloc: Global, id: u32, value: Frac) -> Result<
     Ok(())
 }
 
-/// Adds an entry of a row to the terms of its column. A column past the last is left out.
-fn add_entry(found: &mut Vec<Terms>, alloc: Global, id: u32, entry: Entry) -> Result<(), AllocError>
+/// Adds an entry of a row with this id to the terms of its column, unless it is 0. A column past the last is left out.
+///
+/// # Errors
+///
+/// Where there is no memory.
+pub fn add_entry(
+    found: &mut Vec<Terms>,
+    alloc: Global,
+    id: u32,
+    entry: Entry,
+) -> Result<(), AllocError>
     ensures count { OnOk result (length found.new.items ≡ length found.old.items) }
     ensures added { OnOk result ((j : ℕ) → j < length found.old.items → terms_at found.new.items j ≡ (if entry.column == j then terms_at found.old.items j ++ number_terms id entry.value else terms_at found.old.items j)) }
 {

@@ -19,7 +19,7 @@ one_most true = omega arith
 one_most false = omega arith
 
 -- the free row makes none
-ids_few : (kinds : List RowKind) (i : ℕ) → kind_at kinds 0 ≡ Free → id_of kinds (suc i) ≤ i
+pub ids_few : (kinds : List RowKind) (i : ℕ) → kind_at kinds 0 ≡ Free → id_of kinds (suc i) ≤ i
 ids_few kinds zero first = let none : count_of (is_free (kind_at kinds 0)) ≡ 0 = ap (λ (kind : RowKind). count_of (is_free kind)) first in omega (arith, next_id kinds 0, none)
 ids_few kinds (suc i) first = omega (arith, next_id kinds (suc i), ids_few kinds i first, one_most (is_free (kind_at kinds (suc i))))
 

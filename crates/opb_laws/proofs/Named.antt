@@ -129,7 +129,7 @@ names_below tokens (suc j) within =
     ∙ sym (take_more (column_names tokens) j [] (omega (arith, within)))
     ∙ ap (λ n. take n (column_names tokens)) (add-one j)
 
-all_names : (tokens : List Token) → names_of_columns (program_in tokens).columns ≡ column_names tokens
+pub all_names : (tokens : List Token) → names_of_columns (program_in tokens).columns ≡ column_names tokens
 all_names tokens = names_below tokens (length (column_names tokens)) (omega arith) ∙ take_all (length (column_names tokens)) (column_names tokens) (omega arith)
 
 -- ---- names of rows

@@ -1,13 +1,17 @@
 //! Tokens.
 
-ghost use Rattle.std.specs.Prelude.{◌≡◌, ◌<◌, ◌^◌, if◌then◌else◌};
+ghost use Rattle.std.specs.Prelude.{◌≡◌, ◌<◌, ◌^◌, ◌∷◌, List, if◌then◌else◌};
 ghost use Rattle.number_texts.specs.Read.{signed};
 ghost use Rattle.number_texts.specs.Form.{is_minus, unsigned, number};
 ghost use Rattle.opb_text.specs.Tokens.{is_name, is_negated, is_whole, number_token, literal_token, token_of};
+ghost use Rattle.opb_text.specs.Tokens as texts;
+ghost use Rattle.opb_text.specs.Statements.{last_number};
+ghost use Rattle.opb_text.specs.Reading.{is_literal, plain_fault};
 ghost use Rattle.opb_tokens.specs.Texts.{text_token};
 
 use fractions::whole::Whole;
 use number_texts::form::{is_digits, number, sign};
+use opb_text::OpbFaultKind;
 
 /// What a word is.
 #[derive(Clone, Copy)]
@@ -30,6 +34,37 @@ pub enum Token<'a> {
     Negated(&'a [u8]),
     /// None of these.
     Odd,
+}
+
+impl Token<'_> {
+    /// Whether it is a literal.
+    pub fn is_literal(&self) -> bool
+        ensures { result ≡ is_literal (text_token self.now) }
+    {
+        matches!(self, Token::Plain(_) | Token::Negated(_))
+    }
+
+    /// The number that it is, and 0 where it is none.
+    pub fn number(&self) -> Whole
+        ensures { (before : List texts.Token) → result ≡ last_number (text_token self.now ∷ before) }
+    {
+        match self {
+            Token::Number(value) => *value,
+            _ => Whole::natural(0),
+        }
+    }
+
+    /// What is wrong with it by itself, or behind a literal.
+    pub fn fault(&self, after_literal: bool) -> Option<OpbFaultKind>
+        ensures { result ≡ plain_fault after_literal (text_token self.now) }
+    {
+        match self {
+            Token::Odd => Some(OpbFaultKind::BadToken),
+            Token::Past => Some(OpbFaultKind::NumberPast),
+            Token::Plain(_) | Token::Negated(_) if after_literal => Some(OpbFaultKind::Product),
+            _ => None,
+        }
+    }
 }
 
 /// Whether a word is a column's name: `x` and digits.

@@ -1,0 +1,4 @@
+pub mod Covering
+pub mod Pushing
+pub mod Ending
+pub mod Defining

@@ -1,0 +1,4 @@
+pub mod Later
+pub mod Shapes
+pub mod Holding
+pub mod Reading
