@@ -1,4 +1,5 @@
 pub mod Digits
+pub mod DigitLaws
 pub mod MantissaLaws
 pub mod RangeLaws
 pub mod ReadingLaws

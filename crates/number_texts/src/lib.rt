@@ -11,6 +11,7 @@ mod display;
 pub mod form;
 pub mod laws;
 mod mantissa;
+pub mod naturals;
 mod reach;
 mod reading;
 mod scaling;

@@ -5,6 +5,7 @@ ghost use Rattle.std.specs.Fmt.{decimal};
 ghost use Rattle.fractions.specs.Places.{place_of};
 ghost use Rattle.number_texts.specs.Written.{last_digits, with_point, sign_of, size_text, written};
 
+use crate::naturals::push_natural;
 use fractions::frac::Frac;
 use fractions::places::{place, power};
 use fractions::whole::Whole;
@@ -20,15 +21,6 @@ fn digits_of(buffer: &mut Buffer, number: u128) -> &str
     } else {
         buffer.format(number)
     }
-}
-
-/// Appends a natural number.
-fn push_natural(out: &mut Vec<u8>, number: u128) -> Result<(), AllocError>
-    ensures text { OnOk result (out.new.items ≡ out.old.items ++ decimal number) }
-    ensures unchanged { OnErr result (out.new.items ≡ out.old.items) }
-{
-    let mut buffer = Buffer::new();
-    out.extend_from_slice(digits_of(&mut buffer, number).as_bytes())
 }
 
 /// A 1, and behind it exactly `places` digits of `number`.

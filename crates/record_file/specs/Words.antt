@@ -74,6 +74,13 @@ abbrev pub version_word : TextVersion → List ℕ
 version_word First = codes "1"
 version_word Second = codes "2"
 
+-- the kind of a part
+abbrev pub kind_word : Part → List ℕ
+kind_word (Row i) = codes "row"
+kind_word (Sides i) = codes "sides"
+kind_word (Col j) = codes "col"
+kind_word (Bounds j) = codes "bounds"
+
 -- a part: its kind, and the id of its row or column
 abbrev pub part_words : Part → List (List ℕ)
 part_words (Row i) = codes "row" ∷ decimal i ∷ []

@@ -15,7 +15,6 @@ use undo_records::{PartRead, Transaction, Transactions, Undo};
 fn push_read(out: &mut Vec<u8>, read: &PartRead) -> Result<(), AllocError>
     ensures { OnOk result (out.new.items ≡ out.old.items ++ line_text (line (codes "part") (read_words read.now))) }
 {
-    out.extend_from_slice(b"part")?;
     push_part(out, read.part)?;
     push_number(out, read.changes)?;
     out.push(b'\n')?;

@@ -1,64 +1,41 @@
 //! The words of a line, each behind a space.
 
-ghost use Rattle.std.specs.Prelude.{◌≡◌, ◌++◌, ◌∷◌, [], map, OnOk};
+ghost use Rattle.std.specs.Prelude.{◌≡◌, ◌++◌, ◌∷◌, [], codes, map, OnOk};
 ghost use Rattle.std.specs.Fmt.{decimal};
-ghost use Rattle.record_file.specs.Words.{ratio_word, lower_word, upper_word, letter_word, side_word, bound_word, fate_word, list_words, part_words};
+ghost use Rattle.record_file.specs.Words.{ratio_word, lower_word, upper_word, letter_word, side_word, bound_word, fate_word, list_words, kind_word, part_words};
 ghost use Rattle.record_file.specs.Onto.{words_onto};
 
 use fractions::ext::Ext;
 use fractions::frac::Frac;
-use itoa::Buffer;
 use lp_model::Term;
+use number_texts::naturals::{MOST_DIGITS, push_natural, put_digits};
 use problem_model::Part;
 use std::alloc::AllocError;
 use undo_records::{RowFate, Side};
 
-/// Appends the digits of a natural number.
-fn push_digits(out: &mut Vec<u8>, number: u128) -> Result<(), AllocError>
-    ensures { OnOk result (out.new.items ≡ out.old.items ++ decimal number) }
+/// Appends a number of 64 bits. Room is made once for all its digits.
+#[tactic(auto, using(number_texts::proofs::DigitLaws::digits_laws))]
+pub fn push_number(out: &mut Vec<u8>, number: u64) -> Result<(), AllocError>
+    ensures { OnOk result (out.new.items ≡ out.old.items ++ 32 ∷ decimal number) }
 {
-    let mut buffer = Buffer::new();
-    if number < 1 << 64 {
-        out.extend_from_slice(buffer.format(number as u64).as_bytes())
-    } else {
-        out.extend_from_slice(buffer.format(number).as_bytes())
-    }
-}
-
-/// Appends a natural number. Most of them have one digit.
-#[tactic(auto, using(std::proofs::lemmas::Fmt::decimal_digit))]
-fn push_natural(out: &mut Vec<u8>, number: u128) -> Result<(), AllocError>
-    ensures { OnOk result (out.new.items ≡ out.old.items ++ decimal number) }
-{
-    if number < 10 {
-        out.push(b'0' + number as u8)?;
-        return Ok(());
-    }
-    push_digits(out, number)
+    out.reserve(1 + MOST_DIGITS)?;
+    out.push_reserved(b' ');
+    put_digits(out, number);
+    Ok(())
 }
 
 /// Appends a count.
 pub fn push_count(out: &mut Vec<u8>, count: usize) -> Result<(), AllocError>
     ensures { OnOk result (out.new.items ≡ out.old.items ++ 32 ∷ decimal count) }
 {
-    out.push(b' ')?;
-    push_natural(out, count as u128)
-}
-
-/// Appends a number of 64 bits.
-pub fn push_number(out: &mut Vec<u8>, number: u64) -> Result<(), AllocError>
-    ensures { OnOk result (out.new.items ≡ out.old.items ++ 32 ∷ decimal number) }
-{
-    out.push(b' ')?;
-    push_natural(out, number as u128)
+    push_number(out, count as u64)
 }
 
 /// Appends the id of a row or a column.
 pub fn push_id(out: &mut Vec<u8>, id: u32) -> Result<(), AllocError>
     ensures { OnOk result (out.new.items ≡ out.old.items ++ 32 ∷ decimal id) }
 {
-    out.push(b' ')?;
-    push_natural(out, id as u128)
+    push_number(out, id as u64)
 }
 
 /// Appends a number as `n` or `n/d`.
@@ -148,26 +125,32 @@ pub fn push_terms(out: &mut Vec<u8>, terms: &[Term]) -> Result<(), AllocError>
     Ok(())
 }
 
-/// Appends the kind of a part, and the id of its row or column.
-pub fn push_part(out: &mut Vec<u8>, part: Part) -> Result<(), AllocError>
-    ensures { OnOk result (out.new.items ≡ words_onto out.old.items (part_words part)) }
+/// The word with which the line of a part begins, and the kind of the part.
+fn opening_of(part: Part) -> &'static [u8]
+    ensures { result.now ≡ codes "part" ++ 32 ∷ kind_word part }
 {
     match part {
-        Part::Row(row) => {
-            out.extend_from_slice(b" row")?;
-            push_id(out, row)
-        }
-        Part::Sides(row) => {
-            out.extend_from_slice(b" sides")?;
-            push_id(out, row)
-        }
-        Part::Col(column) => {
-            out.extend_from_slice(b" col")?;
-            push_id(out, column)
-        }
-        Part::Bounds(column) => {
-            out.extend_from_slice(b" bounds")?;
-            push_id(out, column)
-        }
+        Part::Row(_) => b"part row",
+        Part::Sides(_) => b"part sides",
+        Part::Col(_) => b"part col",
+        Part::Bounds(_) => b"part bounds",
     }
+}
+
+/// The row or the column of a part.
+fn id_of(part: Part) -> u32
+    ensures { kind_word part ∷ decimal result ∷ [] ≡ part_words part }
+{
+    match part {
+        Part::Row(id) | Part::Sides(id) | Part::Col(id) | Part::Bounds(id) => id,
+    }
+}
+
+/// Appends the word with which the line of a part begins, the kind of the part, and the id of its row or column.
+pub fn push_part(out: &mut Vec<u8>, part: Part) -> Result<(), AllocError>
+    ensures { OnOk result (out.new.items ≡ words_onto (out.old.items ++ codes "part") (part_words part)) }
+{
+    out.extend_from_slice(opening_of(part))?;
+    push_id(out, id_of(part))?;
+    Ok(())
 }
