@@ -1,6 +1,6 @@
 //! Lists of rows or columns, and the entries in which they cross.
 
-ghost use Rattle.std.specs.Prelude.{◌≡◌, ◌++◌, ◌∷◌, [], length, true, if◌then◌else◌, IfOk, IfSome, IfNone, OnOk};
+ghost use Rattle.std.specs.Prelude.{◌≡◌, ◌+◌, ◌≤◌, ◌++◌, [], length, true, vec_capacity, IfOk, IfSome, IfNone};
 ghost use Rattle.lp_model.specs.Sparse.{Ascends};
 ghost use Rattle.problem_model.specs.Problems.{first_of};
 ghost use Rattle.problem_model.specs.Edits.{lines_losing, lines_without};
@@ -76,24 +76,26 @@ pub fn first_live(others: &[Line], terms: &[Term]) -> Option<Term>
     None
 }
 
-/// Adds a term that names a live line, and leaves any other out.
-fn keep_live(items: &mut Vec<Term>, others: &[Line], term: Term) -> Result<(), AllocError>
-    ensures { OnOk result (items.new.items ≡ items.old.items ++ (if (line_at others.now term.id).live then term ∷ [] else [])) }
+/// Adds the terms that name a live line. There is room for all.
+fn keep_live(items: &mut Vec<Term>, others: &[Line], terms: &[Term])
+    requires { length items.old.items + length terms.now ≤ vec_capacity items.old }
+    ensures { items.new.items ≡ items.old.items ++ live_only others.now terms.now }
 {
-    if is_live(others, term.id) {
-        items.push(term)?;
+    let mut rest = terms;
+    while let [term, after @ ..] = rest {
+        if is_live(others, term.id) {
+            items.push_reserved(*term);
+        }
+        rest = after;
     }
-    Ok(())
 }
 
 /// The terms that name a live line.
 fn live_terms(alloc: Global, others: &[Line], terms: &[Term]) -> Result<Terms, AllocError>
     ensures { IfOk result (λ ts. ts ≡ live_only others.now terms.now) }
 {
-    let mut items = Vec::new(alloc);
-    for term in terms {
-        keep_live(&mut items, others, *term)?;
-    }
+    let mut items = Vec::with_capacity(alloc, terms.len())?;
+    keep_live(&mut items, others, terms);
     Ok(Terms::new(items))
 }
 
