@@ -3,7 +3,7 @@ use Rattle.std.proofs.Common.{◌≡◌, ◌≢◌, ℕ, ◌+◌, ◌*◌, ◌/�
 use Rattle.std.specs.Prelude.{if◌then◌else◌}
 use Prim.Native.Nat.{◌∣◌}
 use native.Mathlib.Nat.{dvd_trans, dvd-mul_right, div-mul_cancel}
-use Rattle.std.proofs.Math.Nat.{mul-div_cancel_left}
+use Rattle.std.proofs.Math.Nat.{div_self, mul-div_cancel_left}
 use Rattle.std.proofs.lemmas.Int.{ints, unsigned_abs-mul}
 use Rattle.fractions.specs.Ring.{ring, whole, v, num, ◌:+◌, ◌:*◌}
 use Rattle.fractions.specs.Number.{Number, ◌+ℚ◌, zero_ℚ, of_ℤ}
@@ -207,6 +207,25 @@ number_more a b q s t h k total sizes light infinite = record {
   where
     turned : (m n : ℕ) → m + n ≡ n + m
     turned m n = omega arith
+
+-- the same of a number that is written over the sum's denominator
+pub number_over_more : (a b : List (Option Number)) (q : Number) (s t : CommonSum) (z : ℤ) → IsCommonSum (a ++ b) s → under_of q ≡ s.denominator → over_of q ≡ z → t.denominator ≡ s.denominator
+    → t.total ≡ s.total +ℤ z → t.sizes ≡ s.sizes + nat_abs z → t.sizes < 2 ^ 127 → t.infinite ≡ s.infinite → IsCommonSum (a ++ Some q ∷ b) t
+number_over_more a b q s t z h u o d total sizes light infinite =
+    let one : t.denominator / s.denominator ≡ 1 = ap (λ (n : ℕ). n / s.denominator) d ∙ div_self h.positive in
+    let own : of_number t.denominator q ≡ z = ap (λ (n : ℕ). over_of q *ℤ pos (t.denominator / n)) u ∙ ap (λ (n : ℕ). over_of q *ℤ pos n) one ∙ ring whole (over_of q ∷ []) (v 0 :* num (pos 1)) (v 0) refl ∙ o in
+    let first : s.denominator ∣ t.denominator = subst (λ (n : ℕ). s.denominator ∣ n) (sym d) (itself s.denominator) in
+    let second : under_of q ∣ t.denominator = subst (λ (n : ℕ). n ∣ t.denominator) (sym u) first in
+    let scaled : s.total ≡ s.total *ℤ pos (t.denominator / s.denominator) = ring whole (s.total ∷ []) (v 0) (v 0 :* num (pos 1)) refl ∙ ap (λ (n : ℕ). s.total *ℤ pos n) (sym one) in
+    let spread : s.sizes ≡ s.sizes * (t.denominator / s.denominator) = times_one s.sizes ∙ ap (λ (n : ℕ). s.sizes * n) (sym one) in
+    let multiple : IsCommonMultiple s.denominator (under_of q) t.denominator = record { positive = subst (λ (n : ℕ). 0 < n) (sym d) h.positive; short = subst (λ (n : ℕ). n < 2 ^ 127) (sym d) h.short; first = first; second = second } in
+    number_more a b q s t h multiple (total ∙ ap₂ ◌+ℤ◌ scaled (sym own)) (sizes ∙ ap₂ ◌+◌ spread (ap nat_abs (sym own))) light infinite
+  where
+    times_one : (n : ℕ) → n ≡ n * 1
+    times_one n = omega arith
+
+    itself : (n : ℕ) → n ∣ n
+    itself n = subst (λ (m : ℕ). n ∣ m) (sym (times_one n)) (dvd-mul_right n 1)
 
 pub infinite_more : (a b : List (Option Number)) (s t : CommonSum) → IsCommonSum (a ++ b) s → t.denominator ≡ s.denominator → t.total ≡ s.total → t.sizes ≡ s.sizes → t.infinite ≡ s.infinite + 1 → IsCommonSum (a ++ None ∷ b) t
 infinite_more a b s t h d total sizes infinite = record {

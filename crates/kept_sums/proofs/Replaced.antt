@@ -3,7 +3,7 @@ use Rattle.std.proofs.Common.{◌≡◌, ℕ, zero, suc, ◌*◌, ◌/◌, ◌<�
 use Prim.Native.Nat.{◌∣◌}
 use native.Mathlib.Nat.{dvd-mul_right}
 use mathlib.Core.Quot.{sound}
-use Rattle.fractions.specs.Ring.{ring, whole, v, ◌:*◌}
+use Rattle.fractions.specs.Ring.{ring, whole, v, num, ◌:*◌}
 use Rattle.fractions.specs.Number.{Number, ◌+ℚ◌, ◌*ℚ◌, lift2}
 use Rattle.fractions.specs.Lowest.{over_of, under_of, under_of_positive, fraction-shown, ratio, ratio-is}
 use Rattle.kept_sums.specs.CommonSums.{IsCommonSum}
@@ -67,6 +67,14 @@ product_over a b d k z h e f =
     let t = told_over z (k * (under_of a * under_of b)) l in
     subst (λ (n : ℕ). (under_of (a *ℚ b) ∣ n) × (z ≡ of_number n (a *ℚ b))) e
     (subst (λ q. under_of q ∣ k * (under_of a * under_of b)) (sym shown) t.0, sym (ap (of_number (k * (under_of a * under_of b))) shown ∙ t.1))
+
+-- the same where the first denominator is the one over which both are written
+pub product_over_first : (a b : Number) (d : ℕ) (z : ℤ) → 0 < d → under_of a ≡ d → under_of b ≡ 1 → z ≡ over_of a *ℤ over_of b → (under_of (a *ℚ b) ∣ d) × (z ≡ of_number d (a *ℚ b))
+product_over_first a b d z h u o e =
+    product_over a b d 1 z h (ap (λ (n : ℕ). 1 * (under_of a * n)) o ∙ once (under_of a) ∙ u) (e ∙ ring whole (over_of a ∷ over_of b ∷ []) (v 0 :* v 1) ((v 0 :* v 1) :* num (pos 1)) refl)
+  where
+    once : (m : ℕ) → 1 * (m * 1) ≡ m
+    once m = omega arith
 
 pub lowest_over_is : (q : Number) (d k : ℕ) (z : ℤ) → k * under_of q ≡ d → k ≡ d / under_of q → z ≡ over_of q *ℤ pos k → (under_of q ∣ d) × (z ≡ of_number d q)
 lowest_over_is q d k z e f g = (subst (λ (n : ℕ). under_of q ∣ n) (turned k (under_of q) ∙ e) (dvd-mul_right (under_of q) k), g ∙ ap (λ (n : ℕ). over_of q *ℤ pos n) f)

@@ -2,6 +2,7 @@
 
 ghost use Rattle.std.specs.Prelude.{◌≡◌, ◌<◌, ◌^◌, ◌++◌, ◌∷◌, [], ◌+ℤ◌, neg_ℤ, List, Option, IfSome, Some, None, Ok};
 ghost use Rattle.fractions.specs.Number.{Number, ◌*ℚ◌};
+ghost use Rattle.fractions.specs.Lowest.{over_of, under_of};
 ghost use Rattle.row_spans.specs.Spans.{end_at, ends_at};
 ghost use Rattle.row_spans.specs.RowSums.{row_sum};
 ghost use Rattle.kept_sums.specs.CommonSums.{HasRoom, numerator, IsCommonMultiple, IsCommonSum};
@@ -52,6 +53,28 @@ pub(crate) fn common_multiple(common: u128, other: u128) -> Option<u128>
     }
 }
 
+/// A sum with one number more that is written over its denominator, with this numerator, if it has room.
+fn plus_numerator(sum: &CommonSum, numerator: Whole) -> Option<CommonSum>
+    requires positive { 0 < sum.now.denominator }
+    requires short { sum.now.denominator < 2 ^ 127 }
+    ensures room { IfSome result (λ t. HasRoom t) }
+    ensures value { IfSome result (λ t. (q : Number) (a b : List (Option Number)) → under_of q ≡ sum.now.denominator → over_of q ≡ numerator → IsCommonSum (a ++ b) sum.now → IsCommonSum (a ++ Some q ∷ b) t) }
+{
+    let Ok(total) = sum.total.plus(numerator) else {
+        return None;
+    };
+    let sizes = sum.sizes.checked_add(numerator.size())?;
+    if sizes >= 1 << 127 {
+        return None;
+    }
+    Some(CommonSum {
+        denominator: sum.denominator,
+        total,
+        sizes,
+        infinite: sum.infinite,
+    })
+}
+
 /// A sum with one number more, if it has room.
 fn plus_number(sum: &CommonSum, number: &Frac) -> Option<CommonSum>
     requires positive { 0 < sum.now.denominator }
@@ -60,6 +83,9 @@ fn plus_number(sum: &CommonSum, number: &Frac) -> Option<CommonSum>
     ensures value { IfSome result (λ t. (a b : List (Option Number)) → IsCommonSum (a ++ b) sum.now → IsCommonSum (a ++ Some number.now ∷ b) t) }
 {
     let parts = number.parts();
+    if parts.den == sum.denominator {
+        return plus_numerator(sum, parts.num);
+    }
     let denominator = common_multiple(sum.denominator, parts.den)?;
     let Ok(term) = parts.num.scaled(quotient(denominator, parts.den)) else {
         return None;

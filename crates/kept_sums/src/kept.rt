@@ -1,7 +1,7 @@
 //! What is kept of a row, and how it is mended.
 
-ghost use Rattle.std.specs.Prelude.{◌≡◌, ◌++◌, ◌∷◌, [], List, IfSome};
-ghost use Rattle.row_spans.specs.Spans.{ends_at};
+ghost use Rattle.std.specs.Prelude.{◌≡◌, ◌++◌, ◌∷◌, [], List, IfSome, IsTrue};
+ghost use Rattle.row_spans.specs.Spans.{end_at, ends_at};
 ghost use Rattle.row_spans.specs.declared.span.Span.{Span as SpanValue};
 ghost use Rattle.row_spans.specs.declared.span.Extreme.TheVariants as extreme_of;
 ghost use Rattle.kept_sums.specs.CommonSums.{HasRoom, IsCommonSum};
@@ -9,7 +9,7 @@ ghost use Rattle.kept_sums.specs.KeptSums.{AreSumsOf, HaveRoom, crossed_count, c
 
 use crate::common::{CommonSum, less_term, no_terms, plus_term, raised};
 use lp_model::ends::in_order;
-use row_spans::{Extreme, Span};
+use row_spans::{Extreme, Span, bound_at};
 
 /// The sums of both activities of a row, and how many of its columns have crossed bounds. Both sums are over one denominator as long as
 /// entries come and go by the calls here.
@@ -52,6 +52,31 @@ fn without_span(sum: &CommonSum, extreme: Extreme, span: &Span) -> Option<Common
     less_term(sum, extreme, span)
 }
 
+/// Whether one span gives what another one gives; `false` where that is not seen at once.
+fn gives_same(extreme: Extreme, before: &Span, after: &Span) -> bool
+    ensures { IsTrue result → end_at extreme before.now ≡ end_at extreme after.now }
+{
+    if !before.value.is_same(&after.value) {
+        return false;
+    }
+    let first = bound_at(extreme, before);
+    let second = bound_at(extreme, after);
+    first.is_same(&second)
+}
+
+/// A sum with what a span gives in the place of what another one gives.
+fn moved_span(sum: &CommonSum, extreme: Extreme, before: &Span, after: &Span) -> Option<CommonSum>
+    requires { HasRoom sum.now }
+    ensures room { IfSome result (λ t. HasRoom t) }
+    ensures value { IfSome result (λ t. (a b : List SpanValue) → IsCommonSum (ends_at extreme (a ++ before.now ∷ b)) sum.now → IsCommonSum (ends_at extreme (a ++ after.now ∷ b)) t) }
+{
+    if gives_same(extreme, before, after) {
+        return Some(*sum);
+    }
+    let rest = without_span(sum, extreme, before)?;
+    with_span(&rest, extreme, after)
+}
+
 /// Two sums over a denominator of both, with a count of crossed bounds.
 fn levelled(least: &CommonSum, greatest: &CommonSum, crossed: usize) -> Option<KeptSums>
     requires least { HasRoom least.now }
@@ -87,6 +112,19 @@ impl KeptSums {
         let least = with_span(&self.least, Extreme::Least, span)?;
         let greatest = with_span(&self.greatest, Extreme::Greatest, span)?;
         let crossed = self.crossed.checked_add(crossed_in(span))?;
+        levelled(&least, &greatest, crossed)
+    }
+
+    /// The sums with another entry in the place of one. `None` where a number has no room. What the entry gives at one end is often the same.
+    pub fn moved(&self, before: &Span, after: &Span) -> Option<KeptSums>
+        requires { HaveRoom self.now }
+        ensures room { IfSome result (λ k. HaveRoom k) }
+        ensures value { IfSome result (λ k. (a b : List SpanValue) → AreSumsOf (a ++ before.now ∷ b) self.now → AreSumsOf (a ++ after.now ∷ b) k) }
+    {
+        let least = moved_span(&self.least, Extreme::Least, before, after)?;
+        let greatest = moved_span(&self.greatest, Extreme::Greatest, before, after)?;
+        let others = self.crossed.checked_sub(crossed_in(before))?;
+        let crossed = others.checked_add(crossed_in(after))?;
         levelled(&least, &greatest, crossed)
     }
 

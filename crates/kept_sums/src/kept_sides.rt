@@ -23,6 +23,16 @@ use row_spans::exact::product;
 use row_spans::{Extreme, Span, bound_at};
 use std::cmp::Ordering;
 
+/// The product of two numerators, if it has room.
+fn times_numerator(first: Whole, second: Whole) -> Option<Whole>
+    ensures { IfSome result (λ z. z ≡ first *ℤ second) }
+{
+    match first.times(second) {
+        Ok(numerator) => Some(numerator),
+        Err(_) => None,
+    }
+}
+
 /// The numerator of a product over a denominator, if the product of both denominators divides it and the numbers have room.
 fn plain_numerator(denominator: u128, value: &Frac, bound: &Frac) -> Option<Whole>
     requires positive { 0 < denominator }
@@ -31,6 +41,9 @@ fn plain_numerator(denominator: u128, value: &Frac, bound: &Frac) -> Option<Whol
 {
     let first = value.parts();
     let second = bound.parts();
+    if first.den == denominator && second.den == 1 {
+        return times_numerator(first.num, second.num);
+    }
     let both = first.den.checked_mul(second.den)?;
     let part = quotient(denominator, both);
     if part.checked_mul(both)? != denominator {

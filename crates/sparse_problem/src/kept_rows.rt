@@ -155,7 +155,7 @@ fn moved(kept: &Option<KeptSums>, before: &Span, after: &Span) -> Option<KeptSum
 {
     match kept {
         None => None,
-        Some(kept) => kept.without(before)?.with(after),
+        Some(kept) => kept.moved(before, after),
     }
 }
 

@@ -1,5 +1,8 @@
-use Rattle.std.proofs.Common.{◌≡◌, ◌+◌, ◌*◌, ◌/◌, ℤ, ℕ, pos, ◌+ℤ◌, ◌*ℤ◌, nat_abs, refl, ap, ap₂, ◌∙◌, subst}
-use Rattle.kept_sums.specs.CommonSums.{IsCommonMultiple}
+use Rattle.std.proofs.Common.{◌≡◌, ◌+◌, ◌*◌, ◌/◌, ◌++◌, ◌∷◌, ℤ, ℕ, pos, ◌+ℤ◌, ◌*ℤ◌, nat_abs, List, Option, Some, None, IfSome, refl, sym, ap, ap₂, ◌∙◌, subst}
+use Rattle.fractions.specs.Number.{Number}
+use Rattle.fractions.specs.Lowest.{over_of, under_of}
+use Rattle.kept_sums.specs.CommonSums.{IsCommonMultiple, IsCommonSum}
+use Rattle.kept_sums.specs.declared.common.CommonSum.{CommonSum}
 use Rattle.kept_sums.proofs.Numerators.{number_more}
 use Rattle.kept_sums.proofs.Over.{of_number}
 use Rattle.kept_sums.proofs.common.plus_number.Goals as goal
@@ -13,3 +16,11 @@ returns-clause-value c a b h =
     (c.in-Ok-plus.ensures.1 ∙ ap₂ ◌+ℤ◌ (c.in-Ok-scaled.ensures.1 ∙ ap (λ (n : ℕ). c.args.sum.now.total *ℤ pos n) c.quotient-scale.ensures) term)
     (c.in_ok-sizes.ensures.1 ∙ ap₂ ◌+◌ (c.in_ok-checked_mul.ensures.1 ∙ ap (λ (n : ℕ). c.args.sum.now.sizes * n) c.quotient-scale.ensures) (c.size.ensures.value ∙ ap nat_abs term))
     c.if-sizes.false refl
+
+pub returns-then-parts-sum-clause-value : goal.returns-then-parts-sum-clause-value
+returns-then-parts-sum-clause-value c = by c.plus_numerator.result c.plus_numerator.ensures.value
+  where
+    by : (o : Option CommonSum) → IfSome o (λ t. (q : Number) (a b : List (Option Number)) → under_of q ≡ c.args.sum.now.denominator → over_of q ≡ c.parts-parts.result.num → IsCommonSum (a ++ b) c.args.sum.now → IsCommonSum (a ++ Some q ∷ b) t)
+        → IfSome o (λ t. (a b : List (Option Number)) → IsCommonSum (a ++ b) c.args.sum.now → IsCommonSum (a ++ Some c.args.number.now ∷ b) t)
+    by None f = tt
+    by (Some t) f = λ a b h. f c.args.number.now a b (sym c.parts-parts.ensures.den ∙ c.if-parts-sum.true) (sym c.parts-parts.ensures.num) h
