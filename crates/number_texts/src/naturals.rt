@@ -1,6 +1,6 @@
 //! The digits of natural numbers.
 
-ghost use Rattle.std.specs.Prelude.{◌≡◌, ◌+◌, ◌≤◌, ◌++◌, length, vec_capacity, OnErr, OnOk};
+ghost use Rattle.std.specs.Prelude.{◌≡◌, ◌+◌, ◌/◌, ◌%◌, ◌<◌, ◌≤◌, ◌++◌, ◌∷◌, [], length, vec_capacity, OnErr, OnOk};
 ghost use Rattle.std.specs.Fmt.{decimal};
 
 use itoa::Buffer;
@@ -9,7 +9,18 @@ use std::alloc::AllocError;
 /// How many digits a number of 64 bits has at most.
 pub const MOST_DIGITS: usize = 20;
 
-/// Appends the digits of a number, for which there is room.
+/// Appends the two digits of a number below 100, for which there is room.
+fn put_two(out: &mut Vec<u8>, number: u64)
+    requires below { number < 100 }
+    requires room { length out.old.items + 2 ≤ vec_capacity out.old }
+    ensures digits { out.new.items ≡ out.old.items ++ (48 + number / 10) ∷ (48 + number % 10) ∷ [] }
+    ensures room { vec_capacity out.new ≡ vec_capacity out.old }
+{
+    out.push_reserved(b'0' + (number / 10) as u8);
+    out.push_reserved(b'0' + (number % 10) as u8);
+}
+
+/// Appends the digits of a number, for which there is room, two at a time.
 #[tactic(auto, using(crate::proofs::DigitLaws::digits_laws))]
 pub fn put_digits(out: &mut Vec<u8>, number: u64)
     requires { length out.old.items + length (decimal number) ≤ vec_capacity out.old }
@@ -20,8 +31,12 @@ pub fn put_digits(out: &mut Vec<u8>, number: u64)
         out.push_reserved(b'0' + number as u8);
         return;
     }
-    put_digits(out, number / 10);
-    out.push_reserved(b'0' + (number % 10) as u8);
+    if number < 100 {
+        put_two(out, number);
+        return;
+    }
+    put_digits(out, number / 100);
+    put_two(out, number % 100);
 }
 
 /// Appends the digits of a natural number that passes 64 bits.
