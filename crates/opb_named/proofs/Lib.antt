@@ -1,0 +1,4 @@
+mod Ordinary
+mod Tokens
+mod Rows
+pub mod Named
