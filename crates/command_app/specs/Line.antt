@@ -51,12 +51,20 @@ unfoldable pub ray_app : App
 ray_app = with_rule ordered_app (name_rule (codes "ray"))
 
 -- presolve IN OUT REC [--threads T] [--limit N] [--dual] [--ordered] [--ray RAY] [--fractions] [--fixed]
+unfoldable pub formats_app : App
+formats_app = with_rule (with_rule ray_app (flag_rule (codes "fractions"))) (flag_rule (codes "fixed"))
+
+-- presolve IN OUT REC [--threads T] [--limit N] [--dual] [--ordered] [--ray RAY] [--fractions] [--fixed] [--opb]
 unfoldable pub presolve_app : App
-presolve_app = with_rule (with_rule ray_app (flag_rule (codes "fractions"))) (flag_rule (codes "fixed"))
+presolve_app = with_rule formats_app (flag_rule (codes "opb"))
 
 -- check IN SOL [--fixed]
+unfoldable pub check_words : App
+check_words = with_rule (with_rule (with_rule (new_app (codes "check")) (word_rule (codes "in"))) (word_rule (codes "sol"))) (flag_rule (codes "fixed"))
+
+-- check IN SOL [--fixed] [--opb]
 unfoldable pub check_app : App
-check_app = with_rule (with_rule (with_rule (new_app (codes "check")) (word_rule (codes "in"))) (word_rule (codes "sol"))) (flag_rule (codes "fixed"))
+check_app = with_rule check_words (flag_rule (codes "opb"))
 
 -- postsolve OUT REC SOL
 unfoldable pub postsolve_words : App
@@ -82,9 +90,9 @@ gen_app = with_rule gen_words (needed_rule (codes "cols") 1 MOST_LINES)
 unfoldable pub verify_words : App
 verify_words = with_rule (with_rule (with_rule (new_app (codes "verify")) (word_rule (codes "in"))) (word_rule (codes "out"))) (word_rule (codes "rec"))
 
--- verify IN OUT REC [--fixed]
+-- verify IN OUT REC [--fixed] [--opb]
 unfoldable pub verify_app : App
-verify_app = with_rule verify_words (flag_rule (codes "fixed"))
+verify_app = with_rule (with_rule verify_words (flag_rule (codes "fixed"))) (flag_rule (codes "opb"))
 
 -- solve IN SOL [--pivots N]
 unfoldable pub solve_words : App

@@ -2,7 +2,7 @@
 ghost use Rattle.std.specs.Prelude.{◌≡◌, ◌≢◌, [], Err, false, IfOk, OnOk, OnErr};
 ghost use Rattle.clap.specs.Words.{app_of, kind_of, rule_of, subcommand_rows_of};
 ghost use Rattle.clap.specs.declared.builder.command.Command.TheViews.{out-Command};
-ghost use Rattle.command_app.specs.Line.{check_app, dual_app, faults, first_app, flag_rule, found_in, gen_app, gen_words, is_taken, limited_app, line_app, migrate_app, needed_rule, name_rule, number_rule, ordered_app, postsolve_app, postsolve_words, presolve_app, presolve_words, ray_app, second_app, solve_app, solve_words, texts, third_app, threaded_app, verify_app, verify_words, word_rule};
+ghost use Rattle.command_app.specs.Line.{check_app, check_words, dual_app, faults, first_app, flag_rule, formats_app, found_in, gen_app, gen_words, is_taken, limited_app, line_app, migrate_app, needed_rule, name_rule, number_rule, ordered_app, postsolve_app, postsolve_words, presolve_app, presolve_words, ray_app, second_app, solve_app, solve_words, texts, third_app, threaded_app, verify_app, verify_words, word_rule};
 
 use clap::builder::ValueParser;
 use clap::error::ErrorKind;
@@ -103,13 +103,32 @@ fn with_ray<'a>(alloc: Global) -> Result<Command<'a>, AllocError>
     with_ordered(alloc)?.arg(name(alloc, "ray"))
 }
 
+#[tactic(auto, unfolding(crate::specs::Line::formats_app))]
+fn with_formats<'a>(alloc: Global) -> Result<Command<'a>, AllocError>
+    ensures app { IfOk result (λ command. app_of command ≡ formats_app) }
+    ensures local { IfOk result (λ command. (out-Command command).has_globals ≡ false) }
+{
+    with_ray(alloc)?
+        .arg(flag(alloc, "fractions"))?
+        .arg(flag(alloc, "fixed"))
+}
+
 #[tactic(auto, unfolding(crate::specs::Line::presolve_app))]
 fn presolve<'a>(alloc: Global) -> Result<Command<'a>, AllocError>
     ensures app { IfOk result (λ command. app_of command ≡ presolve_app) }
     ensures local { IfOk result (λ command. (out-Command command).has_globals ≡ false) }
 {
-    with_ray(alloc)?
-        .arg(flag(alloc, "fractions"))?
+    with_formats(alloc)?.arg(flag(alloc, "opb"))
+}
+
+#[tactic(auto, unfolding(crate::specs::Line::check_words))]
+fn check_words<'a>(alloc: Global) -> Result<Command<'a>, AllocError>
+    ensures app { IfOk result (λ command. app_of command ≡ check_words) }
+    ensures local { IfOk result (λ command. (out-Command command).has_globals ≡ false) }
+{
+    Command::new(alloc, "check")
+        .arg(word(alloc, "in"))?
+        .arg(word(alloc, "sol"))?
         .arg(flag(alloc, "fixed"))
 }
 
@@ -118,10 +137,7 @@ fn check<'a>(alloc: Global) -> Result<Command<'a>, AllocError>
     ensures app { IfOk result (λ command. app_of command ≡ check_app) }
     ensures local { IfOk result (λ command. (out-Command command).has_globals ≡ false) }
 {
-    Command::new(alloc, "check")
-        .arg(word(alloc, "in"))?
-        .arg(word(alloc, "sol"))?
-        .arg(flag(alloc, "fixed"))
+    check_words(alloc)?.arg(flag(alloc, "opb"))
 }
 
 #[tactic(auto, unfolding(crate::specs::Line::postsolve_words))]
@@ -169,7 +185,9 @@ fn verify<'a>(alloc: Global) -> Result<Command<'a>, AllocError>
     ensures app { IfOk result (λ command. app_of command ≡ verify_app) }
     ensures local { IfOk result (λ command. (out-Command command).has_globals ≡ false) }
 {
-    verify_words(alloc)?.arg(flag(alloc, "fixed"))
+    verify_words(alloc)?
+        .arg(flag(alloc, "fixed"))?
+        .arg(flag(alloc, "opb"))
 }
 
 #[tactic(auto, unfolding(crate::specs::Line::solve_words))]

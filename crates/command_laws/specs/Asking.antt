@@ -15,8 +15,13 @@ abbrev pub HasNoPlaceForRay : Text → List Row → Type 0
 HasNoPlaceForRay name rows = (name ≡ codes "presolve") × ((ray : Text) × (first_of (codes "ray") rows ≡ Some ray)
     × ((is_on (first_of (codes "dual") rows) ≡ false) ⊎ (first_of (codes "out") rows ≡ Some ray) ⊎ (first_of (codes "rec") rows ≡ Some ray)))
 
+-- presolve, check or verify with both options of a format
+abbrev pub HasTwoFormats : Text → List Row → Type 0
+HasTwoFormats name rows = ((name ≡ codes "presolve") ⊎ (name ≡ codes "check") ⊎ (name ≡ codes "verify"))
+    × (is_on (first_of (codes "fixed") rows) ≡ true) × (is_on (first_of (codes "opb") rows) ≡ true)
+
 -- where clap takes the words and finds a command in them, they ask for something, but where two names are one that have to differ, or RAY has
--- no place
+-- no place, or two formats are given
 abbrev pub TakenWordsAsk : Type 0
 TakenWordsAsk = (words : List Text) (name : Text) (rows : List Row) → is_taken words ≡ true → found_in words ≡ Some (name, rows)
-    → (selected words ≢ None) ⊎ HasOneName name rows ⊎ HasNoPlaceForRay name rows
+    → (selected words ≢ None) ⊎ HasOneName name rows ⊎ HasNoPlaceForRay name rows ⊎ HasTwoFormats name rows

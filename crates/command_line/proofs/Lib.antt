@@ -1,2 +1,3 @@
 mod Pairs
 mod Numbers
+mod Places

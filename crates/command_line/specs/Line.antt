@@ -1,5 +1,5 @@
 -- What words ask for.
-use Rattle.std.specs.Prelude.{ℕ, List, [], ◌∷◌, codes, false, Bool, not, ◌||◌, if◌then◌else◌, Option, Some, None, is_some}
+use Rattle.std.specs.Prelude.{ℕ, List, [], ◌∷◌, codes, true, false, Bool, not, ◌||◌, if◌then◌else◌, Option, Some, None, is_some}
 use Rattle.std.specs.Option.{option_map}
 use Rattle.std.specs.Str.{bytes_eq}
 use Rattle.std.specs.Str.Parse.{digits_value, without_leading_plus}
@@ -8,6 +8,8 @@ use Rattle.clap.specs.ValueTests.{accepts}
 use Rattle.clap.specs.declared.builder.value_parser.ValueParser.TheVariants.{Unsigned}
 use Rattle.command_words.specs.Names.{PresolveNames, CheckNames, PostsolveNames, MigrateNames, VerifyNames, SolveNames, Request, Presolve, Check, Postsolve, Migrate, Verify, Solve, Gen}
 use Rattle.command_words.specs.declared.words.GenNumbers.{GenNumbers}
+use Rattle.command_words.specs.declared.words.InputFormat.{InputFormat}
+use Rattle.command_words.specs.declared.words.InputFormat.TheVariants.{Free, Fixed, Opb}
 use Rattle.command_words.specs.declared.words.PresolveOptions.{PresolveOptions}
 use Rattle.command_words.specs.declared.words.TheConstants.{MOST_LINES, MOST_PIVOTS, MOST_RECORDS, MOST_SEED, MOST_THREADS, USUAL_PIVOTS}
 use Rattle.command_app.specs.Line.{faults, found_in}
@@ -39,19 +41,30 @@ limit_of rows = number_of MOST_RECORDS MOST_RECORDS (first_of (codes "limit") ro
 abbrev pub threads_of : List Row → Option ℕ
 threads_of rows = number_of MOST_THREADS 1 (first_of (codes "threads") rows)
 
-abbrev pub options_with : List Row → Option ℕ → Option ℕ → Option PresolveOptions
-options_with rows (Some limit) (Some threads) = Some (record {
+-- the format of which the option is given, or the free one; none, where both options are given
+abbrev pub format_by : Bool → Bool → Option InputFormat
+format_by false false = Some Free
+format_by true false = Some Fixed
+format_by false true = Some Opb
+format_by true true = None
+
+-- the format of IN
+abbrev pub format_of : List Row → Option InputFormat
+format_of rows = format_by (is_on (first_of (codes "fixed") rows)) (is_on (first_of (codes "opb") rows))
+
+abbrev pub options_with : List Row → Option InputFormat → Option ℕ → Option ℕ → Option PresolveOptions
+options_with rows (Some format) (Some limit) (Some threads) = Some (record {
   dual = is_on (first_of (codes "dual") rows);
   fractions = is_on (first_of (codes "fractions") rows);
-  fixed = is_on (first_of (codes "fixed") rows);
+  format = format;
   limit = limit;
   threads = threads;
   ordered = is_on (first_of (codes "ordered") rows) || is_some (first_of (codes "ray") rows);
 })
-options_with rows limit threads = None
+options_with rows format limit threads = None
 
 abbrev pub options_of : List Row → Option PresolveOptions
-options_of rows = options_with rows (limit_of rows) (threads_of rows)
+options_of rows = options_with rows (format_of rows) (limit_of rows) (threads_of rows)
 
 -- RAY has no place: duals aren't asked for, or it is OUT or REC
 abbrev pub has_no_place : PresolveOptions → Text → Text → Option Text → Bool
@@ -68,13 +81,13 @@ presolve_names input output records ray options = None
 abbrev pub presolve_of : List Row → Option PresolveNames
 presolve_of rows = presolve_names (first_of (codes "in") rows) (first_of (codes "out") rows) (first_of (codes "rec") rows) (first_of (codes "ray") rows) (options_of rows)
 
--- two names, and an option
-abbrev pub check_names : Option Text → Option Text → Bool → Option CheckNames
-check_names (Some input) (Some solution) fixed = Some (record { input = input; solution = solution; fixed = fixed })
-check_names input solution fixed = None
+-- two names, and the format of IN
+abbrev pub check_names : Option Text → Option Text → Option InputFormat → Option CheckNames
+check_names (Some input) (Some solution) (Some format) = Some (record { input = input; solution = solution; format = format })
+check_names input solution format = None
 
 abbrev pub check_of : List Row → Option CheckNames
-check_of rows = check_names (first_of (codes "in") rows) (first_of (codes "sol") rows) (is_on (first_of (codes "fixed") rows))
+check_of rows = check_names (first_of (codes "in") rows) (first_of (codes "sol") rows) (format_of rows)
 
 -- four names
 abbrev pub postsolve_names : Option Text → Option Text → Option Text → Option Text → Option PostsolveNames
@@ -93,13 +106,13 @@ migrate_names records written = None
 abbrev pub migrate_of : List Row → Option MigrateNames
 migrate_of rows = migrate_names (first_of (codes "rec") rows) (first_of (codes "new") rows)
 
--- three names, and an option
-abbrev pub verify_names : Option Text → Option Text → Option Text → Bool → Option VerifyNames
-verify_names (Some input) (Some output) (Some records) fixed = Some (record { input = input; output = output; records = records; fixed = fixed })
-verify_names input output records fixed = None
+-- three names, and the format of IN
+abbrev pub verify_names : Option Text → Option Text → Option Text → Option InputFormat → Option VerifyNames
+verify_names (Some input) (Some output) (Some records) (Some format) = Some (record { input = input; output = output; records = records; format = format })
+verify_names input output records format = None
 
 abbrev pub verify_of : List Row → Option VerifyNames
-verify_of rows = verify_names (first_of (codes "in") rows) (first_of (codes "out") rows) (first_of (codes "rec") rows) (is_on (first_of (codes "fixed") rows))
+verify_of rows = verify_names (first_of (codes "in") rows) (first_of (codes "out") rows) (first_of (codes "rec") rows) (format_of rows)
 
 -- the number of pivots that is given, or else the usual one
 abbrev pub pivots_of : List Row → Option ℕ

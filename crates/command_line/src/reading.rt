@@ -1,18 +1,18 @@
 // What the words ask for.
-ghost use Rattle.std.specs.Prelude.{◌≡◌, ◌≢◌, ◌≤◌, ◌⊎◌, ◌||◌, codes, is_some, IfSome, None, [], Some, Err, false, option_map, IfOk, OnOk};
+ghost use Rattle.std.specs.Prelude.{◌≡◌, ◌≢◌, ◌≤◌, ◌⊎◌, ◌||◌, codes, is_some, IfSome, None, [], Some, Err, false, option_map, true, IfOk, OnOk};
 ghost use Rattle.std.specs.Str.Parse.{digits_value, without_leading_plus};
 ghost use Rattle.clap.specs.Words.{IsUnsignedIn, first_of, found_of, rows_of, subcommand_rows_of};
 ghost use Rattle.command_words.specs.Names.{AreInRange, HasPlaceForRay, HasRange, IsSize, NamesDiffer};
 ghost use Rattle.command_app.specs.Line.{faults, is_taken, texts};
-ghost use Rattle.command_line.specs.Line.{asked, check_of, gen_of, has_no_place as no_place, is_on, migrate_of, needed_of, number_in, number_of, options_of, postsolve_of, presolve_of, request_of, selected, selected_in, solve_of, threads_of, verify_of};
+ghost use Rattle.command_line.specs.Line.{asked, check_of, format_of, gen_of, has_no_place as no_place, is_on, migrate_of, needed_of, number_in, number_of, options_of, postsolve_of, presolve_of, request_of, selected, selected_in, solve_of, threads_of, verify_of};
 ghost use Rattle.command_words.specs.Seen.{check_names_of, migrate_names_of, names_of, postsolve_names_of, seen, solve_names_of, verify_names_of};
 
 use clap::ArgMatches;
 use command_app::matches;
 use command_words::{
-    CheckWords, GenNumbers, MOST_LINES, MOST_PIVOTS, MOST_RECORDS, MOST_SEED, MOST_THREADS,
-    MigrateWords, PostsolveWords, PresolveOptions, PresolveWords, Refusal, Request, SolveWords,
-    USUAL_PIVOTS, VerifyWords,
+    CheckWords, GenNumbers, InputFormat, MOST_LINES, MOST_PIVOTS, MOST_RECORDS, MOST_SEED,
+    MOST_THREADS, MigrateWords, PostsolveWords, PresolveOptions, PresolveWords, Refusal, Request,
+    SolveWords, USUAL_PIVOTS, VerifyWords,
 };
 use std::alloc::Global;
 
@@ -96,17 +96,31 @@ fn is_in_order(found: &ArgMatches) -> bool
     is_given(found, "ordered") || value(found, "ray").is_some()
 }
 
+// The format of IN that is given, or the free one; none where two are given.
+fn input_format(found: &ArgMatches) -> Option<InputFormat>
+    ensures { result ≡ format_of (rows_of (found_of found.now)) }
+{
+    match (is_given(found, "fixed"), is_given(found, "opb")) {
+        (false, false) => Some(InputFormat::Free),
+        (true, false) => Some(InputFormat::Fixed),
+        (false, true) => Some(InputFormat::Opb),
+        (true, true) => None,
+    }
+}
+
 // The options for `presolve`.
 fn options(found: &ArgMatches) -> Option<PresolveOptions>
     ensures given { result ≡ options_of (rows_of (found_of found.now)) }
     ensures range { IfSome result AreInRange }
+    ensures ordered { IfSome result (λ options. is_some (first_of (codes "ray") (rows_of (found_of found.now))) ≡ true → options.ordered ≡ true) }
 {
+    let format = input_format(found)?;
     let limit = number(found, "limit", MOST_RECORDS, MOST_RECORDS)?;
     let threads = threads(found)?;
     Some(PresolveOptions {
         dual: is_given(found, "dual"),
         fractions: is_given(found, "fractions"),
-        fixed: is_given(found, "fixed"),
+        format,
         limit,
         threads,
         ordered: is_in_order(found),
@@ -153,11 +167,11 @@ fn check<'a>(found: &ArgMatches<'a>) -> Option<CheckWords<'a>>
 {
     let input = value(found, "in")?;
     let solution = value(found, "sol")?;
-    let fixed = is_given(found, "fixed");
+    let format = input_format(found)?;
     Some(CheckWords {
         input,
         solution,
-        fixed,
+        format,
     })
 }
 
@@ -197,12 +211,12 @@ fn verify<'a>(found: &ArgMatches<'a>) -> Option<VerifyWords<'a>>
     let input = value(found, "in")?;
     let output = value(found, "out")?;
     let records = value(found, "rec")?;
-    let fixed = is_given(found, "fixed");
+    let format = input_format(found)?;
     Some(VerifyWords {
         input,
         output,
         records,
-        fixed,
+        format,
     })
 }
 
@@ -281,8 +295,8 @@ fn selected_request<'a>(found: &ArgMatches<'a>) -> Option<Request<'a>>
 /// # Errors
 /// `Words` where `clap` names a fault in them, as at a limit that is no number from 1 to `MOST_RECORDS`, a number of threads that is
 /// none from 1 to `MOST_THREADS`, a number of pivots that is none from 1 to `MOST_PIVOTS`, or a number for `gen` that is not in its range;
-/// or OUT and REC are equal words, or REC and NEW, or IN and SOL of `solve`; or RAY is asked for without `--dual`, or is OUT or REC.
-/// `NoMemory`.
+/// or OUT and REC are equal words, or REC and NEW, or IN and SOL of `solve`; or RAY is asked for without `--dual`, or is OUT or REC; or
+/// `--fixed` and `--opb` are both given. `NoMemory`.
 pub fn read<'a>(alloc: Global, words: &'a [String]) -> Result<Request<'a>, Refusal>
     ensures asked { IfOk result (λ request. asked (texts words.entry.now) ≡ Some (seen request)) }
     ensures differ { IfOk result (λ request. NamesDiffer (seen request)) }

@@ -1,5 +1,6 @@
 -- The commands of the program, with the names, options and numbers that they are given.
 use Rattle.std.specs.Prelude.{◌≡◌, ◌≢◌, ◌≤◌, ℕ, List, Bool, true, Option, IfSome}
+use Rattle.command_words.specs.declared.words.InputFormat.{InputFormat}
 use Rattle.command_words.specs.declared.words.PresolveOptions.{PresolveOptions}
 use Rattle.command_words.specs.declared.words.GenNumbers.{GenNumbers}
 use Rattle.command_words.specs.declared.words.TheConstants.{MOST_LINES, MOST_PIVOTS, MOST_RECORDS, MOST_THREADS}
@@ -16,11 +17,11 @@ pub record PresolveNames : Type 0 where
   pub ray : Option Text
   pub options : PresolveOptions
 
--- the names that check works on, and whether IN has the fixed format
+-- the names that check works on, and the format of IN
 pub record CheckNames : Type 0 where
   pub input : Text
   pub solution : Text
-  pub fixed : Bool
+  pub format : InputFormat
 
 -- the names that postsolve works on
 pub record PostsolveNames : Type 0 where
@@ -34,12 +35,12 @@ pub record MigrateNames : Type 0 where
   pub records : Text
   pub written : Text
 
--- the names that verify works on, and whether IN has the fixed format
+-- the names that verify works on, and the format of IN
 pub record VerifyNames : Type 0 where
   pub input : Text
   pub output : Text
   pub records : Text
-  pub fixed : Bool
+  pub format : InputFormat
 
 -- the names that solve works on, how many pivots it may make, and whether IN has the fixed format
 pub record SolveNames : Type 0 where

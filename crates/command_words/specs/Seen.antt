@@ -14,7 +14,7 @@ abbrev pub names_of : PresolveWords → PresolveNames
 names_of words = record { input = words.input.now; output = words.output.now; records = words.records.now; ray = option_map (λ name. name.now) words.ray; options = words.options }
 
 abbrev pub check_names_of : CheckWords → CheckNames
-check_names_of words = record { input = words.input.now; solution = words.solution.now; fixed = words.fixed }
+check_names_of words = record { input = words.input.now; solution = words.solution.now; format = words.format }
 
 abbrev pub postsolve_names_of : PostsolveWords → PostsolveNames
 postsolve_names_of words = record { program = words.program.now; records = words.records.now; solution = words.solution.now; result = words.result.now }
@@ -23,7 +23,7 @@ abbrev pub migrate_names_of : MigrateWords → MigrateNames
 migrate_names_of words = record { records = words.records.now; written = words.written.now }
 
 abbrev pub verify_names_of : VerifyWords → VerifyNames
-verify_names_of words = record { input = words.input.now; output = words.output.now; records = words.records.now; fixed = words.fixed }
+verify_names_of words = record { input = words.input.now; output = words.output.now; records = words.records.now; format = words.format }
 
 abbrev pub solve_names_of : SolveWords → SolveNames
 solve_names_of words = record { input = words.input.now; solution = words.solution.now; pivots = words.pivots; fixed = words.fixed }

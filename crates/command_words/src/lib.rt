@@ -4,7 +4,7 @@
 mod words;
 
 pub use words::{
-    CheckWords, GenNumbers, MOST_LINES, MOST_PIVOTS, MOST_RECORDS, MOST_SEED, MOST_THREADS,
-    MigrateWords, PostsolveWords, PresolveOptions, PresolveWords, Refusal, Request, SolveWords,
-    USUAL_PIVOTS, VerifyWords,
+    CheckWords, GenNumbers, InputFormat, MOST_LINES, MOST_PIVOTS, MOST_RECORDS, MOST_SEED,
+    MOST_THREADS, MigrateWords, PostsolveWords, PresolveOptions, PresolveWords, Refusal, Request,
+    SolveWords, USUAL_PIVOTS, VerifyWords,
 };

@@ -17,6 +17,17 @@ pub const MOST_PIVOTS: u64 = 1_000_000;
 /// So many pivots are allowed where no number is given.
 pub const USUAL_PIVOTS: u64 = 100_000;
 
+/// The format that IN has.
+#[derive(Clone, Copy, Debug, PartialEq, Eq)]
+pub enum InputFormat {
+    /// MPS of the free format.
+    Free,
+    /// MPS of the fixed format.
+    Fixed,
+    /// OPB.
+    Opb,
+}
+
 /// The options of `presolve`.
 #[derive(Clone, Copy, Debug, PartialEq, Eq)]
 pub struct PresolveOptions {
@@ -24,8 +35,8 @@ pub struct PresolveOptions {
     pub dual: bool,
     /// Numbers that are no decimal numbers are taken and written too, as `n/d`.
     pub fractions: bool,
-    /// IN has the fixed format.
-    pub fixed: bool,
+    /// The format of IN.
+    pub format: InputFormat,
     /// How many reductions may be applied: from 1 to `MOST_RECORDS`.
     pub limit: u64,
     /// How many threads there are: from 1 to `MOST_THREADS`.
@@ -51,8 +62,8 @@ pub struct PresolveWords<'a> {
 pub struct CheckWords<'a> {
     pub input: &'a str,
     pub solution: &'a str,
-    /// IN has the fixed format.
-    pub fixed: bool,
+    /// The format of IN.
+    pub format: InputFormat,
 }
 
 /// The names that `postsolve OUT REC SOL RESULT` works on.
@@ -78,8 +89,8 @@ pub struct VerifyWords<'a> {
     pub input: &'a str,
     pub output: &'a str,
     pub records: &'a str,
-    /// IN has the fixed format.
-    pub fixed: bool,
+    /// The format of IN.
+    pub format: InputFormat,
 }
 
 /// The names that `solve IN SOL` works on, which differ, and its options.
@@ -121,7 +132,7 @@ pub enum Request<'a> {
 #[derive(Clone, Copy, Debug, PartialEq, Eq)]
 pub enum Refusal {
     /// `clap` does not take the words, or OUT and REC are equal, or REC and NEW, or IN and SOL of `solve`; or RAY is asked for without
-    /// `--dual`, or has the name of OUT or REC.
+    /// `--dual`, or has the name of OUT or REC; or two formats are given.
     Words,
     /// There is no memory to read them.
     NoMemory,
