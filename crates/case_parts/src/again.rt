@@ -2,56 +2,59 @@
 
 use crate::shown;
 use anyhow::{Result, anyhow, ensure};
-use fault_look::push_look;
+use endings::{Form, ProgramError, ProgramFault, fault_line, read_program};
+use fault_look::{push_look, push_opb_look};
 use fractions::Numbers;
 use mps_profile::dialect::{Dialect, Format};
-use mps_reader::{MpsError, read_mps};
 use mps_writer::write_mps;
 use record_file::write_records;
 use record_reader::{RecordError, read_records};
 use record_values::TextVersion;
 use std::str;
 
-/// A format and numbers by their words.
-pub fn dialect(words: &str) -> Result<Dialect> {
+/// How a text is read, by words: OPB, or a format of MPS and numbers.
+pub fn form(words: &str) -> Result<Form> {
     let (format, numbers) = match words {
         "free decimal" => (Format::Free, Numbers::Decimal),
         "free fractions" => (Format::Free, Numbers::Fractions),
         "fixed decimal" => (Format::Fixed, Numbers::Decimal),
         "fixed fractions" => (Format::Fixed, Numbers::Fractions),
-        _ => return Err(anyhow!("an unknown dialect")),
+        "opb" => return Ok(Form::Opb(Numbers::Decimal)),
+        _ => return Err(anyhow!("an unknown form")),
     };
-    Ok(Dialect { format, numbers })
+    Ok(Form::Mps(Dialect { format, numbers }))
 }
 
 /// Reads the program of a text and writes it, or prints the text's first fault.
-pub fn program(rt: &HostRuntime, bytes: &[u8], dialect: Dialect) -> Result<()> {
+pub fn program(rt: &HostRuntime, bytes: &[u8], form: Form) -> Result<()> {
     ensure!(bytes.len() < 1 << 32, "a text that is too long");
-    match read_mps(rt.alloc(), bytes, dialect) {
+    match read_program(rt.alloc(), bytes, form) {
         Ok(program) => shown::text(rt, &write_mps(rt.alloc(), &program)?),
-        Err(MpsError::Fault(fault)) => {
-            let number = fault.kind.number();
-            let line = fault.line;
-            println!(rt; "error M{number} line {line}")?;
+        Err(ProgramError::Fault(fault)) => {
+            let line = fault_line(rt.alloc(), fault)?;
+            let line = str::from_utf8(&line)?;
+            print!(rt; "{line}")?;
             Ok(())
         }
-        Err(MpsError::NoMemory) => Err(anyhow!("no memory")),
+        Err(ProgramError::NoMemory) => Err(anyhow!("no memory")),
     }
 }
 
 /// Prints a look at the first fault of a text.
-pub fn look(rt: &HostRuntime, bytes: &[u8], dialect: Dialect) -> Result<()> {
+pub fn look(rt: &HostRuntime, bytes: &[u8], form: Form) -> Result<()> {
     ensure!(bytes.len() < 1 << 32, "a text that is too long");
-    match read_mps(rt.alloc(), bytes, dialect) {
+    let mut text = Vec::new(rt.alloc());
+    match read_program(rt.alloc(), bytes, form) {
         Ok(_) => println!(rt; "no fault")?,
-        Err(MpsError::Fault(fault)) => {
-            let mut text = Vec::new(rt.alloc());
+        Err(ProgramError::Fault(ProgramFault::Mps(fault))) => {
             push_look(rt.alloc(), &mut text, bytes, fault)?;
-            shown::text(rt, &text)?;
         }
-        Err(MpsError::NoMemory) => return Err(anyhow!("no memory")),
+        Err(ProgramError::Fault(ProgramFault::Opb(fault))) => {
+            push_opb_look(rt.alloc(), &mut text, bytes, fault)?;
+        }
+        Err(ProgramError::NoMemory) => return Err(anyhow!("no memory")),
     }
-    Ok(())
+    shown::text(rt, &text)
 }
 
 /// Reads the records of a text and writes them in the second version, or prints the text's first fault.

@@ -13,8 +13,8 @@
 //! - `meet WORD ..`: the same, where a gate holds the worker of the first task until the second one was answered; tells whether it was, and how
 //!   many proposals were answered in the first round
 //! - `explain WORD ..`: looks inside a presolve, with these words of `papilo-explain`
-//! - `program NAME FORMAT NUMBERS`: reads the program of a file's text, and writes it
-//! - `look NAME FORMAT NUMBERS`: shows the first fault of a file's text, with its field marked
+//! - `program NAME FORMAT NUMBERS`, `program NAME opb`: reads the program of a file's text, and writes it
+//! - `look NAME FORMAT NUMBERS`, `look NAME opb`: shows the first fault of a file's text, with its field marked
 //! - `records NAME`: reads the records of a file's text, and writes them in the second version
 //! - `rule NAME WORD ..`: applies the reduction that the words name, as a record names it, to the program of a file's text, by itself
 //! - `scan NAME [J SIDE N]`: tells what is enabled on the problem of a file's text, rule by rule, where that bound was tightened N times

@@ -3,7 +3,7 @@
 use crate::runs::Case;
 use anyhow::{Result, anyhow};
 use case_parts::{again, rule};
-use mps_profile::dialect::Dialect;
+use endings::Form;
 use presolve_model::Reduction;
 use std::sync::Wait;
 use std::thread::Threads;
@@ -19,9 +19,9 @@ pub enum Request {
     /// A look inside a presolve with the case's words.
     Explain,
     /// The program of a text, written.
-    Program(usize, Dialect),
+    Program(usize, Form),
     /// A look at the first fault of a text.
-    Look(usize, Dialect),
+    Look(usize, Form),
     /// The records of a text, written.
     Records(usize),
     /// A reduction of the program of a text, by itself.
@@ -41,8 +41,8 @@ impl Request {
             Request::Run => case.run(rt, threads),
             Request::Meet => case.meet(rt, threads),
             Request::Explain => case.explain(rt),
-            Request::Program(place, dialect) => again::program(rt, case.bytes_at(place)?, dialect),
-            Request::Look(place, dialect) => again::look(rt, case.bytes_at(place)?, dialect),
+            Request::Program(place, form) => again::program(rt, case.bytes_at(place)?, form),
+            Request::Look(place, form) => again::look(rt, case.bytes_at(place)?, form),
             Request::Records(place) => again::records(rt, case.bytes_at(place)?),
             Request::Rule(place, reduction) => rule::applied(rt, case.bytes_at(place)?, reduction),
         }

@@ -186,16 +186,16 @@ impl<'a, T: Threads + Wait + Sync> Script<'a, T> {
     }
 
     fn program(&mut self, rt: &HostRuntime, rest: &str) -> Result<()> {
-        let (name, dialect) = rest.split_once(' ').context("a name and a dialect")?;
+        let (name, form) = rest.split_once(' ').context("a name and a form")?;
         let place = self.case.place(name)?;
-        self.request = Request::Program(place, again::dialect(dialect)?);
+        self.request = Request::Program(place, again::form(form)?);
         self.request.answer(rt, self.threads, &self.case)
     }
 
     fn look(&mut self, rt: &HostRuntime, rest: &str) -> Result<()> {
-        let (name, dialect) = rest.split_once(' ').context("a name and a dialect")?;
+        let (name, form) = rest.split_once(' ').context("a name and a form")?;
         let place = self.case.place(name)?;
-        self.request = Request::Look(place, again::dialect(dialect)?);
+        self.request = Request::Look(place, again::form(form)?);
         self.request.answer(rt, self.threads, &self.case)
     }
 

@@ -1,6 +1,7 @@
 -- What an ending of a check says of the files.
 use Rattle.std.specs.Prelude.{◌≡◌, ◌≢◌, ◌⊎◌, ◌==◌, ℕ, List, Some, None}
 use Rattle.fractions.specs.Number.{Number}
+use Rattle.fractions.specs.declared.Numbers.TheVariants.{Fractions}
 use Rattle.file_ports.specs.Ports.{Moment, Told}
 use Rattle.command_words.specs.Names.{CheckNames}
 use Rattle.lp_model.specs.ProgramData.{ProgramData}
@@ -15,7 +16,7 @@ use Rattle.lp_check.specs.declared.verdicts.Verdict.{Verdict}
 use Rattle.lp_check.specs.declared.pair_verdicts.PairVerdict.{PairVerdict}
 use Rattle.endings.specs.Continuity.{NamesFirstNotContinuous}
 use Rattle.endings.specs.declared.forms.Form.{Form}
-use Rattle.endings.specs.Forms.{fractions_form}
+use Rattle.endings.specs.Forms.{form_with}
 use Rattle.endings.specs.Ending.{When, no_memory_line, read_fault_line}
 use Rattle.endings.specs.Moments.{FailsToRead, IsQuiet, IsThere, Reads}
 use Rattle.endings.specs.ProgramTexts.{IsProgramOf, SaysFaultOf}
@@ -26,9 +27,9 @@ use Rattle.check_command.specs.GivenTexts.{IsSolutionOf, NeedsContinuous, SaysGi
 use Rattle.check_command.specs.JudgedRay.{IsRayJudged}
 use Rattle.check_command.specs.VerdictText.{status_of_verdict, verdict_text, status_of_pair_verdict, pair_verdict_text, yes_text}
 
--- how IN is read
+-- how IN is read: with fractions
 abbrev pub check_form : CheckNames → Form
-check_form names = fractions_form names.fixed
+check_form names = form_with names.format Fractions
 
 -- an ending by a verdict, with its line
 abbrev pub TellsVerdict : ProgramData → Verdict → Ending → Type 0

@@ -1,4 +1,4 @@
-//! The command `check IN SOL [--fixed]`.
+//! The command `check IN SOL [--fixed] [--opb]`.
 
 ghost use Rattle.std.specs.Prelude.{◌≡◌, ◌≤◌, ◌⊎◌, length, option_map, IfOk, IfSome, OnErr, IsErrOf};
 ghost use Rattle.command_words.specs.Seen.{check_names_of};
@@ -8,8 +8,9 @@ ghost use Rattle.check_command.specs.Checked.{EndsCheck};
 
 use crate::judging::judge;
 use command_words::CheckWords;
-use endings::{Ending, INPUT_LIMIT, SOLUTION_LIMIT, Unread, fractions_form, read_within};
+use endings::{Ending, INPUT_LIMIT, SOLUTION_LIMIT, Unread, form_with, read_within};
 use file_ports::Files;
+use fractions::Numbers;
 use std::alloc::{AllocError, Global};
 
 /// The bytes of IN and of SOL; none of a name that holds more than is read.
@@ -47,7 +48,7 @@ pub fn check<F: Files>(
     ensures ends { IfOk result (λ e. EndsCheck (check_names_of words.now) (status_of e) (text_of e) (F.moment files.old) (F.moment files.new)) }
     ensures no_memory { OnErr result (IsQuiet (F.moment files.old) (F.moment files.new)) }
 {
-    let form = fractions_form(words.fixed);
+    let form = form_with(words.format, Numbers::Fractions);
     match read_both(alloc, words.input, words.solution, files) {
         Ok(BothTexts { input, solution }) => judge(alloc, input, solution, form),
         Err(Unread::Failed) => Ok(Ending::ReadFault),

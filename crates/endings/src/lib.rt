@@ -13,5 +13,7 @@ mod reads;
 pub use continuity::{not_continuous_text, push_column};
 pub use ending::Ending;
 pub use faults::{fault_line, solution_fault_line};
-pub use forms::{Form, ProgramError, ProgramFault, form_of, fractions_form, read_program};
+pub use forms::{
+    Form, ProgramError, ProgramFault, form_of, form_with, fractions_form, read_program,
+};
 pub use reads::{INPUT_LIMIT, SOLUTION_LIMIT, Unread, read_within};

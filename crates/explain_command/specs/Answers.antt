@@ -8,7 +8,7 @@ use Rattle.explain_command.specs.declared.words.Words.{Words}
 use Rattle.explain_command.specs.Running.{IsAnswer}
 
 abbrev pub usage_line : List ℕ
-usage_line = codes "usage: papilo-explain IN [--fractions] [--fixed] [--limit N] [--all] [--column NAME] [--row NAME]" ++ 10 ∷ []
+usage_line = codes "usage: papilo-explain IN [--fractions] [--fixed] [--opb] [--limit N] [--all] [--column NAME] [--row NAME]" ++ 10 ∷ []
 
 abbrev pub too_long_line : List ℕ
 too_long_line = codes "error M17" ++ 10 ∷ []

@@ -69,7 +69,7 @@ pub fn answer<R: Eprint, F: Files>(
         Err(Refusal::Words) => line(
             alloc,
             1,
-            b"usage: papilo-explain IN [--fractions] [--fixed] [--limit N] [--all] [--column NAME] [--row NAME]\n",
+            b"usage: papilo-explain IN [--fractions] [--fixed] [--opb] [--limit N] [--all] [--column NAME] [--row NAME]\n",
         ),
         Err(Refusal::NoMemory) => no_memory(alloc),
     }

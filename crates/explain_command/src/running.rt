@@ -10,7 +10,7 @@ use crate::progress::Progress;
 use crate::telling::tell;
 use crate::words::Words;
 use endings::{ProgramError, ProgramFault, fault_line, form_of, read_program};
-use fault_look::push_look;
+use fault_look::{push_look, push_opb_look};
 use lp_model::Program;
 use presolve_model::{Options, Verdict};
 use run_report::counts::count_up;
@@ -60,15 +60,23 @@ fn run_program<R: Eprint>(
     })
 }
 
+/// A look at a text's first fault.
+fn look_at(alloc: Global, text: &[u8], fault: ProgramFault) -> Result<Vec<u8>, AllocError> {
+    let mut look = Vec::new(alloc);
+    match fault {
+        ProgramFault::Mps(fault) => push_look(alloc, &mut look, text, fault)?,
+        ProgramFault::Opb(fault) => push_opb_look(alloc, &mut look, text, fault)?,
+    }
+    Ok(look)
+}
+
 /// Names a text's first fault, and looks at it.
 fn tell_fault(alloc: Global, text: &[u8], fault: ProgramFault) -> Result<Told, AllocError>
     ensures status { IfOk result (λ told. told.status ≡ 2) }
     ensures lines { IfOk result (λ told. Begins (fault_text fault) told.text.items) }
 {
     let mut told = fault_line(alloc, fault)?;
-    let ProgramFault::Mps(fault) = fault;
-    let mut look = Vec::new(alloc);
-    push_look(alloc, &mut look, text, fault)?;
+    let look = look_at(alloc, text, fault)?;
     told.extend_from_slice(look.as_slice())?;
     Ok(Told {
         status: 2,

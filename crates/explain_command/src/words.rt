@@ -1,9 +1,9 @@
-//! The words that the program is started with: `explain IN [--fractions] [--fixed] [--limit N] [--all] [--column NAME] [--row NAME]`.
+//! The words that the program is started with: `explain IN [--fractions] [--fixed] [--opb] [--limit N] [--all] [--column NAME] [--row NAME]`.
 
 use clap::builder::ValueParser;
 use clap::error::ErrorKind;
 use clap::{Arg, ArgAction, ArgMatches, Command};
-use command_words::{MOST_RECORDS, PresolveOptions, Refusal};
+use command_words::{InputFormat, MOST_RECORDS, PresolveOptions, Refusal};
 use std::alloc::{AllocError, Global};
 
 /// What is asked for.
@@ -40,7 +40,8 @@ fn presolve_words<'a>(alloc: Global) -> Result<Command<'a>, AllocError> {
         .arg(input)?
         .arg(limit)?
         .arg(flag(alloc, "fractions"))?
-        .arg(flag(alloc, "fixed"))
+        .arg(flag(alloc, "fixed"))?
+        .arg(flag(alloc, "opb"))
 }
 
 // All words.
@@ -56,6 +57,16 @@ fn is_given(found: &ArgMatches, id: &str) -> bool {
     match found.get_str(id) {
         Some(text) => text == "true",
         None => false,
+    }
+}
+
+// The format of IN that is given, or the free one; none where two are given.
+fn format_in(found: &ArgMatches) -> Option<InputFormat> {
+    match (is_given(found, "fixed"), is_given(found, "opb")) {
+        (false, false) => Some(InputFormat::Free),
+        (true, false) => Some(InputFormat::Fixed),
+        (false, true) => Some(InputFormat::Opb),
+        (true, true) => None,
     }
 }
 
@@ -84,10 +95,13 @@ fn matches<'a>(alloc: Global, words: &'a [String]) -> Result<ArgMatches<'a>, Ref
 /// What the words ask for; the first word is the program's own name.
 ///
 /// # Errors
-/// `Words` where `clap` does not take them, `NoMemory`.
+/// `Words` where `clap` does not take them or two formats are given, `NoMemory`.
 pub fn read<'a>(alloc: Global, words: &'a [String]) -> Result<Words<'a>, Refusal> {
     let found = matches(alloc, words)?;
     let Some(input) = found.get_str("in") else {
+        return Err(Refusal::Words);
+    };
+    let Some(format) = format_in(&found) else {
         return Err(Refusal::Words);
     };
     Ok(Words {
@@ -95,7 +109,7 @@ pub fn read<'a>(alloc: Global, words: &'a [String]) -> Result<Words<'a>, Refusal
         options: PresolveOptions {
             dual: false,
             fractions: is_given(&found, "fractions"),
-            fixed: is_given(&found, "fixed"),
+            format,
             limit: limit_in(&found),
             threads: 1,
             ordered: false,

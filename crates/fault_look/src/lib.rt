@@ -5,7 +5,9 @@
 
 mod fields;
 mod look;
+mod opb;
 mod places;
 mod sentences;
 
 pub use look::push_look;
+pub use opb::push_opb_look;

@@ -8,7 +8,7 @@ use std::alloc::{AllocError, Global};
 use text_lines::Fault;
 
 /// The number of a line, a bar, and the line.
-fn push_line(alloc: Global, text: &mut Vec<u8>, line: &Line<'_>) -> Result<usize, AllocError> {
+pub fn push_line(alloc: Global, text: &mut Vec<u8>, line: &Line<'_>) -> Result<usize, AllocError> {
     let number = line.number;
     let head = format!(in alloc; "{number} | ")?;
     text.extend_from_slice(head.as_bytes())?;

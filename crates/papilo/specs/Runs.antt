@@ -86,6 +86,7 @@ AreThere (Some (Verify names)) before = IsThere (before.told names.input) × IsT
 AreThere (Some (Solve names)) before = IsThere (before.told names.input)
 AreThere (Some (Gen numbers)) before = Unit {0}
 
--- clap does not take the words, or there is no command with its names in what it finds in them, or two names are one that have to differ
+-- clap does not take the words, or there is no command with its names in what it finds in them, or two names are one that have to differ, or two
+-- formats are given
 abbrev pub AreRefused : List (List ℕ) → Type 0
 AreRefused words = (is_taken words ≡ false) ⊎ (selected words ≡ None)

@@ -1,4 +1,4 @@
-//! The command `presolve IN OUT REC [--threads T] [--limit N] [--dual] [--ray RAY] [--fractions] [--ordered] [--fixed]`.
+//! The command `presolve IN OUT REC [--threads T] [--limit N] [--dual] [--ray RAY] [--fractions] [--ordered] [--fixed] [--opb]`.
 
 ghost use Rattle.std.specs.Prelude.{◌≡◌, ◌≢◌, ◌<◌, ◌≤◌, ◌^◌, length, IfOk, IfSome, OnOk, OnErr};
 ghost use Rattle.file_ports.specs.Ports.{Written};

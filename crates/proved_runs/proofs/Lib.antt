@@ -1,3 +1,4 @@
+mod Forms
 mod OneSolve
 mod OneVerify
 mod Solved

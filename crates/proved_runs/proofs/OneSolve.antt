@@ -6,13 +6,10 @@ use Rattle.lp_model.specs.Meaning.{meaning}
 use Rattle.lp_model.specs.Names.{names_of_columns, names_of_rows}
 use Rattle.lp_model.specs.Optimality.{Continuous}
 use Rattle.lp_model.specs.ProgramData.{ProgramData}
-use Rattle.mps_profile.specs.Reading.{first_fault}
 use Rattle.point_text.specs.PairText.{pair_text}
 use Rattle.endings.specs.Continuity.{NamesFirstNotContinuous}
 use Rattle.endings.specs.Ending.{endless_line, infeasible_line, spent_line}
-use Rattle.endings.specs.Forms.{dialect_in}
-use Rattle.endings.specs.ProgramTexts.{IsFaultOf, IsProgramOf, program_in}
-use Rattle.endings.specs.declared.forms.ProgramFault.TheVariants.{Mps}
+use Rattle.endings.specs.ProgramTexts.{fault_in, fault_text, IsFaultOf, IsProgramOf, program_in}
 use Rattle.endings.specs.declared.reads.TheConstants.{INPUT_LIMIT}
 use Rattle.exact_simplex.specs.Answers.{IsAnswer}
 use Rattle.exact_simplex.specs.declared.solving.Solved.{Solved}
@@ -24,7 +21,7 @@ use Rattle.two_runs.specs.Runs.{Holds}
 use Rattle.two_runs.specs.SameAnswers.{IsOfBytes, LeaveTheSame}
 use Rattle.two_runs.proofs.Joined.{held_written}
 use Rattle.two_runs.proofs.Layers.{at_status, either, Layer, layer_same, longer_held, read_held}
-use Rattle.two_runs.proofs.OneCheck.{program_line, program_over, whole_line_same, whole_not_continuous}
+use Rattle.two_runs.proofs.OneCheck.{program_over, whole_line_same, whole_not_continuous}
 use Rattle.proved_runs.specs.Solved.{SolvesAreOne}
 
 -- ---- an answer with its status, its text and what is written
@@ -58,7 +55,7 @@ module _ (names : SolveNames) (input : List ℕ) where
   OfProgram s said = ((s ≡ 2) × NamesFirstNotContinuous program said) ⊎ (Continuous (meaning program) × OfAnswer s said)
 
   abbrev OfInput : ℕ → List ℕ → Type 0
-  OfInput s said = Layer INPUT_LIMIT input program_over (first_fault (dialect_in (solve_form names)) input) program_line 2 s said (OfProgram s said)
+  OfInput s said = Layer INPUT_LIMIT input program_over (fault_in (solve_form names) input) fault_text 2 s said (OfProgram s said)
 
   module _ (s t : ℕ) (said more : List ℕ) where
     answer_same : OfAnswer s said → OfAnswer t more → (s ≡ t) × (said ≡ more)
@@ -73,7 +70,7 @@ module _ (names : SolveNames) (input : List ℕ) where
     program_same (inr a) (inr b) = answer_same a.1 b.1
 
     input_same : OfInput s said → OfInput t more → (s ≡ t) × (said ≡ more)
-    input_same a b = layer_same INPUT_LIMIT input program_over (first_fault (dialect_in (solve_form names)) input) program_line 2 s t said more a b program_same
+    input_same a b = layer_same INPUT_LIMIT input program_over (fault_in (solve_form names) input) fault_text 2 s t said more a b program_same
 
   -- ---- what is said at a moment at which IN holds it
   module _ (before : Moment) (at_input : Holds before names.input input) where
@@ -114,9 +111,9 @@ module _ (names : SolveNames) (input : List ℕ) where
       ))
 
       refused : (now : Moment) → s ≡ 2 → RefusesProgram names said before now → OfInput s said
-      refused now e (inl (inl (Mps fault, h, line))) =
-          let r = read_held INPUT_LIMIT (before.told names.input) input (λ text. IsFaultOf (solve_form names) text (Mps fault)) at_input h in
-          inl (e, inr (r.0, ((fault.kind, fault.line), r.1, line)))
+      refused now e (inl (inl (fault, h, line))) =
+          let r = read_held INPUT_LIMIT (before.told names.input) input (λ text. IsFaultOf (solve_form names) text fault) at_input h in
+          inl (e, inr (r.0, (fault, r.1, line)))
       refused now e (inl (inr (over, line))) = inl (e, inl (longer_held INPUT_LIMIT (before.told names.input) input at_input over.0, line))
       refused now e (inr (p, h, line)) = under_program p h (inl (e, subst (λ (q : ProgramData). NamesFirstNotContinuous q said) (in_input p h).1.1 line))
 

@@ -1,19 +1,19 @@
 -- What verify says of the same bytes is one.
-use Rattle.std.proofs.Common.{◌≡◌, ◌⊎◌, inl, inr, ℕ, ◌≤◌, Bool, List, length, Some, sym, ap, ◌∙◌, subst}
+use Rattle.std.proofs.Common.{◌≡◌, ◌⊎◌, inl, inr, ℕ, ◌≤◌, List, length, Some, sym, ap, ◌∙◌, subst}
 use Rattle.file_ports.specs.Ports.{Moment}
+use Rattle.fractions.specs.declared.Numbers.TheVariants.{Fractions}
 use Rattle.command_words.specs.Names.{VerifyNames}
+use Rattle.command_words.specs.declared.words.InputFormat.{InputFormat}
 use Rattle.lp_model.specs.ProgramData.{ProgramData}
-use Rattle.mps_profile.specs.Reading.{first_fault}
 use Rattle.undo_records.specs.Postsolve.{Postsolve}
 use Rattle.walk_laws.specs.declared.flaw.Flaw.{Flaw}
 use Rattle.walk_laws.specs.Flaws.{IsFirstFlaw}
 use Rattle.walk_laws.specs.Walk.{Walk}
 use Rattle.walk_laws.proofs.OneFlaw.{no_flaw, one_flaw}
 use Rattle.record_reader.specs.Reading as record_texts
-use Rattle.endings.specs.Forms.{dialect_in, fractions_form}
-use Rattle.endings.specs.ProgramTexts.{IsFaultOf, IsProgramOf, program_in, SaysFaultOf}
+use Rattle.endings.specs.Forms.{form_with}
+use Rattle.endings.specs.ProgramTexts.{fault_in, fault_text, IsFaultOf, IsProgramOf, program_in, SaysFaultOf}
 use Rattle.endings.specs.declared.forms.Form.{Form}
-use Rattle.endings.specs.declared.forms.ProgramFault.TheVariants.{Mps}
 use Rattle.endings.specs.declared.reads.TheConstants.{INPUT_LIMIT}
 use Rattle.record_texts.specs.RecordTexts.{AreRecordsOf, SaysRecordFault}
 use Rattle.record_texts.specs.declared.reading.TheConstants.{RECORDS_LIMIT}
@@ -23,14 +23,14 @@ use Rattle.verify_command.specs.Verifying.{AreGiven, IsDenied, IsProgramIn, IsRe
 use Rattle.two_runs.specs.Runs.{Holds}
 use Rattle.two_runs.specs.SameAnswers.{IsOfBytes}
 use Rattle.two_runs.proofs.Layers.{at_status, either, Layer, layer_same, longer_held, read_held}
-use Rattle.two_runs.proofs.OneCheck.{program_line, program_over}
+use Rattle.two_runs.proofs.OneCheck.{program_over}
 use Rattle.two_runs.proofs.OnePostsolve.{record_line, records_over}
 use Rattle.proved_runs.specs.Verified.{VerifiesAreOne}
 
 -- ---- of three texts
-module _ (fixed : Bool) (input output undoing : List ℕ) where
+module _ (format : InputFormat) (input output undoing : List ℕ) where
   abbrev pub program : ProgramData
-  program = program_in (fractions_form fixed) input
+  program = program_in (form_with format Fractions) input
 
   abbrev pub reduced : ProgramData
   reduced = program_in output_form output
@@ -47,10 +47,10 @@ module _ (fixed : Bool) (input output undoing : List ℕ) where
   OfRecords s said = Layer RECORDS_LIMIT undoing records_over (record_texts.first_fault undoing) record_line 7 s said (OfWalk s said)
 
   abbrev pub OfOutput : ℕ → List ℕ → Type 0
-  OfOutput s said = Layer INPUT_LIMIT output program_over (first_fault (dialect_in output_form) output) program_line 2 s said (OfRecords s said)
+  OfOutput s said = Layer INPUT_LIMIT output program_over (fault_in output_form output) fault_text 2 s said (OfRecords s said)
 
   abbrev pub OfInput : ℕ → List ℕ → Type 0
-  OfInput s said = Layer INPUT_LIMIT input program_over (first_fault (dialect_in (fractions_form fixed)) input) program_line 2 s said (OfOutput s said)
+  OfInput s said = Layer INPUT_LIMIT input program_over (fault_in (form_with format Fractions) input) fault_text 2 s said (OfOutput s said)
 
   module _ (s t : ℕ) (said more : List ℕ) where
     walk_same : OfWalk s said → OfWalk t more → (s ≡ t) × (said ≡ more)
@@ -60,17 +60,17 @@ module _ (fixed : Bool) (input output undoing : List ℕ) where
     walk_same (inr a) (inr b) = (a.0 ∙ sym b.0, a.1.2 ∙ ap flaw_text (one_flaw program reduced told a.1.0 b.1.0 a.1.1 b.1.1) ∙ sym b.1.2)
 
     input_same : OfInput s said → OfInput t more → (s ≡ t) × (said ≡ more)
-    input_same a b = layer_same INPUT_LIMIT input program_over (first_fault (dialect_in (fractions_form fixed)) input) program_line 2 s t said more a b
-        (λ q r. layer_same INPUT_LIMIT output program_over (first_fault (dialect_in output_form) output) program_line 2 s t said more q r
+    input_same a b = layer_same INPUT_LIMIT input program_over (fault_in (form_with format Fractions) input) fault_text 2 s t said more a b
+        (λ q r. layer_same INPUT_LIMIT output program_over (fault_in output_form output) fault_text 2 s t said more q r
         (λ x y. layer_same RECORDS_LIMIT undoing records_over (record_texts.first_fault undoing) record_line 7 s t said more x y walk_same))
 
   -- ---- what is said at a moment at which three names hold them
   module _ (input_name output_name records_name : List ℕ) (before : Moment) (at_input : Holds before input_name input) (at_output : Holds before output_name output) (at_undoing : Holds before records_name undoing) where
     abbrev names : VerifyNames
-    names = record { input = input_name; output = output_name; records = records_name; fixed = fixed }
+    names = record { input = input_name; output = output_name; records = records_name; format = format }
 
-    in_input : (p : ProgramData) → IsProgramIn names before p → (length input ≤ INPUT_LIMIT) × IsProgramOf (fractions_form fixed) input p
-    in_input p h = read_held INPUT_LIMIT (before.told input_name) input (λ text. IsProgramOf (fractions_form fixed) text p) at_input h
+    in_input : (p : ProgramData) → IsProgramIn names before p → (length input ≤ INPUT_LIMIT) × IsProgramOf (form_with format Fractions) input p
+    in_input p h = read_held INPUT_LIMIT (before.told input_name) input (λ text. IsProgramOf (form_with format Fractions) text p) at_input h
 
     in_output : (p : ProgramData) → IsReducedIn names before p → (length output ≤ INPUT_LIMIT) × IsProgramOf output_form output p
     in_output p h = read_held INPUT_LIMIT (before.told output_name) output (λ text. IsProgramOf output_form text p) at_output h
@@ -84,14 +84,14 @@ module _ (fixed : Bool) (input output undoing : List ℕ) where
 
       -- at a text that is refused
       fault_line : (form : Form) (name bytes : List ℕ) (now : Moment) (Rest : Type 0) → Holds before name bytes → s ≡ 2 → SaysFaultOf INPUT_LIMIT form name said before now
-          → Layer INPUT_LIMIT bytes program_over (first_fault (dialect_in form) bytes) program_line 2 s said Rest
-      fault_line form name bytes now Rest held e (inl (Mps fault, h, line)) =
-          let r = read_held INPUT_LIMIT (before.told name) bytes (λ text. IsFaultOf form text (Mps fault)) held h in
-          inl (e, inr (r.0, ((fault.kind, fault.line), r.1, line)))
+          → Layer INPUT_LIMIT bytes program_over (fault_in form bytes) fault_text 2 s said Rest
+      fault_line form name bytes now Rest held e (inl (fault, h, line)) =
+          let r = read_held INPUT_LIMIT (before.told name) bytes (λ text. IsFaultOf form text fault) held h in
+          inl (e, inr (r.0, (fault, r.1, line)))
       fault_line form name bytes now Rest held e (inr (over, line)) = inl (e, inl (longer_held INPUT_LIMIT (before.told name) bytes held over.0, line))
 
       refused_program : (now : Moment) → s ≡ 2 → RefusesProgram names said before now → OfInput s said
-      refused_program now e (inl fault) = fault_line (fractions_form fixed) input_name input now (OfOutput s said) at_input e fault
+      refused_program now e (inl fault) = fault_line (form_with format Fractions) input_name input now (OfOutput s said) at_input e fault
       refused_program now e (inr (p, h, fault)) = under_input p h (fault_line output_form output_name output now (OfRecords s said) at_output e fault)
 
       records_fault : (now : Moment) → s ≡ 7 → SaysRecordFault records_name said before now → OfRecords s said
@@ -146,12 +146,12 @@ module _ (fixed : Bool) (input output undoing : List ℕ) where
           (λ none. absurd none))))))
 
 pub bytes_told : (names : VerifyNames) (input output undoing : List ℕ) (before now : Moment) (s : ℕ) (said : List ℕ) → Holds before names.input input → Holds before names.output output
-    → Holds before names.records undoing → IsOfBytes s → SaysVerify names s said before now → OfInput names.fixed input output undoing s said
+    → Holds before names.records undoing → IsOfBytes s → SaysVerify names s said before now → OfInput names.format input output undoing s said
 bytes_told names input output undoing before now s said i o r b says =
-    told_of names.fixed input output undoing names.input names.output names.records before i o r s said now b says
+    told_of names.format input output undoing names.input names.output names.records before i o r s said now b says
 
 pub verify_same : VerifiesAreOne
 verify_same names s t said more before now then later (input, i, l) (output, o, m) (undoing, r, n) b c x y =
-    input_same names.fixed input output undoing s t said more
+    input_same names.format input output undoing s t said more
     (bytes_told names input output undoing before now s said i o r b x.says)
     (bytes_told names input output undoing then later t more l m n c y.says)

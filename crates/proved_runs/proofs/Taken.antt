@@ -1,9 +1,9 @@
 -- What a presolve wrote as RAY is taken by a check.
 use Rattle.std.proofs.Common.{◌≡◌, ◌≢◌, inl, inr, ℕ, ◌≤◌, Bool, true, false, List, length, Option, Some, None, refl, sym, ap, ◌∙◌, subst, arith, if◌then◌else◌}
 use Rattle.fractions.specs.Number.{Number}
-use Rattle.fractions.specs.declared.Numbers.{Numbers}
-use Rattle.fractions.specs.declared.Numbers.TheVariants.{Decimal, Fractions}
+use Rattle.fractions.specs.declared.Numbers.TheVariants.{Fractions}
 use Rattle.command_words.specs.Names.{CheckNames, PresolveNames}
+use Rattle.command_words.specs.declared.words.InputFormat.{InputFormat}
 use Rattle.lp_check.specs.FirstNotContinuous.{IsFirstNotContinuous}
 use Rattle.lp_model.specs.Meaning.{meaning}
 use Rattle.lp_model.specs.Names.{names_of_columns, names_of_rows, WellNamed}
@@ -15,21 +15,14 @@ use Rattle.ray_check.specs.Deciding.{ColumnsFit, DecidesRay}
 use Rattle.ray_check.specs.Room.{TotalFits}
 use Rattle.ray_check.specs.declared.verdict.RayChecked.{RayChecked}
 use Rattle.ray_check.specs.declared.verdict.RayChecked.TheVariants.{Yes, NoRow, NoColumn, NoTotal, PastColumn, PastTotal}
-use Rattle.mps_profile.specs.Program.{program_of}
-use Rattle.mps_profile.specs.Reading.{first_fault}
-use Rattle.mps_profile.specs.declared.dialect.Format.{Format}
-use Rattle.mps_profile.specs.declared.dialect.Format.TheVariants.{Fixed, Free}
-use Rattle.mps_laws.proofs.Names.{program_well_named}
-use Rattle.mps_decimal_texts.proofs.Texts.{no_fault, one_program}
 use Rattle.ray_text.specs.RayLines.{is_ray_text}
 use Rattle.ray_text.specs.RayText.{HasRoom, ray_text}
 use Rattle.ray_text.specs.Reading.{ray_fault, ray_in}
 use Rattle.endings.specs.Ending.{infeasible_line}
-use Rattle.endings.specs.Forms.{dialect_in, form_of, fractions_form, numbers_of}
+use Rattle.endings.specs.Forms.{form_of, form_with, numbers_of}
 use Rattle.endings.specs.Moments.{Reads}
-use Rattle.endings.specs.ProgramTexts.{HasNoFault, IsFaultOf, IsProgramOf, program_in, SaysFaultOf}
+use Rattle.endings.specs.ProgramTexts.{fault_in, HasNoFault, IsFaultOf, IsProgramOf, program_in, SaysFaultOf}
 use Rattle.endings.specs.SolutionTexts.{fault_of}
-use Rattle.endings.specs.declared.forms.ProgramFault.TheVariants.{Mps}
 use Rattle.endings.specs.declared.reads.TheConstants.{INPUT_LIMIT, SOLUTION_LIMIT}
 use Rattle.ray_file.specs.Telling.{TellsRay}
 use Rattle.told_rays.proofs.OneRay.{says_more}
@@ -42,6 +35,7 @@ use Rattle.check_command.specs.RayVerdictText.{ray_verdict_text, status_of_ray_v
 use Rattle.two_runs.proofs.Joined.{held_written}
 use Rattle.two_runs.proofs.Layers.{at_status, either, longer_held, read_held}
 use Rattle.two_runs.proofs.OneCheck.{whole_not_continuous}
+use Rattle.proved_runs.proofs.Forms.{well_named, with_fractions}
 use Rattle.proved_runs.specs.Rays.{IsGivenToCheck, IsTaken, WrittenRaysAreTaken}
 
 -- that what is written of a ray is read again
@@ -59,13 +53,6 @@ pub record RaysPass : Type 0 where
   pub total : (d : ProgramData) (w : Weights) (t : Number) → DecidesRay d w (NoTotal t) → Ray (meaning d) w → ⊥
   pub past_column : (d : ProgramData) (w : Weights) (j : ℕ) → DecidesRay d w (PastColumn j) → ColumnsFit d w → ⊥
   pub past_total : (d : ProgramData) (w : Weights) → DecidesRay d w PastTotal → TotalFits (meaning d) w → ⊥
-
--- ---- with fractions the text of IN gives the same program
-by_numbers : (numbers : Numbers) (format : Format) (text : List ℕ) → first_fault (record { format = format; numbers = numbers }) text ≡ None
-    → (first_fault (record { format = format; numbers = Fractions }) text ≡ None)
-    × (program_of (record { format = format; numbers = Fractions }) text ≡ program_of (record { format = format; numbers = numbers }) text)
-by_numbers Decimal format text sound = (no_fault format text sound, one_program format text sound)
-by_numbers Fractions format text sound = (sound, refl)
 
 none_or_some : {A : Type 0} (o : Option A) (a : A) → o ≡ None → o ≡ Some a → ⊥
 none_or_some o a e f = let g : None ≡ Some a = sym e ∙ f in cc
@@ -114,7 +101,7 @@ module _ (again : RaysAgain) (pass : RaysPass) (first : PresolveNames) (name : L
   continuous = infeasible.taken given.dual
 
   named : WellNamed program.objective program.rows program.columns
-  named = program_well_named (dialect_in (form_of first.options)) given.input told.1.0
+  named = well_named (form_of first.options) given.input told.0 told.1.0
 
   written : given.ray ≡ ray_text (names_of_rows program.rows) (names_of_columns program.columns) tells.ray
   written = sym (held_written (given.before.told name) (given.left.told name) given.ray text given.ray_left wrote.2) ∙ tells.written
@@ -132,11 +119,11 @@ module _ (again : RaysAgain) (pass : RaysPass) (first : PresolveNames) (name : L
   is_ray = subst (λ (r : RayData). Ray (meaning program) (weights_of r)) (sym same_ray) tells.proves
 
   -- ---- IN with fractions
-  abbrev Here : Bool → Type 0
-  Here fixed = HasNoFault (fractions_form fixed) given.input × (program_in (fractions_form fixed) given.input ≡ program)
+  abbrev Here : InputFormat → Type 0
+  Here format = HasNoFault (form_with format Fractions) given.input × (program_in (form_with format Fractions) given.input ≡ program)
 
-  here : Here second.fixed
-  here = subst Here (sym given.format) (by_numbers (numbers_of first.options) (if first.options.fixed then Fixed else Free) given.input told.1.0)
+  here : Here second.format
+  here = subst Here (sym given.format) (with_fractions first.options.format (numbers_of first.options) given.input told.1.0)
 
   in_program : (p : ProgramData) → IsProgramIn second given.found p → p ≡ program
   in_program p h = (read_held INPUT_LIMIT (given.found.told second.input) given.input (λ held. IsProgramOf (check_form second) held p) given.input_found h).1.1 ∙ here.1
@@ -167,9 +154,9 @@ module _ (again : RaysAgain) (pass : RaysPass) (first : PresolveNames) (name : L
 
   -- ---- it refuses neither text
   not_refused : SaysFaultOf INPUT_LIMIT (check_form second) second.input said given.found given.now → ⊥
-  not_refused (inl (Mps fault, h, line)) =
-      let r = read_held INPUT_LIMIT (given.found.told second.input) given.input (λ held. IsFaultOf (check_form second) held (Mps fault)) given.input_found h in
-      none_or_some (first_fault (dialect_in (check_form second)) given.input) (fault.kind, fault.line) here.0 r.1
+  not_refused (inl (fault, h, line)) =
+      let r = read_held INPUT_LIMIT (given.found.told second.input) given.input (λ held. IsFaultOf (check_form second) held fault) given.input_found h in
+      none_or_some (fault_in (check_form second) given.input) fault here.0 r.1
   not_refused (inr (over, line)) =
       let l = longer_held INPUT_LIMIT (given.found.told second.input) given.input given.input_found over.0 in
       let m = told.0 in

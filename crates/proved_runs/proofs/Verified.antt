@@ -1,23 +1,19 @@
 -- What a presolve left is verified.
-use Rattle.std.proofs.Common.{◌≡◌, inl, inr, ℕ, ◌≤◌, Bool, List, length, Option, Some, None, refl, sym, ◌∙◌, subst, arith, if◌then◌else◌}
-use Rattle.fractions.specs.declared.Numbers.{Numbers}
-use Rattle.fractions.specs.declared.Numbers.TheVariants.{Decimal, Fractions}
+use Rattle.std.proofs.Common.{◌≡◌, inl, inr, ℕ, ◌≤◌, List, length, Option, Some, None, sym, ◌∙◌, subst, arith}
+use Rattle.fractions.specs.declared.Numbers.TheVariants.{Fractions}
 use Rattle.command_words.specs.Names.{PresolveNames, VerifyNames}
+use Rattle.command_words.specs.declared.words.InputFormat.{InputFormat}
 use Rattle.lp_model.specs.ProgramData.{ProgramData}
-use Rattle.mps_profile.specs.Program.{program_of}
-use Rattle.mps_profile.specs.Reading.{first_fault}
-use Rattle.mps_profile.specs.declared.dialect.Format.{Format}
-use Rattle.mps_profile.specs.declared.dialect.Format.TheVariants.{Fixed, Free}
-use Rattle.mps_decimal_texts.proofs.Texts.{no_fault, one_program}
 use Rattle.mps_round_trip.specs.Plain.{Plain}
 use Rattle.undo_records.specs.Postsolve.{Postsolve}
 use Rattle.walk_laws.specs.Walk.{Walk}
 use Rattle.walk_laws.proofs.OneFlaw.{no_flaw}
 use Rattle.walk_laws.proofs.Running.{run_walks}
 use Rattle.whole_way.specs.Texts.{TextsFit}
-use Rattle.endings.specs.Forms.{form_of, fractions_form, numbers_of}
+use Rattle.endings.specs.Forms.{form_of, form_with, numbers_of}
 use Rattle.endings.specs.ProgramTexts.{HasNoFault, IsProgramOf, program_in}
 use Rattle.endings.specs.declared.reads.TheConstants.{INPUT_LIMIT}
+use Rattle.endings.proofs.FirstFaults.{mps_sound}
 use Rattle.record_reader.specs.Reading as records
 use Rattle.record_texts.specs.declared.reading.TheConstants.{RECORDS_LIMIT}
 use Rattle.presolve_command.specs.Presolved.{IsMadeOf}
@@ -27,6 +23,7 @@ use Rattle.two_runs.specs.SameAnswers.{IsOfBytes}
 use Rattle.two_runs.proofs.Joined.{held_written}
 use Rattle.two_runs.proofs.Layers.{Layer, read_held}
 use Rattle.proved_runs.specs.Verified.{IsLookedAt, WhatIsLeftIsVerified}
+use Rattle.proved_runs.proofs.Forms.{with_fractions}
 use Rattle.proved_runs.proofs.OneVerify.{bytes_told, OfWalk}
 
 -- ---- a text that is neither refused for its length nor for a fault
@@ -35,13 +32,6 @@ after : {K R : Type 0} (limit : ℕ) (bytes over : List ℕ) (fault : Option K) 
 after limit bytes over fault line code s said fits none (inl (e, inl over_long)) = absurd (let l = over_long.0 in omega (arith, fits, l))
 after limit bytes over fault line code s said fits none (inl (e, inr (l, (k, f, x)))) = absurd (let g : None ≡ Some k = sym none ∙ f in cc)
 after limit bytes over fault line code s said fits none (inr (l, n, rest)) = rest
-
--- ---- with fractions the text of IN gives the same program
-by_numbers : (numbers : Numbers) (format : Format) (text : List ℕ) → first_fault (record { format = format; numbers = numbers }) text ≡ None
-    → (first_fault (record { format = format; numbers = Fractions }) text ≡ None)
-    × (program_of (record { format = format; numbers = Fractions }) text ≡ program_of (record { format = format; numbers = numbers }) text)
-by_numbers Decimal format text sound = (no_fault format text sound, one_program format text sound)
-by_numbers Fractions format text sound = (sound, refl)
 
 module _ (first : PresolveNames) (second : VerifyNames) (status : ℕ) (said : List ℕ) (look : IsLookedAt first second status said) (plain : Plain (program_in (form_of first.options) look.input)) where
   abbrev made : IsMadeOf first look.presolved.program look.presolved.records look.printed look.before
@@ -68,20 +58,20 @@ module _ (first : PresolveNames) (second : VerifyNames) (status : ℕ) (said : L
       (concluded.comes_back (subst Plain (sym read.1.1) plain)))
 
   -- IN with fractions
-  again : HasNoFault (fractions_form first.options.fixed) look.input × (program_in (fractions_form first.options.fixed) look.input ≡ program_in (form_of first.options) look.input)
-  again = by_numbers (numbers_of first.options) (if first.options.fixed then Fixed else Free) look.input read.1.0
+  again : HasNoFault (form_with first.options.format Fractions) look.input × (program_in (form_with first.options.format Fractions) look.input ≡ program_in (form_of first.options) look.input)
+  again = with_fractions first.options.format (numbers_of first.options) look.input read.1.0
 
   walk : Walk source made.outcome.program made.outcome.records
   walk = run_walks (options_for first.options) (workers_for first.options) source made.outcome.program made.outcome.records made.outcome.report.end concluded.concluded concluded.taken
 
-  abbrev Here : Bool → Type 0
-  Here fixed = (HasNoFault (fractions_form fixed) look.input) × (program_in (fractions_form fixed) look.input ≡ program_in (form_of first.options) look.input)
+  abbrev Here : InputFormat → Type 0
+  Here format = (HasNoFault (form_with format Fractions) look.input) × (program_in (form_with format Fractions) look.input ≡ program_in (form_of first.options) look.input)
 
-  here : Here second.fixed
+  here : Here second.format
   here = subst Here (sym look.format) again
 
   abbrev program : ProgramData
-  program = program_in (fractions_form second.fixed) look.input
+  program = program_in (form_with second.format Fractions) look.input
 
   abbrev told : Postsolve
   told = records.records_of look.records
@@ -91,14 +81,14 @@ module _ (first : PresolveNames) (second : VerifyNames) (status : ℕ) (said : L
       (subst (λ (r : ProgramData). Walk source r told) (sym fit.program_text.same)
       (subst (λ (u : Postsolve). Walk source made.outcome.program u) (sym fit.records_text.same) walk))
 
-  verdict : IsOfBytes status → OfWalk second.fixed look.input look.output look.records status said
+  verdict : IsOfBytes status → OfWalk second.format look.input look.output look.records status said
   verdict b =
       after RECORDS_LIMIT look.records _ _ _ 7 status said look.records_fit fit.records_text.sound
-      (after INPUT_LIMIT look.output _ _ _ 2 status said look.output_fits fit.program_text.sound
+      (after INPUT_LIMIT look.output _ _ _ 2 status said look.output_fits (mps_sound _ look.output fit.program_text.sound)
       (after INPUT_LIMIT look.input _ _ _ 2 status said read.0 here.0
       (bytes_told second look.input look.output look.records look.found look.now status said look.input_found look.output_found look.records_found b look.verified.says)))
 
-  by : OfWalk second.fixed look.input look.output look.records status said → status ≡ 0
+  by : OfWalk second.format look.input look.output look.records status said → status ≡ 0
   by (inl a) = a.0
   by (inr a) = absurd (no_flaw program (program_in output_form look.output) told a.1.0 walks a.1.1)
 

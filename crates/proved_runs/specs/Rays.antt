@@ -32,7 +32,7 @@ pub record IsGivenToCheck (first : PresolveNames) (name : List ℕ) (second : Ch
   pub named : first.ray ≡ Some name
   pub presolved : EndsPresolve first 20 infeasible_line before left
   pub checked : EndsCheck second status said found now
-  pub format : second.fixed ≡ first.options.fixed
+  pub format : second.format ≡ first.options.format
   pub input_read : Holds before first.input input
   pub ray_left : Holds left name ray
   pub input_found : Holds found second.input input

@@ -37,7 +37,7 @@ pub record IsLookedAt (first : PresolveNames) (second : VerifyNames) (status : �
   pub records : List ℕ
   pub presolved : IsPresolved first printed before left
   pub verified : EndsVerify second status said found now
-  pub format : second.fixed ≡ first.options.fixed
+  pub format : second.format ≡ first.options.format
   pub input_read : Holds before first.input input
   pub output_left : Holds left first.output output
   pub records_left : Holds left first.records records

@@ -20,15 +20,11 @@ use Rattle.lp_rays.specs.Ray.{Weights}
 use Rattle.lp_rays.specs.RayData.{RayData, weights_of}
 use Rattle.ray_check.specs.Deciding.{DecidesRay}
 use Rattle.ray_check.specs.declared.verdict.RayChecked.{RayChecked}
-use Rattle.mps_profile.specs.Reading.{first_fault}
-use Rattle.mps_profile.specs.declared.faults.MpsFaultKind.{MpsFaultKind}
 use Rattle.point_text.specs.declared.faults.SolFaultKind.{SolFaultKind}
 use Rattle.ray_text.specs.RayLines.{is_ray_text}
 use Rattle.endings.specs.Continuity.{NamesFirstNotContinuous, not_continuous_text}
 use Rattle.endings.specs.Moments.{Reads}
-use Rattle.endings.specs.Forms.{dialect_in}
-use Rattle.endings.specs.ProgramTexts.{IsFaultOf, IsProgramOf, mps_fault_text, program_in, SaysFaultOf}
-use Rattle.endings.specs.declared.forms.ProgramFault.TheVariants.{Mps}
+use Rattle.endings.specs.ProgramTexts.{fault_in, fault_text, IsFaultOf, IsProgramOf, program_in, SaysFaultOf}
 use Rattle.endings.specs.SolutionTexts.{fault_of, solution_fault_text}
 use Rattle.endings.specs.declared.reads.TheConstants.{INPUT_LIMIT, SOLUTION_LIMIT}
 use Rattle.check_command.specs.Checked.{check_form, IsChecked, IsJudged, IsNotContinuous, IsProgramIn, RefusesProgram, RefusesSolution, SaysCheck}
@@ -39,14 +35,8 @@ use Rattle.two_runs.specs.Runs.{duals_in, Holds, point_in}
 use Rattle.two_runs.specs.SameAnswers.{ChecksAreOne, IsOfBytes}
 use Rattle.two_runs.proofs.Layers.{at_status, either, Layer, layer_same, longer_held, read_held}
 
-abbrev pub ProgramFault : Type 0
-ProgramFault = MpsFaultKind × ℕ
-
 abbrev pub SolutionFault : Type 0
 SolutionFault = SolFaultKind × ℕ
-
-abbrev pub program_line : ProgramFault → List ℕ
-program_line k = mps_fault_text (record { kind = k.0; line = k.1 })
 
 abbrev pub solution_line : SolutionFault → List ℕ
 solution_line k = solution_fault_text (record { kind = k.0; line = k.1 })
@@ -196,7 +186,7 @@ module _ (names : CheckNames) (input solution : List ℕ) where
   OfSolution s said = Layer SOLUTION_LIMIT solution solution_over (given_fault program solution) solution_line 8 s said (Told program solution s said)
 
   abbrev OfTexts : ℕ → List ℕ → Type 0
-  OfTexts s said = Layer INPUT_LIMIT input program_over (first_fault (dialect_in (check_form names)) input) program_line 2 s said (OfSolution s said)
+  OfTexts s said = Layer INPUT_LIMIT input program_over (fault_in (check_form names) input) fault_text 2 s said (OfSolution s said)
 
   module _ (before : Moment) (at_input : Holds before names.input input) (at_solution : Holds before names.solution solution) where
     -- IN's program is the program
@@ -207,9 +197,9 @@ module _ (names : CheckNames) (input solution : List ℕ) where
     under s said P (p, h, q) f = let r = in_program p h in inr (r.0, r.1.0, f (subst P r.1.1 q))
 
     refused_input : (s : ℕ) (said : List ℕ) (now : Moment) → s ≡ 2 → SaysFaultOf INPUT_LIMIT (check_form names) names.input said before now → OfTexts s said
-    refused_input s said now e (inl (Mps fault, h, line)) =
-        let r = read_held INPUT_LIMIT (before.told names.input) input (λ text. IsFaultOf (check_form names) text (Mps fault)) at_input h in
-        inl (e, inr (r.0, ((fault.kind, fault.line), r.1, line)))
+    refused_input s said now e (inl (fault, h, line)) =
+        let r = read_held INPUT_LIMIT (before.told names.input) input (λ text. IsFaultOf (check_form names) text fault) at_input h in
+        inl (e, inr (r.0, (fault, r.1, line)))
     refused_input s said now e (inr (over, line)) = inl (e, inl (longer_held INPUT_LIMIT (before.told names.input) input at_input over.0, line))
 
     refused_solution : (s : ℕ) (said : List ℕ) (now : Moment) → s ≡ 8 → SaysGivenFault program names.solution said before now → OfSolution s said
@@ -310,6 +300,6 @@ pub check_same : ((M : LinearProgram) (x : Vector) (v w : Verdict) → Decides M
     → ((d : ProgramData) (x : Weights) (v w : RayChecked) → DecidesRay d x v → DecidesRay d x w → v ≡ w) → ChecksAreOne
 check_same one pair on_ray names s t said more before now then later (input, i, j) (solution, k, l) b c x y =
     let p : ProgramData = program_in (check_form names) input in
-    layer_same INPUT_LIMIT input program_over (first_fault (dialect_in (check_form names)) input) program_line 2 s t said more
+    layer_same INPUT_LIMIT input program_over (fault_in (check_form names) input) fault_text 2 s t said more
     (told_of names input solution before i k s said now b x.says) (told_of names input solution then j l t more later c y.says)
     (λ q r. layer_same SOLUTION_LIMIT solution solution_over (given_fault p solution) solution_line 8 s t said more q r (told_same p solution one pair on_ray s t said more))

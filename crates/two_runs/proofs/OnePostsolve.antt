@@ -4,15 +4,12 @@ use Rattle.fractions.specs.Number.{Number}
 use Rattle.file_ports.specs.Ports.{Moment}
 use Rattle.command_words.specs.Names.{PostsolveNames}
 use Rattle.lp_model.specs.ProgramData.{ProgramData}
-use Rattle.mps_profile.specs.Reading.{first_fault}
 use Rattle.point_text.specs.PairText.{pair_text}
 use Rattle.record_reader.specs.Matching.{Matches}
 use Rattle.record_reader.specs.Reading as record_texts
 use Rattle.record_reader.specs.declared.faults.RecordFaultKind.{RecordFaultKind}
 use Rattle.undo_records.specs.Postsolve.{Postsolve}
-use Rattle.endings.specs.Forms.{dialect_in}
-use Rattle.endings.specs.ProgramTexts.{IsFaultOf, IsProgramOf, program_in, SaysFaultOf}
-use Rattle.endings.specs.declared.forms.ProgramFault.TheVariants.{Mps}
+use Rattle.endings.specs.ProgramTexts.{fault_in, fault_text, IsFaultOf, IsProgramOf, program_in, SaysFaultOf}
 use Rattle.endings.specs.SolutionTexts.{fault_of, IsPairOf, SaysPairFault}
 use Rattle.endings.specs.declared.reads.TheConstants.{SOLUTION_LIMIT}
 use Rattle.postsolve_command.specs.Given.{LeavesThem, reduced_form, UndoesThem}
@@ -25,7 +22,7 @@ use Rattle.two_runs.specs.Runs.{duals_in, Holds, point_in}
 use Rattle.two_runs.specs.SameAnswers.{IsOfBytes, LeaveTheSame, PostsolvesAreOne}
 use Rattle.two_runs.proofs.Joined.{held_written, lifted_at, undoes_at}
 use Rattle.two_runs.proofs.Layers.{at_status, either, Layer, layer_same, longer_held, read_held}
-use Rattle.two_runs.proofs.OneCheck.{program_line, program_over, solution_line, solution_over}
+use Rattle.two_runs.proofs.OneCheck.{program_over, solution_line, solution_over}
 use Rattle.two_runs.proofs.OneLifting.{lifted_or_stopped, lifted_same, stopped_same}
 
 abbrev pub RecordsFault : Type 0
@@ -84,7 +81,7 @@ module _ (out undoing solution : List ℕ) where
   OfRecords s said = Layer RECORDS_LIMIT undoing records_over (record_texts.first_fault undoing) record_line 7 s said (OfMatch s said)
 
   abbrev OfTexts : ℕ → List ℕ → Type 0
-  OfTexts s said = Layer PROGRAM_LIMIT out program_over (first_fault (dialect_in reduced_form) out) program_line 2 s said (OfRecords s said)
+  OfTexts s said = Layer PROGRAM_LIMIT out program_over (fault_in reduced_form out) fault_text 2 s said (OfRecords s said)
 
   module _ (s t : ℕ) (said more : List ℕ) where
     abbrev Same : Type 0
@@ -112,7 +109,7 @@ module _ (out undoing solution : List ℕ) where
     match_same (inr a) (inr b) = solution_same a.1 b.1
 
     texts_same : OfTexts s said → OfTexts t more → Same
-    texts_same a b = layer_same PROGRAM_LIMIT out program_over (first_fault (dialect_in reduced_form) out) program_line 2 s t said more a b
+    texts_same a b = layer_same PROGRAM_LIMIT out program_over (fault_in reduced_form out) fault_text 2 s t said more a b
         (λ q r. layer_same RECORDS_LIMIT undoing records_over (record_texts.first_fault undoing) record_line 7 s t said more q r match_same)
 
   -- ---- what is said at a moment at which three names hold them
@@ -162,9 +159,9 @@ module _ (out undoing solution : List ℕ) where
 
       -- at each status
       refused_program : (now : Moment) → s ≡ 2 → SaysFaultOf PROGRAM_LIMIT reduced_form names.program said before now → OfTexts s said
-      refused_program now e (inl (Mps fault, h, line)) =
-          let r = read_held PROGRAM_LIMIT (before.told names.program) out (λ text. IsFaultOf reduced_form text (Mps fault)) at_out h in
-          inl (e, inr (r.0, ((fault.kind, fault.line), r.1, line)))
+      refused_program now e (inl (fault, h, line)) =
+          let r = read_held PROGRAM_LIMIT (before.told names.program) out (λ text. IsFaultOf reduced_form text fault) at_out h in
+          inl (e, inr (r.0, (fault, r.1, line)))
       refused_program now e (inr (over, line)) = inl (e, inl (longer_held PROGRAM_LIMIT (before.told names.program) out at_out over.0, line))
 
       refused_records : (now : Moment) → s ≡ 7 → SaysRecordFault names.records said before now → OfRecords s said

@@ -4,7 +4,6 @@ use Rattle.file_ports.specs.Ports.{Moment}
 use Rattle.command_words.specs.Names.{PresolveNames}
 use Rattle.lp_model.specs.Meaning.{meaning}
 use Rattle.lp_model.specs.ProgramData.{ProgramData}
-use Rattle.mps_profile.specs.Reading.{first_fault}
 use Rattle.undo_records.specs.Postsolve.{Postsolve}
 use Rattle.mps_writer.specs.MpsText.{mps_text}
 use Rattle.record_values.specs.declared.version.TextVersion.TheVariants.{Second}
@@ -16,10 +15,9 @@ use Rattle.presolve_model.specs.declared.conclusion.Options.{Options}
 use Rattle.presolve_model.specs.Workers.{IsInOrder, Workers}
 use Rattle.presolve_model.specs.declared.instance.Reduction.{Reduction}
 use Rattle.presolve_model.specs.declared.instance.Verdict.{Verdict}
-use Rattle.endings.specs.Forms.{dialect_in, form_of}
+use Rattle.endings.specs.Forms.{form_of}
 use Rattle.endings.specs.Ending.{infeasible_line, unbounded_line}
-use Rattle.endings.specs.ProgramTexts.{IsFaultOf, IsProgramOf, program_in}
-use Rattle.endings.specs.declared.forms.ProgramFault.TheVariants.{Mps}
+use Rattle.endings.specs.ProgramTexts.{fault_in, fault_text, IsFaultOf, IsProgramOf, program_in}
 use Rattle.endings.specs.declared.reads.TheConstants.{INPUT_LIMIT}
 use Rattle.ray_file.specs.Telling.{past_lines, StopsAt, TellsRay}
 use Rattle.told_rays.proofs.OneRay.{says_more, stops_same, told_or_stopped, told_same}
@@ -31,7 +29,7 @@ use Rattle.two_runs.specs.Runs.{Holds}
 use Rattle.two_runs.specs.SameAnswers.{IsOfBytes, LeaveTheSame, PresolvesAreOne}
 use Rattle.two_runs.proofs.Joined.{held_written}
 use Rattle.two_runs.proofs.Layers.{at_status, either, Layer, layer_same, longer_held, read_held}
-use Rattle.two_runs.proofs.OneCheck.{program_line, program_over, whole_line_same, whole_not_continuous}
+use Rattle.two_runs.proofs.OneCheck.{program_over, whole_line_same, whole_not_continuous}
 
 -- that there is one conclusion of a program
 pub record OneConclusion : Type 0 where
@@ -171,13 +169,13 @@ module _ (one : OneConclusion) (names : PresolveNames) (order : IsDoneInOrder na
   workers = workers_for names.options
 
   abbrev OfText : ℕ → List ℕ → Type 0
-  OfText s said = Layer INPUT_LIMIT input program_over (first_fault (dialect_in (form_of names.options)) input) program_line 2 s said (OfProgram one options workers order program names.ray s said)
+  OfText s said = Layer INPUT_LIMIT input program_over (fault_in (form_of names.options) input) fault_text 2 s said (OfProgram one options workers order program names.ray s said)
 
   module _ (before : Moment) (at_input : Holds before names.input input) where
     refused : (s : ℕ) (said : List ℕ) (now : Moment) → s ≡ 2 → SaysFault names said before now → OfText s said
-    refused s said now e (inl (Mps fault, h, line)) =
-        let r = read_held INPUT_LIMIT (before.told names.input) input (λ text. IsFaultOf (form_of names.options) text (Mps fault)) at_input h in
-        inl (e, inr (r.0, ((fault.kind, fault.line), r.1, line)))
+    refused s said now e (inl (fault, h, line)) =
+        let r = read_held INPUT_LIMIT (before.told names.input) input (λ text. IsFaultOf (form_of names.options) text fault) at_input h in
+        inl (e, inr (r.0, (fault, r.1, line)))
     refused s said now e (inr (over, line)) = inl (e, inl (longer_held INPUT_LIMIT (before.told names.input) input at_input over.0, line))
 
     not_taken : (s : ℕ) (said : List ℕ) → s ≡ 2 → SaysNotTaken names said before → OfText s said
@@ -199,7 +197,7 @@ module _ (one : OneConclusion) (names : PresolveNames) (order : IsDoneInOrder na
         inr (r.0, r.1.0, inr (inl (e, (h.program, h.records, made h.program h.records said h.made))))
 
     of_ray : (o : Option (List ℕ)) (said : List ℕ) (now : Moment) → SaysInfeasible o names said before now
-        → (length input ≤ INPUT_LIMIT) × (first_fault (dialect_in (form_of names.options)) input ≡ None) × ((found : ProgramIsInfeasible options workers program) × OfRay one options workers order program o found said)
+        → (length input ≤ INPUT_LIMIT) × (fault_in (form_of names.options) input ≡ None) × ((found : ProgramIsInfeasible options workers program) × OfRay one options workers order program o found said)
     of_ray None said now h =
         let r = read_held INPUT_LIMIT (before.told names.input) input (λ text. TextIsInfeasible names.options text) at_input h.0 in
         (r.0, r.1.0, (r.1.1, h.2))
@@ -265,7 +263,7 @@ module _ (one : OneConclusion) (names : PresolveNames) (order : IsDoneInOrder na
 
 pub presolve_same : OneConclusion → PresolvesAreOne
 presolve_same one names order s t said more before now then later (input, i, j) b c x y =
-    let same = layer_same INPUT_LIMIT input program_over (first_fault (dialect_in (form_of names.options)) input) program_line 2 s t said more (told_of one names order input before i s said now b x.says) (told_of one names order input then j t more later c y.says)
+    let same = layer_same INPUT_LIMIT input program_over (fault_in (form_of names.options) input) fault_text 2 s t said more (told_of one names order input before i s said now b x.says) (told_of one names order input then j t more later c y.says)
     (program_same one (options_for names.options) (workers_for names.options) order (program_in (form_of names.options) input) names.ray s t said more) in
     record {
       status = same.0;

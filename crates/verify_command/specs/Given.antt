@@ -1,10 +1,11 @@
 -- What the bytes that reads found give, by text; none where they are more than is read.
 use Rattle.std.specs.Prelude.{◌≡◌, ℕ, false, List, [], ◌∷◌, ◌++◌, codes, Option, Some, None, Result, Ok, Err}
 use Rattle.command_words.specs.Names.{VerifyNames}
+use Rattle.fractions.specs.declared.Numbers.TheVariants.{Fractions}
 use Rattle.lp_model.specs.ProgramData.{ProgramData}
 use Rattle.endings.specs.declared.forms.Form.{Form}
 use Rattle.endings.specs.declared.forms.ProgramFault.{ProgramFault}
-use Rattle.endings.specs.Forms.{fractions_form}
+use Rattle.endings.specs.Forms.{form_with, fractions_form}
 use Rattle.endings.specs.Moments.{IfFound}
 use Rattle.endings.specs.ProgramTexts.{IsFaultOf, IsProgramOf, fault_text}
 use Rattle.record_texts.specs.declared.no_records.NoRecords.{NoRecords}
@@ -14,7 +15,7 @@ use Rattle.verify_command.specs.declared.refusal.Refusal.TheVariants.{Program, R
 
 -- how IN is read: with fractions
 abbrev pub input_form : VerifyNames → Form
-input_form names = fractions_form names.fixed
+input_form names = form_with names.format Fractions
 
 -- how OUT is read: in the free format, with fractions
 abbrev pub output_form : Form

@@ -1,4 +1,4 @@
-//! The command `verify IN OUT REC [--fixed]`.
+//! The command `verify IN OUT REC [--fixed] [--opb]`.
 
 ghost use Rattle.std.specs.Prelude.{◌≤◌, length, option_map, IfOk, IfSome, OnErr, IsErrOf};
 ghost use Rattle.command_words.specs.Seen.{verify_names_of};
@@ -12,8 +12,9 @@ use crate::given::Found;
 use crate::judging::judge;
 use crate::refusal::Refusal;
 use command_words::VerifyWords;
-use endings::{Ending, INPUT_LIMIT, Unread, fractions_form, read_within};
+use endings::{Ending, INPUT_LIMIT, Unread, form_with, read_within};
 use file_ports::Files;
+use fractions::Numbers;
 use record_texts::RECORDS_LIMIT;
 use std::alloc::{AllocError, Global};
 
@@ -51,7 +52,7 @@ pub fn verify<F: Files>(
     ensures ends { IfOk result (λ e. EndsVerify (verify_names_of words.now) (status_of e) (text_of e) (F.moment files.old) (F.moment files.new)) }
     ensures no_memory { OnErr result (IsQuiet (F.moment files.old) (F.moment files.new)) }
 {
-    let form = fractions_form(words.fixed);
+    let form = form_with(words.format, Numbers::Fractions);
     let found = match read_all(alloc, words, files) {
         Ok(found) => found,
         Err(Unread::Failed) => return Ok(Ending::ReadFault),

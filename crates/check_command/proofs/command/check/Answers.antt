@@ -16,4 +16,4 @@ returns-in-Ok-clause-ends g c =
         finds_there INPUT_LIMIT names.input before now _ c.in-Ok.ensures.input,
         finds_there SOLUTION_LIMIT names.solution before now _ c.in-Ok.ensures.solution,
       );
-    }) (c.judge.ensures names before now c.fractions_form-form.ensures c.in-Ok.ensures.input c.in-Ok.ensures.solution)
+    }) (c.judge.ensures names before now c.form_with-form.ensures c.in-Ok.ensures.input c.in-Ok.ensures.solution)
