@@ -37,5 +37,6 @@ pub fn push_opb_look(
         push_line(alloc, text, &line)?;
     }
     text.extend_from_slice(sentence_of(fault.kind).as_bytes())?;
-    text.push(b'\n')
+    text.push(b'\n')?;
+    Ok(())
 }
