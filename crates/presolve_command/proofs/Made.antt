@@ -5,7 +5,8 @@ use Rattle.lp_model.specs.ProgramData.{ProgramData}
 use Rattle.command_words.specs.declared.words.PresolveOptions.{PresolveOptions}
 use Rattle.fractions.specs.declared.Numbers.{Numbers}
 use Rattle.endings.specs.declared.forms.Form.{Form}
-use Rattle.endings.specs.Forms.{form_of, numbers_in}
+use Rattle.endings.proofs.FormNumbers.{same_numbers}
+use Rattle.endings.specs.Forms.{form_of, numbers_in, numbers_of}
 use Rattle.endings.specs.Moments.{Reads}
 use Rattle.endings.specs.ProgramTexts.{IsProgramOf}
 use Rattle.endings.proofs.Earlier.{given_reads}
@@ -44,7 +45,9 @@ pub made_reduced : (options : PresolveOptions) (form : Form) (numbers : Numbers)
 made_reduced options form numbers workers text program r same taken alone =
     subst (λ (n : Numbers). IsProgramOf form text program → IsMade (told_by options n) workers program r → IsReduced options text r) (sym taken)
     (subst (λ (w : Workers). IsProgramOf form text program → IsMade (told_by options (numbers_in form)) w program r → IsReduced options text r) (sym alone)
-    (subst (λ (f : Form). IsProgramOf f text program → IsMade (told_by options (numbers_in f)) (workers_for options) program r → IsReduced options text r) (sym same) (reduced_so options text program r)))
+    (subst (λ (f : Form). IsProgramOf f text program → IsMade (told_by options (numbers_in f)) (workers_for options) program r → IsReduced options text r) (sym same)
+    (subst (λ (n : Numbers). IsProgramOf (form_of options) text program → IsMade (told_by options n) (workers_for options) program r → IsReduced options text r)
+    (sym (same_numbers options.format (numbers_of options))) (reduced_so options text program r))))
 
 -- what is said of what a read gave is said of what is told
 pub said_read : (Said : List ℕ → Type 0) (limit : ℕ) (told : Told) (held text : List ℕ) → Gives told held → length held ≤ limit → text ≡ held → Said text → Reads limit told Said

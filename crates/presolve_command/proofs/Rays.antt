@@ -3,8 +3,10 @@ use Rattle.std.proofs.Common.{◌≡◌, ℕ, List, Option, Some, ap, sym, subst
 use Rattle.std.specs.Prelude.{Result, Err, IsErrOf}
 use Rattle.std.specs.Option.{option_map}
 use Rattle.file_ports.specs.Ports.{Moment, KeepsOthers, Written}
+use Rattle.fractions.specs.declared.Numbers.{Numbers}
 use Rattle.command_words.specs.declared.words.PresolveOptions.{PresolveOptions}
-use Rattle.endings.specs.Forms.{form_of, numbers_in}
+use Rattle.endings.proofs.FormNumbers.{same_numbers}
+use Rattle.endings.specs.Forms.{form_of, numbers_in, numbers_of}
 use Rattle.endings.specs.Moments.{IsQuiet}
 use Rattle.endings.specs.ProgramTexts.{program_in}
 use Rattle.endings.specs.declared.ending.Ending.TheVariants.{Infeasible, RayPast, WriteFault}
@@ -28,13 +30,14 @@ end_found : (options : PresolveOptions) (text : List ℕ) (history : List Reduct
     (found : ProgramIsInfeasible (options_for options) (workers_for options) (program_in (form_of options) text)) → found.history ≡ history → found.verdict ≡ verdict
     → IsEndOf (numbers_in (form_of options)) (program_in (form_of options) text) history verdict
 end_found options text history verdict found is decides =
-    subst (λ (v : Verdict). IsEndOf (numbers_in (form_of options)) (program_in (form_of options) text) history v) decides
-    (subst (λ (rs : List Reduction). IsEndOf (numbers_in (form_of options)) (program_in (form_of options) text) rs found.verdict) is (record {
+    subst (λ (n : Numbers). IsEndOf n (program_in (form_of options) text) history verdict) (sym (same_numbers options.format (numbers_of options)))
+    (subst (λ (v : Verdict). IsEndOf (numbers_of options) (program_in (form_of options) text) history v) decides
+    (subst (λ (rs : List Reduction). IsEndOf (numbers_of options) (program_in (form_of options) text) rs found.verdict) is (record {
       start = found.decided.start;
       opened = found.decided.opened;
       replays = found.decided.replays;
       enabled = found.decided.enabled;
-    }))
+    })))
 
 pub end_of : (options : PresolveOptions) (form : Form) (text : List ℕ) (rs history : List Reduction) (verdict : Verdict) → form ≡ form_of options → rs ≡ history
     → TextIsInfeasibleBy options text history verdict → IsEndOf (numbers_in form) (program_in form text) rs verdict

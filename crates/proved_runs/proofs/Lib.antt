@@ -1,6 +1,6 @@
 mod Forms
+mod LeftVerified
 mod OneSolve
 mod OneVerify
-mod Solved
+mod SolvedBack
 mod Taken
-mod Verified

@@ -1,4 +1,4 @@
-use Rattle.proved_runs.proofs.Solved.{solved_back}
+use Rattle.proved_runs.proofs.SolvedBack.{solved_back}
 use Rattle.proved_runs.proofs.solved.solved_solutions_come_back.Goals as goal
 
 pub returns : goal.returns

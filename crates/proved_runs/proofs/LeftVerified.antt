@@ -4,6 +4,7 @@ use Rattle.fractions.specs.declared.Numbers.TheVariants.{Fractions}
 use Rattle.command_words.specs.Names.{PresolveNames, VerifyNames}
 use Rattle.command_words.specs.declared.words.InputFormat.{InputFormat}
 use Rattle.lp_model.specs.ProgramData.{ProgramData}
+use Rattle.mps_written_lines.specs.Formats.{free_format}
 use Rattle.mps_round_trip.specs.Plain.{Plain}
 use Rattle.undo_records.specs.Postsolve.{Postsolve}
 use Rattle.walk_laws.specs.Walk.{Walk}
@@ -84,7 +85,7 @@ module _ (first : PresolveNames) (second : VerifyNames) (status : ℕ) (said : L
   verdict : IsOfBytes status → OfWalk second.format look.input look.output look.records status said
   verdict b =
       after RECORDS_LIMIT look.records _ _ _ 7 status said look.records_fit fit.records_text.sound
-      (after INPUT_LIMIT look.output _ _ _ 2 status said look.output_fits (mps_sound _ look.output fit.program_text.sound)
+      (after INPUT_LIMIT look.output _ _ _ 2 status said look.output_fits (mps_sound (free_format Fractions) look.output fit.program_text.sound)
       (after INPUT_LIMIT look.input _ _ _ 2 status said read.0 here.0
       (bytes_told second look.input look.output look.records look.found look.now status said look.input_found look.output_found look.records_found b look.verified.says)))
 
