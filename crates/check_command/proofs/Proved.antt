@@ -1,6 +1,7 @@
 -- A yes with duals is a proof.
 use Rattle.std.proofs.Common.{◌≡◌, ℕ, List, ◌∙◌, ap}
 use Rattle.fractions.specs.Number.{Number}
+use Rattle.fractions.specs.Room.{in_frac}
 use Rattle.lp_model.specs.ProgramData.{ProgramData}
 use Rattle.lp_model.specs.Vectors.{vector_of}
 use Rattle.lp_model.specs.Meaning.{meaning}
@@ -14,11 +15,11 @@ use Rattle.lp_passages.proofs.Optimal.{meets_is_best}
 use Rattle.check_command.specs.VerdictText.{pair_verdict_text, status_of_pair_verdict, yes_text}
 use Rattle.check_command.specs.Checked.{IsProvedBest}
 
-pub proved_best : (program : ProgramData) (point duals : List Number) (verdict : PairVerdict) (printed : List ℕ) → Continuous (meaning program)
+pub proved_best : (program : ProgramData) (point duals : List Number) (verdict : PairVerdict Number) (printed : List ℕ) → Continuous (meaning program)
     → DecidesPair program.sense (meaning program) (vector_of point) (vector_of duals) verdict → printed ≡ pair_verdict_text program verdict → status_of_pair_verdict verdict ≡ 0
     → IsProvedBest program point duals printed
 proved_best program point duals (OnPoint (Yes c)) printed continuous decides said zero =
-    let meets = meets_of program.sense (meaning program) (vector_of point) (vector_of duals) c continuous decides in
+    let meets = meets_of in_frac program.sense (meaning program) (vector_of point) (vector_of duals) c continuous decides in
     record {
       meets = meets;
       cost = said ∙ ap yes_text decides.0.2;

@@ -20,13 +20,13 @@ use Rattle.check_command.specs.Checked.{IsPointJudged, IsPairJudged, SaysSolutio
 use Rattle.check_command.proofs.Proved.{proved_best}
 
 -- ---- of a point
-point_judged : (program : ProgramData) (point : List Number) (verdict : Verdict) (name : List ℕ) (before : Moment) (status : ℕ) (printed : List ℕ)
+point_judged : (program : ProgramData) (point : List Number) (verdict : Verdict Number) (name : List ℕ) (before : Moment) (status : ℕ) (printed : List ℕ)
     → Reads SOLUTION_LIMIT (before.told name) (λ text. IsSolutionOf program text point None) → Decides (meaning program) (vector_of point) verdict
     → status_of_verdict verdict ≡ status → printed ≡ verdict_text program verdict → IsPointJudged program (before.told name) status printed
 point_judged program point verdict name before status printed given decides answers said =
     record { point = point; verdict = verdict; given = given; decides = decides; answers = answers; said = said }
 
-pub point_told : (program : ProgramData) (point : List Number) (verdict : Verdict) (ending : Ending) (name : List ℕ) (before now : Moment)
+pub point_told : (program : ProgramData) (point : List Number) (verdict : Verdict Number) (ending : Ending) (name : List ℕ) (before now : Moment)
     → Reads SOLUTION_LIMIT (before.told name) (λ text. IsSolutionOf program text point None) → Decides (meaning program) (vector_of point) verdict → TellsVerdict program verdict ending
     → SaysSolution program name before now ending
 point_told program point verdict (Done text) name before now given decides h = inl (point_judged program point verdict name before 0 text.items given decides h.0 h.1)
@@ -46,7 +46,7 @@ point_told program point verdict Spent name before now given decides h = absurd 
 point_told program point verdict Unbounded name before now given decides h = absurd h
 
 -- ---- of a point with duals
-pair_judged : (program : ProgramData) (point duals : List Number) (verdict : PairVerdict) (name : List ℕ) (before : Moment) (status : ℕ) (printed : List ℕ)
+pair_judged : (program : ProgramData) (point duals : List Number) (verdict : PairVerdict Number) (name : List ℕ) (before : Moment) (status : ℕ) (printed : List ℕ)
     → Reads SOLUTION_LIMIT (before.told name) (λ text. IsSolutionOf program text point (Some duals)) → Continuous (meaning program)
     → DecidesPair program.sense (meaning program) (vector_of point) (vector_of duals) verdict
     → status_of_pair_verdict verdict ≡ status → printed ≡ pair_verdict_text program verdict → IsPairJudged program (before.told name) status printed
@@ -62,7 +62,7 @@ pair_judged program point duals verdict name before status printed given continu
   proves = λ zero. proved_best program point duals verdict printed continuous decides said (answers ∙ zero);
 }
 
-pub pair_told : (program : ProgramData) (point duals : List Number) (verdict : PairVerdict) (ending : Ending) (name : List ℕ) (before now : Moment)
+pub pair_told : (program : ProgramData) (point duals : List Number) (verdict : PairVerdict Number) (ending : Ending) (name : List ℕ) (before now : Moment)
     → Reads SOLUTION_LIMIT (before.told name) (λ text. IsSolutionOf program text point (Some duals)) → Continuous (meaning program)
     → DecidesPair program.sense (meaning program) (vector_of point) (vector_of duals) verdict → TellsPairVerdict program verdict ending
     → SaysSolution program name before now ending

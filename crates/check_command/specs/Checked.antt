@@ -32,13 +32,13 @@ abbrev pub check_form : CheckNames → Form
 check_form names = form_with names.format Fractions
 
 -- an ending by a verdict, with its line
-abbrev pub TellsVerdict : ProgramData → Verdict → Ending → Type 0
+abbrev pub TellsVerdict : ProgramData → Verdict Number → Ending → Type 0
 TellsVerdict program verdict (Done text) = (status_of_verdict verdict ≡ 0) × (text.items ≡ verdict_text program verdict)
 TellsVerdict program verdict (NoRoom line) = (status_of_verdict verdict ≡ 6) × (line.items ≡ verdict_text program verdict)
 TellsVerdict program verdict (Violated line) = (status_of_verdict verdict ≡ 9) × (line.items ≡ verdict_text program verdict)
 TellsVerdict program verdict ending = ⊥
 
-abbrev pub TellsPairVerdict : ProgramData → PairVerdict → Ending → Type 0
+abbrev pub TellsPairVerdict : ProgramData → PairVerdict Number → Ending → Type 0
 TellsPairVerdict program verdict (Done text) = (status_of_pair_verdict verdict ≡ 0) × (text.items ≡ pair_verdict_text program verdict)
 TellsPairVerdict program verdict (NoRoom line) = (status_of_pair_verdict verdict ≡ 6) × (line.items ≡ pair_verdict_text program verdict)
 TellsPairVerdict program verdict (Violated line) = (status_of_pair_verdict verdict ≡ 9) × (line.items ≡ pair_verdict_text program verdict)
@@ -47,7 +47,7 @@ TellsPairVerdict program verdict ending = ⊥
 -- SOL gives a point without duals, and this status and this line are those of the verdict on the point
 pub record IsPointJudged (program : ProgramData) (solution : Told) (status : ℕ) (printed : List ℕ) : Type 0 where
   pub point : List Number
-  pub verdict : Verdict
+  pub verdict : Verdict Number
   pub given : Reads SOLUTION_LIMIT solution (λ text. IsSolutionOf program text point None)
   pub decides : Decides (meaning program) (vector_of point) verdict
   pub answers : status_of_verdict verdict ≡ status
@@ -64,7 +64,7 @@ pub record IsProvedBest (program : ProgramData) (point duals : List Number) (pri
 pub record IsPairJudged (program : ProgramData) (solution : Told) (status : ℕ) (printed : List ℕ) : Type 0 where
   pub point : List Number
   pub duals : List Number
-  pub verdict : PairVerdict
+  pub verdict : PairVerdict Number
   pub given : Reads SOLUTION_LIMIT solution (λ text. IsSolutionOf program text point (Some duals))
   pub continuous : Continuous (meaning program)
   pub decides : DecidesPair program.sense (meaning program) (vector_of point) (vector_of duals) verdict

@@ -42,13 +42,13 @@ abbrev pub past_text : ProgramData → Item → List ℕ
 past_text program item = codes "past " ++ (item_text program item ++ 10 ∷ [])
 
 -- the printed line of a verdict
-abbrev pub verdict_text : ProgramData → Verdict → List ℕ
+abbrev pub verdict_text : ProgramData → Verdict Number → List ℕ
 verdict_text program (Yes cost) = yes_text cost
 verdict_text program (No item v limit) = no_text program item v limit
 verdict_text program (Past item) = past_text program item
 
 -- the exit status of a verdict
-abbrev pub status_of_verdict : Verdict → ℕ
+abbrev pub status_of_verdict : Verdict Number → ℕ
 status_of_verdict (Yes cost) = 0
 status_of_verdict (Past item) = 6
 status_of_verdict (No item v limit) = 9
@@ -62,24 +62,24 @@ end_text (Upper None) = codes "inf"
 end_text (Upper (Some end)) = written end
 
 -- a dual, the row's value, and the side that the dual's sign asks for
-abbrev pub no_dual_text : ProgramData → ℕ → Misplaced → List ℕ
+abbrev pub no_dual_text : ProgramData → ℕ → Misplaced Number → List ℕ
 no_dual_text program i found = codes "no dual " ++ (row_text program i ++ (codes " y " ++ (written found.multiplier
     ++ (codes " value " ++ (written found.value ++ (codes " side " ++ (end_text found.end ++ 10 ∷ [])))))))
 
 -- a reduced cost, the column's value, and the bound that the reduced cost's sign asks for
-abbrev pub no_reduced_cost_text : ProgramData → ℕ → Misplaced → List ℕ
+abbrev pub no_reduced_cost_text : ProgramData → ℕ → Misplaced Number → List ℕ
 no_reduced_cost_text program j found = codes "no reduced cost " ++ (column_text program j ++ (codes " z " ++ (written found.multiplier
     ++ (codes " value " ++ (written found.value ++ (codes " bound " ++ (end_text found.end ++ 10 ∷ [])))))))
 
 -- the printed line of a verdict on a point with duals
-abbrev pub pair_verdict_text : ProgramData → PairVerdict → List ℕ
+abbrev pub pair_verdict_text : ProgramData → PairVerdict Number → List ℕ
 pair_verdict_text program (OnPoint verdict) = verdict_text program verdict
 pair_verdict_text program (Dual i found) = no_dual_text program i found
 pair_verdict_text program (ReducedCost j found) = no_reduced_cost_text program j found
 pair_verdict_text program (PastReducedCost j) = past_text program (Column j)
 
 -- its exit status
-abbrev pub status_of_pair_verdict : PairVerdict → ℕ
+abbrev pub status_of_pair_verdict : PairVerdict Number → ℕ
 status_of_pair_verdict (OnPoint verdict) = status_of_verdict verdict
 status_of_pair_verdict (Dual i found) = 9
 status_of_pair_verdict (ReducedCost j found) = 9

@@ -6,6 +6,7 @@ ghost use Rattle.check_command.specs.Checked.{TellsPairVerdict};
 
 use crate::verdict_text::{past_text, push_row, verdict_ending};
 use endings::{Ending, push_column};
+use fractions::frac::Frac;
 use lp_check::{End, Item, Misplaced, PairVerdict};
 use lp_model::Program;
 use std::alloc::{AllocError, Global};
@@ -30,7 +31,7 @@ fn no_dual_text(
     alloc: Global,
     program: &Program,
     row: u32,
-    found: &Misplaced,
+    found: &Misplaced<Frac>,
 ) -> Result<Vec<u8>, AllocError>
     ensures { IfOk result (λ text. text.items ≡ no_dual_text program.now row found.now) }
 {
@@ -51,7 +52,7 @@ fn no_reduced_cost_text(
     alloc: Global,
     program: &Program,
     column: u32,
-    found: &Misplaced,
+    found: &Misplaced<Frac>,
 ) -> Result<Vec<u8>, AllocError>
     ensures { IfOk result (λ text. text.items ≡ no_reduced_cost_text program.now column found.now) }
 {
@@ -72,7 +73,7 @@ fn no_reduced_cost_text(
 pub fn pair_verdict_ending(
     alloc: Global,
     program: &Program,
-    verdict: PairVerdict,
+    verdict: PairVerdict<Frac>,
 ) -> Result<Ending, AllocError>
     ensures { IfOk result (λ ending. TellsPairVerdict program.now verdict ending) }
 {

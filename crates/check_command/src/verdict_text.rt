@@ -97,7 +97,7 @@ pub fn past_text(alloc: Global, program: &Program, item: Item) -> Result<Vec<u8>
 pub fn verdict_ending(
     alloc: Global,
     program: &Program,
-    verdict: Verdict,
+    verdict: Verdict<Frac>,
 ) -> Result<Ending, AllocError>
     ensures { IfOk result (λ ending. TellsVerdict program.now verdict ending) }
 {

@@ -17,6 +17,7 @@ pub mod Total
 pub mod Signs
 pub mod Comparisons
 pub mod FracWords
+pub mod Room
 pub mod FracFields
 pub mod EndWords
 pub mod Fives

@@ -1,10 +1,8 @@
 -- A column breaks one limit, and then it does not keep them.
-use Rattle.std.proofs.Common.{rules, ◌≡◌, ◌≢◌, ◌⊎◌, inl, inr, refl, Bool, true, false, Option, Some, None}
-use Rattle.fractions.specs.Number.{Number, zero_ℚ}
-use Rattle.fractions.specs.Ends.{AtLeast, AtMost, Between}
-use Rattle.lp_model.specs.Gaps.{Gap, OffGap, Clears, gap_of, reach_lower, reach_upper}
+use Rattle.std.proofs.Common.{rules, ◌≡◌, inl, inr, refl, Bool, true, false, Option, Some, None}
+use Rattle.fractions.specs.Number.{Number}
+use Rattle.lp_model.specs.Gaps.{Gap, Clears, gap_of}
 use Rattle.lp_check.specs.declared.verdicts.Limit.{Limit}
-use Rattle.lp_check.specs.declared.verdicts.Limit.TheVariants.{Below, Above, NotWhole}
 use Rattle.lp_check.specs.Limits.{Keeps, Breaks, BreaksColumn}
 
 pub one_limit : (l u : Option Number) (w : Bool) (v : Number) (a b : Limit) → Breaks l u w v a → Breaks l u w v b → a ≡ b

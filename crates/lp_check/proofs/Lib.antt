@@ -1,7 +1,11 @@
+pub mod NumberReads
 pub mod Counting
 pub mod RowSums
 pub mod RowReads
 pub mod DualReads
+pub mod Matches
+pub mod InFrac
+pub mod AnyWidth
 pub mod Pairs
 pub mod OnePairVerdict
 pub mod Breaking

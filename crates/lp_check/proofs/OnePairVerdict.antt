@@ -2,7 +2,8 @@
 use Rattle.std.proofs.Common.{rules, ◌≡◌, ◌⊎◌, inl, inr, ℕ, ◌<◌, ◌≤◌, Option, sym, ap, ◌∙◌, subst, arith}
 use Rattle.std.proofs.lemmas.Bool.{cases_lt}
 use Rattle.fractions.specs.Number.{Number}
-use Rattle.fractions.specs.Order.{◌<ℚ◌, <ℚ-not, <ℚ-≤ℚ}
+use Rattle.fractions.specs.Room.{Room}
+use Rattle.fractions.specs.Order.{<ℚ-not, <ℚ-≤ℚ}
 use Rattle.lp_model.specs.declared.program.Sense.{Sense}
 use Rattle.lp_model.specs.declared.program.Sense.TheVariants.{Min, Max}
 use Rattle.lp_model.specs.LinearProgram.{LinearProgram, value_at}
@@ -17,9 +18,9 @@ use Rattle.lp_check.specs.declared.pair_verdicts.PairVerdict.TheVariants.{OnPoin
 use Rattle.lp_check.specs.declared.verdicts.Item.TheVariants.{Column, Row, Cost}
 use Rattle.lp_check.specs.declared.verdicts.Verdict.{Verdict}
 use Rattle.lp_check.specs.declared.verdicts.Verdict.TheVariants.{Yes, No, Past}
-use Rattle.lp_check.specs.Deciding.{Decides, EarlierPass}
-use Rattle.lp_prices.specs.Prices.{ReducedCostFits}
-use Rattle.lp_check.specs.DecidingPairs.{DecidesPair, IsMisplaced, IsOnCost}
+use Rattle.lp_check.specs.Deciding.{DecidesIn, EarlierPassIn}
+use Rattle.lp_prices.specs.Prices.{ReducedCostFitsIn}
+use Rattle.lp_check.specs.DecidingPairs.{DecidesPairIn, IsMisplaced, IsOnCost}
 use Rattle.lp_check.specs.Placing.{AsksLower, AsksUpper, IsAway}
 
 -- ---- the end at which a value is not
@@ -39,7 +40,7 @@ not_there Min l u v m (Upper e) x t = x.2 (t.1 x.0)
 not_there Max l u v m (Lower e) x t = x.2 (t.0 x.0)
 not_there Max l u v m (Upper e) x t = x.2 (t.1 x.0)
 
-misplaced_same : (s : Sense) (m v : Number) (l u : Option Number) (f g : Misplaced) → IsMisplaced s m v l u f → IsMisplaced s m v l u g → f ≡ g
+misplaced_same : (s : Sense) (m v : Number) (l u : Option Number) (f g : Misplaced Number) → IsMisplaced s m v l u f → IsMisplaced s m v l u g → f ≡ g
 misplaced_same s m v l u f g x y =
     let e1 = x.0 ∙ sym y.0 in
     let e2 = x.1 ∙ sym y.1 in
@@ -47,17 +48,20 @@ misplaced_same s m v l u f g x y =
     λ t. record { multiplier = e1 t; value = e2 t; end = e3 t }
 
 -- where all columns and rows pass, a verdict on the point is one on the cost
-on_cost : (M : LinearProgram) (x : Vector) (v : Verdict) → EarlierPass M x Cost → Decides M x v → IsOnCost v
-on_cost M x (Yes c) a d = tt
-on_cost M x (No (Column j) w limit) a d = search rules
-on_cost M x (No (Row i) w limit) a d = search rules
-on_cost M x (No Cost w limit) a d = d.1
-on_cost M x (Past (Column j)) a d = d.1
-on_cost M x (Past (Row i)) a d = d.1.1 (a.1 i d.1.0).0
-on_cost M x (Past Cost) a d = tt
+on_cost : (r : Room) (M : LinearProgram) (x : Vector) (v : Verdict Number) → EarlierPassIn r M x Cost → DecidesIn r M x v → IsOnCost v
+on_cost r M x (Yes c) a d = tt
+on_cost r M x (No (Column j) w limit) a d = search rules
+on_cost r M x (No (Row i) w limit) a d = search rules
+on_cost r M x (No Cost w limit) a d = d.1
+on_cost r M x (Past (Column j)) a d = d.1
+on_cost r M x (Past (Row i)) a d = d.1.1 (a.1 i d.1.0).0
+on_cost r M x (Past Cost) a d = tt
 
-abbrev pub OnePoint : Type 0
-OnePoint = (M : LinearProgram) (x : Vector) (one other : Verdict) → Decides M x one → Decides M x other → one ≡ other
+abbrev pub OnePoint : Room → Type 0
+OnePoint r = (M : LinearProgram) (x : Vector) (one other : Verdict Number) → DecidesIn r M x one → DecidesIn r M x other → one ≡ other
+
+abbrev past_at : ℕ → PairVerdict Number
+past_at j = PastReducedCost j
 
 -- of two ids neither is first
 by_order : (P : Type 0) (j k : ℕ) → (j < k → P) → (k < j → P) → (j ≡ k → P) → P
@@ -68,47 +72,47 @@ by_order P j k f g h = by (cases_lt j k) (cases_lt k j)
     by (inr n) (inl m) = g m
     by (inr n) (inr m) = h (omega (arith, n, m))
 
-module _ (point : OnePoint) (s : Sense) (M : LinearProgram) (x y : Vector) where
-  away_dual : (i : ℕ) (f : Misplaced) → IsMisplaced s (y i) (value_at M i x) (M.lower_side i) (M.upper_side i) f → Sits s (M.lower_side i) (M.upper_side i) (value_at M i x) (y i) → ⊥
+module _ (r : Room) (point : OnePoint r) (s : Sense) (M : LinearProgram) (x y : Vector) where
+  away_dual : (i : ℕ) (f : Misplaced Number) → IsMisplaced s (y i) (value_at M i x) (M.lower_side i) (M.upper_side i) f → Sits s (M.lower_side i) (M.upper_side i) (value_at M i x) (y i) → ⊥
   away_dual i f m t = not_there s (M.lower_side i) (M.upper_side i) (value_at M i x) (y i) f.end m.2 t
 
-  away_cost : (j : ℕ) (f : Misplaced) → IsMisplaced s (reduced_cost M y j) (x j) (M.lower_bound j) (M.upper_bound j) f → Sits s (M.lower_bound j) (M.upper_bound j) (x j) (reduced_cost M y j) → ⊥
+  away_cost : (j : ℕ) (f : Misplaced Number) → IsMisplaced s (reduced_cost M y j) (x j) (M.lower_bound j) (M.upper_bound j) f → Sits s (M.lower_bound j) (M.upper_bound j) (x j) (reduced_cost M y j) → ⊥
   away_cost j f m t = not_there s (M.lower_bound j) (M.upper_bound j) (x j) (reduced_cost M y j) f.end m.2 t
 
   -- an item that decides, and a verdict on the point
-  point_dual : (v : Verdict) (i : ℕ) (f : Misplaced) → DecidesPair s M x y (OnPoint v) → DecidesPair s M x y (Dual i f) → ⊥
-  point_dual v i f d e = away_dual i f e.3 ((d.1 (on_cost M x v e.0 d.0)).0 i e.2)
+  point_dual : (v : Verdict Number) (i : ℕ) (f : Misplaced Number) → DecidesPairIn r s M x y (OnPoint v) → DecidesPairIn r s M x y (Dual i f) → ⊥
+  point_dual v i f d e = away_dual i f e.3 ((d.1 (on_cost r M x v e.0 d.0)).0 i e.2)
 
-  point_cost : (v : Verdict) (j : ℕ) (f : Misplaced) → DecidesPair s M x y (OnPoint v) → DecidesPair s M x y (ReducedCost j f) → ⊥
-  point_cost v j f d e = away_cost j f e.5 ((d.1 (on_cost M x v e.0 d.0)).1 j e.3).1
+  point_cost : (v : Verdict Number) (j : ℕ) (f : Misplaced Number) → DecidesPairIn r s M x y (OnPoint v) → DecidesPairIn r s M x y (ReducedCost j f) → ⊥
+  point_cost v j f d e = away_cost j f e.5 ((d.1 (on_cost r M x v e.0 d.0)).1 j e.3).1
 
-  point_past : (v : Verdict) (j : ℕ) → DecidesPair s M x y (OnPoint v) → DecidesPair s M x y (PastReducedCost j) → ⊥
-  point_past v j d e = e.4 ((d.1 (on_cost M x v e.0 d.0)).1 j e.3).0
+  point_past : (v : Verdict Number) (j : ℕ) → DecidesPairIn r s M x y (OnPoint v) → DecidesPairIn r s M x y (PastReducedCost j) → ⊥
+  point_past v j d e = e.4 ((d.1 (on_cost r M x v e.0 d.0)).1 j e.3).0
 
-  dual_dual : (i k : ℕ) (f g : Misplaced) → DecidesPair s M x y (Dual i f) → DecidesPair s M x y (Dual k g) → Dual i f ≡ Dual k g
+  dual_dual : (i k : ℕ) (f g : Misplaced Number) → DecidesPairIn r s M x y (Dual i f) → DecidesPairIn r s M x y (Dual k g) → Dual i f ≡ Dual k g
   dual_dual i k f g d e = by_order (Dual i f ≡ Dual k g) i k (λ l. absurd (away_dual i f d.3 (e.1 i l))) (λ l. absurd (away_dual k g e.3 (d.1 k l)))
       (λ same. let other = misplaced_same s (y i) (value_at M i x) (M.lower_side i) (M.upper_side i) f g d.3
       (subst (λ (m : ℕ). IsMisplaced s (y m) (value_at M m x) (M.lower_side m) (M.upper_side m) g) (sym same) e.3) in λ t. Dual (same t) (other t))
 
-  dual_cost : (i j : ℕ) (f g : Misplaced) → DecidesPair s M x y (Dual i f) → DecidesPair s M x y (ReducedCost j g) → ⊥
+  dual_cost : (i j : ℕ) (f g : Misplaced Number) → DecidesPairIn r s M x y (Dual i f) → DecidesPairIn r s M x y (ReducedCost j g) → ⊥
   dual_cost i j f g d e = away_dual i f d.3 (e.1 i d.2)
 
-  dual_past : (i j : ℕ) (f : Misplaced) → DecidesPair s M x y (Dual i f) → DecidesPair s M x y (PastReducedCost j) → ⊥
+  dual_past : (i j : ℕ) (f : Misplaced Number) → DecidesPairIn r s M x y (Dual i f) → DecidesPairIn r s M x y (PastReducedCost j) → ⊥
   dual_past i j f d e = away_dual i f d.3 (e.1 i d.2)
 
-  cost_cost : (j k : ℕ) (f g : Misplaced) → DecidesPair s M x y (ReducedCost j f) → DecidesPair s M x y (ReducedCost k g) → ReducedCost j f ≡ ReducedCost k g
+  cost_cost : (j k : ℕ) (f g : Misplaced Number) → DecidesPairIn r s M x y (ReducedCost j f) → DecidesPairIn r s M x y (ReducedCost k g) → ReducedCost j f ≡ ReducedCost k g
   cost_cost j k f g d e = by_order (ReducedCost j f ≡ ReducedCost k g) j k (λ l. absurd (away_cost j f d.5 (e.2 j l).1)) (λ l. absurd (away_cost k g e.5 (d.2 k l).1))
       (λ same. let other = misplaced_same s (reduced_cost M y j) (x j) (M.lower_bound j) (M.upper_bound j) f g d.5
       (subst (λ (m : ℕ). IsMisplaced s (reduced_cost M y m) (x m) (M.lower_bound m) (M.upper_bound m) g) (sym same) e.5) in λ t. ReducedCost (same t) (other t))
 
-  cost_past : (j k : ℕ) (f : Misplaced) → DecidesPair s M x y (ReducedCost j f) → DecidesPair s M x y (PastReducedCost k) → ⊥
-  cost_past j k f d e = by_order ⊥ j k (λ l. away_cost j f d.5 (e.2 j l).1) (λ l. e.4 (d.2 k l).0) (λ same. e.4 (subst (λ (m : ℕ). ReducedCostFits M y m) same d.4))
+  cost_past : (j k : ℕ) (f : Misplaced Number) → DecidesPairIn r s M x y (ReducedCost j f) → DecidesPairIn r s M x y (PastReducedCost k) → ⊥
+  cost_past j k f d e = by_order ⊥ j k (λ l. away_cost j f d.5 (e.2 j l).1) (λ l. e.4 (d.2 k l).0) (λ same. e.4 (subst (λ (m : ℕ). ReducedCostFitsIn r M y m) same d.4))
 
-  past_past : (j k : ℕ) → DecidesPair s M x y (PastReducedCost j) → DecidesPair s M x y (PastReducedCost k) → PastReducedCost j ≡ PastReducedCost k
-  past_past j k d e = by_order (PastReducedCost j ≡ PastReducedCost k) j k (λ l. absurd (d.4 (e.2 j l).0)) (λ l. absurd (e.4 (d.2 k l).0)) (λ same. ap (λ (m : ℕ). PastReducedCost m) same)
+  past_past : (j k : ℕ) → DecidesPairIn r s M x y (PastReducedCost j) → DecidesPairIn r s M x y (PastReducedCost k) → past_at j ≡ past_at k
+  past_past j k d e = by_order (past_at j ≡ past_at k) j k (λ l. absurd (d.4 (e.2 j l).0)) (λ l. absurd (e.4 (d.2 k l).0)) (λ same. ap past_at same)
 
-  pub pair_same : (one other : PairVerdict) → DecidesPair s M x y one → DecidesPair s M x y other → one ≡ other
-  pair_same (OnPoint v) (OnPoint w) d e = ap (λ (z : Verdict). OnPoint z) (point M x v w d.0 e.0)
+  pub pair_same : (one other : PairVerdict Number) → DecidesPairIn r s M x y one → DecidesPairIn r s M x y other → one ≡ other
+  pair_same (OnPoint v) (OnPoint w) d e = ap (λ (z : Verdict Number). OnPoint z) (point M x v w d.0 e.0)
   pair_same (OnPoint v) (Dual i f) d e = absurd (point_dual v i f d e)
   pair_same (OnPoint v) (ReducedCost j f) d e = absurd (point_cost v j f d e)
   pair_same (OnPoint v) (PastReducedCost j) d e = absurd (point_past v j d e)

@@ -1,15 +1,16 @@
 -- A pair with the verdict yes meets the optimality conditions.
 use Rattle.fractions.specs.Number.{Number}
+use Rattle.fractions.specs.Room.{Room}
 use Rattle.lp_model.specs.declared.program.Sense.{Sense}
 use Rattle.lp_model.specs.Vectors.{Vector}
 use Rattle.lp_model.specs.LinearProgram.{LinearProgram}
 use Rattle.lp_model.specs.Optimality.{Continuous, Meets}
 use Rattle.lp_check.specs.declared.verdicts.Verdict.TheVariants.{Yes}
 use Rattle.lp_check.specs.declared.pair_verdicts.PairVerdict.TheVariants.{OnPoint}
-use Rattle.lp_check.specs.DecidingPairs.{DecidesPair}
+use Rattle.lp_check.specs.DecidingPairs.{DecidesPairIn}
 
-pub meets_of : (s : Sense) (M : LinearProgram) (x y : Vector) (c : Number) → Continuous M → DecidesPair s M x y (OnPoint (Yes c)) → Meets s M x y
-meets_of s M x y c continuous decides =
+pub meets_of : (m : Room) (s : Sense) (M : LinearProgram) (x y : Vector) (c : Number) → Continuous M → DecidesPairIn m s M x y (OnPoint (Yes c)) → Meets s M x y
+meets_of m s M x y c continuous decides =
     let passed = decides.1 tt in
     record {
       continuous = continuous;

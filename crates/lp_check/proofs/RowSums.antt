@@ -1,38 +1,38 @@
 -- The sums of all rows.
-use Rattle.std.proofs.Common.{◌≡◌, ℕ, ◌+◌, ◌<◌, List, ◌++◌, length, map, take, drop, get_or, refl, sym, ap, ◌∙◌, subst, arith}
-use Rattle.std.proofs.lemmas.List.{get_or-map, length-map}
+use Rattle.std.proofs.Common.{◌≡◌, ℕ, ◌+◌, ◌<◌, List, ◌++◌, length, take, drop, refl, sym, ap, ◌∙◌, subst, arith}
 use Rattle.std.proofs.Math.Seq.{take-append_seam}
+use Rattle.std.specs.Prelude.{All, Option}
 use Rattle.fractions.specs.Number.{Number}
+use Rattle.fractions.specs.Room.{Room}
+use Rattle.exact_numbers.specs.Nothing.{AddsNothing}
+use Rattle.lp_prices.specs.Prices.{IsSumIn}
 use Rattle.fractions.specs.Total.{total}
 use Rattle.lp_model.specs.Vectors.{Vector}
 use Rattle.lp_model.specs.Sparse.{dense}
 use Rattle.lp_model.specs.ProgramData.{ProgramData}
-use Rattle.lp_model.specs.Meaning.{meaning, column_at, no_row}
+use Rattle.lp_model.specs.Meaning.{meaning, column_at}
 use Rattle.lp_model.specs.declared.program.RowDef.{RowDef}
 use Rattle.lp_model.specs.declared.terms.Term.{Term}
 use Rattle.lp_check.specs.declared.sums.RowSum.{RowSum}
-use Rattle.lp_check.specs.Summing.{IsRowSum, AreRowSums, no_sum, sum_of}
-use Rattle.lp_prices.proofs.Room.{zero_fits}
+use Rattle.lp_check.specs.Summing.{IsRowSumIn, AreRowSumsIn, IsNoSum, past_last, sum_of}
 
-none_counted : (a x : Vector) → IsRowSum 0 a x no_sum
+none_counted : {A : Type 0} (f : A → Number) (m : Room) (adds : AddsNothing m) (a x : Vector) (r : RowSum A) → IsNoSum f r → IsRowSumIn f m 0 a x r
 unfolding total
-none_counted a x = record { counted = omega arith; sum = (refl, tt, zero_fits) }
+none_counted f m adds a x r none = record { counted = omega (arith, none.counted); sum = subst (λ (o : Option Number). IsSumIn m 0 a x o) (sym none.sum) (refl, tt, adds.zero) }
 
 -- before the first column
-pub sums_none : (p : ProgramData) (x : Vector) (rows : List RowDef) (sums : List RowSum) → rows ≡ p.rows → sums ≡ map (λ (row : RowDef). no_sum) rows → AreRowSums (meaning p) x 0 sums
-sums_none p x rows sums er e = record {
-  long = ap length (e ∙ ap (λ rs. map (λ (row : RowDef). no_sum) rs) er) ∙ length-map p.rows (λ (row : RowDef). no_sum);
-  each = λ i l. subst (λ r. IsRowSum 0 ((meaning p).coefficient i) x r)
-      (sym (ap (λ rs. get_or rs i no_sum) (e ∙ ap (λ rs. map (λ (row : RowDef). no_sum) rs) er) ∙ get_or-map (λ (row : RowDef). no_sum) p.rows i no_row no_sum l))
-      (none_counted ((meaning p).coefficient i) x);
+pub sums_none : {A : Type 0} (f : A → Number) (m : Room) (adds : AddsNothing m) (p : ProgramData) (x : Vector) (rows : List RowDef) (sums : List (RowSum A)) → rows ≡ p.rows → length sums ≡ length rows → All (IsNoSum f) sums → AreRowSumsIn f m (meaning p) x 0 sums
+sums_none f m adds p x rows sums er long each = record {
+  long = long ∙ ap length er;
+  each = λ i l. none_counted f m adds ((meaning p).coefficient i) x (sum_of sums i) (each i past_last (subst (λ n. i < n) (sym (long ∙ ap length er)) l));
 }
 
 -- one more column, written back into the vector
-pub sums_more : (p : ProgramData) (x : Vector) (j len : ℕ) (items slice new : List RowSum) (ts : List Term) (w : Number)
+pub sums_more : {A : Type 0} (f : A → Number) (m : Room) (p : ProgramData) (x : Vector) (j len : ℕ) (items slice new : List (RowSum A)) (ts : List Term) (w : Number)
     → slice ≡ items → length slice ≡ len → length new ≡ length slice → ts ≡ (column_at p j).entries → w ≡ x j
-    → ((i : ℕ) (a y : Vector) → i < length slice → a j ≡ dense ts i → y j ≡ w → IsRowSum j a y (sum_of slice i) → IsRowSum (j + 1) a y (sum_of new i))
-    → AreRowSums (meaning p) x j items → AreRowSums (meaning p) x (j + 1) (take len (new ++ drop (length new) items))
-sums_more p x j len items slice new ts w es el en et ew counted h =
+    → ((i : ℕ) (a y : Vector) → i < length slice → a j ≡ dense ts i → y j ≡ w → IsRowSumIn f m j a y (sum_of slice i) → IsRowSumIn f m (j + 1) a y (sum_of new i))
+    → AreRowSumsIn f m (meaning p) x j items → AreRowSumsIn f m (meaning p) x (j + 1) (take len (new ++ drop (length new) items))
+sums_more f m p x j len items slice new ts w es el en et ew counted h =
     let back : take len (new ++ drop (length new) items) ≡ new = ap (λ n. take n (new ++ drop (length new) items)) (sym el ∙ sym en) ∙ take-append_seam new (drop (length new) items) in
     let long : length slice ≡ length p.rows = ap length es ∙ h.long in
     rw back (record {

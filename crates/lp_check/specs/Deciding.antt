@@ -1,9 +1,10 @@
 -- Which item of a program decides on a point.
 use Rattle.std.specs.Prelude.{◌≡◌, ℕ, ◌<◌, false}
 use Rattle.fractions.specs.Number.{Number}
+use Rattle.fractions.specs.Room.{Room, in_frac}
 use Rattle.lp_model.specs.Vectors.{Vector}
 use Rattle.lp_model.specs.LinearProgram.{LinearProgram, value_at, cost_at}
-use Rattle.lp_model.specs.Room.{ValueFits, CostFits}
+use Rattle.lp_model.specs.Room.{ValueFitsIn, CostFitsIn}
 use Rattle.lp_check.specs.declared.verdicts.Item.{Item}
 use Rattle.lp_check.specs.declared.verdicts.Item.TheVariants.{Column, Row, Cost}
 use Rattle.lp_check.specs.declared.verdicts.Limit.{Limit}
@@ -12,39 +13,43 @@ use Rattle.lp_check.specs.declared.verdicts.Verdict.TheVariants.{Yes, No, Past}
 use Rattle.lp_check.specs.Limits.{Keeps, Breaks, BreaksColumn}
 use Rattle.lp_model.specs.Gaps.{Clears}
 
--- the item keeps its limits, and its sum, if it is one, has room
-abbrev pub Passes : LinearProgram → Vector → Item → Type 0
-Passes M x (Column j) = Keeps (M.lower_bound j) (M.upper_bound j) (M.whole j) (x j) × Clears (M.gap j) (x j)
-Passes M x (Row i) = ValueFits M i x × Keeps (M.lower_side i) (M.upper_side i) false (value_at M i x)
-Passes M x Cost = CostFits M x
+-- the item keeps its limits, and its sum, if it is one, has room in a kind of numbers
+abbrev pub PassesIn : Room → LinearProgram → Vector → Item → Type 0
+PassesIn m M x (Column j) = Keeps (M.lower_bound j) (M.upper_bound j) (M.whole j) (x j) × Clears (M.gap j) (x j)
+PassesIn m M x (Row i) = ValueFitsIn m M i x × Keeps (M.lower_side i) (M.upper_side i) false (value_at M i x)
+PassesIn m M x Cost = CostFitsIn m M x
 
 -- v is the item's value, and this is the limit that it breaks
-abbrev pub Fails : LinearProgram → Vector → Item → Number → Limit → Type 0
-Fails M x (Column j) v limit = (j < M.columns) × (v ≡ x j) × BreaksColumn (M.gap j) (M.lower_bound j) (M.upper_bound j) (M.whole j) v limit
-Fails M x (Row i) v limit = (i < M.rows) × ValueFits M i x × (v ≡ value_at M i x) × Breaks (M.lower_side i) (M.upper_side i) false v limit
-Fails M x Cost v limit = ⊥
+abbrev pub FailsIn : Room → LinearProgram → Vector → Item → Number → Limit → Type 0
+FailsIn m M x (Column j) v limit = (j < M.columns) × (v ≡ x j) × BreaksColumn (M.gap j) (M.lower_bound j) (M.upper_bound j) (M.whole j) v limit
+FailsIn m M x (Row i) v limit = (i < M.rows) × ValueFitsIn m M i x × (v ≡ value_at M i x) × Breaks (M.lower_side i) (M.upper_side i) false v limit
+FailsIn m M x Cost v limit = ⊥
 
 -- the item's sum has no room
-abbrev pub HasNoRoom : LinearProgram → Vector → Item → Type 0
-HasNoRoom M x (Column j) = ⊥
-HasNoRoom M x (Row i) = (i < M.rows) × (ValueFits M i x → ⊥)
-HasNoRoom M x Cost = CostFits M x → ⊥
+abbrev pub HasNoRoomIn : Room → LinearProgram → Vector → Item → Type 0
+HasNoRoomIn m M x (Column j) = ⊥
+HasNoRoomIn m M x (Row i) = (i < M.rows) × (ValueFitsIn m M i x → ⊥)
+HasNoRoomIn m M x Cost = CostFitsIn m M x → ⊥
 
 -- the first n columns pass, and the first n rows
-abbrev pub ColumnsPass : LinearProgram → Vector → ℕ → Type 0
-ColumnsPass M x n = (j : ℕ) → j < n → Passes M x (Column j)
+abbrev pub ColumnsPassIn : Room → LinearProgram → Vector → ℕ → Type 0
+ColumnsPassIn m M x n = (j : ℕ) → j < n → PassesIn m M x (Column j)
 
-abbrev pub RowsPass : LinearProgram → Vector → ℕ → Type 0
-RowsPass M x n = (i : ℕ) → i < n → Passes M x (Row i)
+abbrev pub RowsPassIn : Room → LinearProgram → Vector → ℕ → Type 0
+RowsPassIn m M x n = (i : ℕ) → i < n → PassesIn m M x (Row i)
 
 -- each item before this one passes: first come the columns by id, then the rows by id, then the cost
-abbrev pub EarlierPass : LinearProgram → Vector → Item → Type 0
-EarlierPass M x (Column j) = ColumnsPass M x j
-EarlierPass M x (Row i) = ColumnsPass M x M.columns × RowsPass M x i
-EarlierPass M x Cost = ColumnsPass M x M.columns × RowsPass M x M.rows
+abbrev pub EarlierPassIn : Room → LinearProgram → Vector → Item → Type 0
+EarlierPassIn m M x (Column j) = ColumnsPassIn m M x j
+EarlierPassIn m M x (Row i) = ColumnsPassIn m M x M.columns × RowsPassIn m M x i
+EarlierPassIn m M x Cost = ColumnsPassIn m M x M.columns × RowsPassIn m M x M.rows
 
--- Decides: the verdict is that of the first item that does not pass, and yes with the cost where each item passes
-abbrev pub Decides : LinearProgram → Vector → Verdict → Type 0
-Decides M x (Yes c) = EarlierPass M x Cost × Passes M x Cost × (c ≡ cost_at M x)
-Decides M x (No item v limit) = EarlierPass M x item × Fails M x item v limit
-Decides M x (Past item) = EarlierPass M x item × HasNoRoom M x item
+-- DecidesIn: the verdict is that of the first item that does not pass, and yes with the cost where each item passes
+abbrev pub DecidesIn : Room → LinearProgram → Vector → Verdict Number → Type 0
+DecidesIn m M x (Yes c) = EarlierPassIn m M x Cost × PassesIn m M x Cost × (c ≡ cost_at M x)
+DecidesIn m M x (No item v limit) = EarlierPassIn m M x item × FailsIn m M x item v limit
+DecidesIn m M x (Past item) = EarlierPassIn m M x item × HasNoRoomIn m M x item
+
+-- the same in a `Frac`
+abbrev pub Decides : LinearProgram → Vector → Verdict Number → Type 0
+Decides M x verdict = DecidesIn in_frac M x verdict

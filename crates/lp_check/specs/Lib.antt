@@ -1,4 +1,5 @@
 pub mod Limits
+pub mod Numbered
 pub mod Deciding
 pub mod Summing
 pub mod Placing

@@ -1,30 +1,36 @@
--- Sums of the rows' products as they are made, column after column.
-use Rattle.std.specs.Prelude.{◌≡◌, ℕ, ◌+◌, ◌<◌, ◌≤◌, List, Some, length, slice_index_or}
+-- Sums of the rows' products as they are made, column after column, in a kind of numbers.
+use Rattle.std.specs.Prelude.{◌≡◌, ℕ, ◌+◌, ◌<◌, ◌≤◌, List, Some, None, length, option_map, slice_index_or}
 use Rattle.fractions.specs.Number.{Number, zero_ℚ}
+use Rattle.fractions.specs.Room.{Room}
 use Rattle.lp_model.specs.Vectors.{Vector}
 use Rattle.lp_model.specs.LinearProgram.{LinearProgram}
-use Rattle.lp_prices.specs.Prices.{IsSum}
+use Rattle.lp_prices.specs.Prices.{IsSumIn}
 use Rattle.lp_check.specs.declared.sums.RowSum.{RowSum}
 
 -- the sum of a row over the first n columns; none past those is counted
-pub record IsRowSum (n : ℕ) (a x : Vector) (r : RowSum) : Type 0 where
+pub record IsRowSumIn {A : Type 0} (number : A → Number) (m : Room) (n : ℕ) (a x : Vector) (r : RowSum A) : Type 0 where
   pub counted : r.counted ≤ n
-  pub sum : IsSum n a x r.sum
+  pub sum : IsSumIn m n a x (option_map number r.sum)
 
 -- a row's sum before and after the product f * w of column j: it is counted, unless one of that column was
-pub record Counts (j : ℕ) (f w : Number) (old new : RowSum) : Type 0 where
+pub record CountsIn {A : Type 0} (number : A → Number) (m : Room) (j : ℕ) (f w : Number) (old new : RowSum A) : Type 0 where
   pub again : j < old.counted → new ≡ old
   pub counted : old.counted ≤ j → new.counted ≡ j + 1
-  pub sum : (a x : Vector) → old.counted ≤ j → f ≡ a j → w ≡ x j → IsSum j a x old.sum → IsSum (j + 1) a x new.sum
+  pub sum : (a x : Vector) → old.counted ≤ j → f ≡ a j → w ≡ x j → IsSumIn m j a x (option_map number old.sum) → IsSumIn m (j + 1) a x (option_map number new.sum)
+
+-- the sum of no products
+pub record IsNoSum {A : Type 0} (number : A → Number) (r : RowSum A) : Type 0 where
+  pub counted : r.counted ≡ 0
+  pub sum : option_map number r.sum ≡ Some zero_ℚ
 
 -- stands for a sum past the last
-abbrev pub no_sum : RowSum
-no_sum = record { counted = 0; sum = Some zero_ℚ }
+abbrev pub past_last : {A : Type 0} → RowSum A
+past_last = record { sum = None; counted = 0 }
 
-abbrev pub sum_of : List RowSum → ℕ → RowSum
-sum_of sums i = slice_index_or sums i no_sum
+abbrev pub sum_of : {A : Type 0} → List (RowSum A) → ℕ → RowSum A
+sum_of sums i = slice_index_or sums i past_last
 
 -- a sum of each row over the first n columns
-pub record AreRowSums (M : LinearProgram) (x : Vector) (n : ℕ) (sums : List RowSum) : Type 0 where
+pub record AreRowSumsIn {A : Type 0} (number : A → Number) (m : Room) (M : LinearProgram) (x : Vector) (n : ℕ) (sums : List (RowSum A)) : Type 0 where
   pub long : length sums ≡ M.rows
-  pub each : (i : ℕ) → i < M.rows → IsRowSum n (M.coefficient i) x (sum_of sums i)
+  pub each : (i : ℕ) → i < M.rows → IsRowSumIn number m n (M.coefficient i) x (sum_of sums i)

@@ -1,49 +1,59 @@
 //! The columns of a program at a point.
 
-ghost use Rattle.std.specs.Prelude.{◌≡◌, ◌<◌, ◌≤◌, ◌^◌, length, IfSome, MatchOption};
+ghost use Rattle.std.specs.Prelude.{◌≡◌, ◌<◌, ◌≤◌, ◌^◌, length, map, IfOk, IfSome, MatchOption};
 ghost use Rattle.lp_model.specs.Vectors.{vector_of};
 ghost use Rattle.lp_model.specs.Meaning.{meaning};
 ghost use Rattle.lp_model.specs.Optimality.{Continuous};
-ghost use Rattle.lp_check.specs.Deciding.{ColumnsPass, Decides};
+ghost use Rattle.lp_check.specs.Deciding.{ColumnsPassIn, DecidesIn};
 ghost use Rattle.lp_check.specs.DecidingPairs.{IsOnCost};
 ghost use Rattle.lp_check.specs.FirstNotContinuous.{IsFirstNotContinuous};
 ghost use Rattle.lp_check.specs.Limits.{KeepsData, BreaksData};
+ghost use Rattle.lp_check.specs.Numbered.{numbered};
 
+use crate::copies::copy_of;
 use crate::limits::broken_limit;
 use crate::verdicts::{Item, Limit, Verdict};
+use exact_numbers::Exact;
 use fractions::frac::Frac;
-use lp_model::{ColumnDef, Point, Program};
+use lp_model::{ColumnDef, Program};
+use std::alloc::{AllocError, Global};
 
 /// The first limit of a column that a value breaks. A semi-continuous column may be 0.
-fn limit_broken_by(column: &ColumnDef, value: &Frac) -> Option<Limit>
-    ensures { MatchOption result (KeepsData column.now value.now) (λ limit. BreaksData column.now value.now limit) }
+fn limit_broken_by<T: Exact>(column: &ColumnDef, value: &T) -> Option<Limit>
+    ensures { MatchOption result (KeepsData column.now (T.number value.now)) (λ limit. BreaksData column.now (T.number value.now) limit) }
 {
-    if column.semi && value.is_zero() {
+    if column.semi && value.is_fraction(&Frac::zero()) {
         return None;
     }
     broken_limit(&column.lower, &column.upper, column.whole, value)
 }
 
 /// No, by the first column whose value breaks a limit.
-pub fn failing_column(program: &Program, point: &Point) -> Option<Verdict>
+///
+/// # Errors
+/// [`AllocError`] where there is no memory for the value.
+pub fn failing_column<T: Exact>(
+    alloc: Global,
+    program: &Program,
+    point: &[T],
+) -> Result<Option<Verdict<T>>, AllocError>
     requires long { length point.now ≡ length program.now.columns }
     requires few { length program.now.columns < 2 ^ 32 }
-    ensures decides { MatchOption result (ColumnsPass (meaning program.now) (vector_of point.now) (length program.now.columns)) (λ verdict. Decides (meaning program.now) (vector_of point.now) verdict) }
-    ensures early { IfSome result (λ verdict. ¬ (IsOnCost verdict)) }
+    ensures decides { IfOk result (λ found. MatchOption found (ColumnsPassIn T.room (meaning program.now) (vector_of (map T.number point.now)) (length program.now.columns))
+        (λ verdict. DecidesIn T.room (meaning program.now) (vector_of (map T.number point.now)) (numbered T.number verdict))) }
+    ensures early { IfOk result (λ found. IfSome found (λ verdict. ¬ (IsOnCost (numbered T.number verdict)))) }
 {
     let columns = program.columns();
-    let numbers = point.as_slice();
     for j in 0..columns.len() {
-        let column = &columns[j];
-        if let Some(limit) = limit_broken_by(column, &numbers[j]) {
-            return Some(Verdict::No {
+        if let Some(limit) = limit_broken_by(&columns[j], &point[j]) {
+            return Ok(Some(Verdict::No {
                 item: Item::Column(j as u32),
-                value: numbers[j],
+                value: copy_of(alloc, &point[j])?,
                 limit,
-            });
+            }));
         }
     }
-    None
+    Ok(None)
 }
 
 /// The first column, by id, that has to be whole or is semi-continuous.

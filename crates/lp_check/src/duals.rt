@@ -1,54 +1,79 @@
 //! The rows' duals.
 
-ghost use Rattle.std.specs.Prelude.{◌≡◌, ℕ, ◌<◌, ◌≤◌, ◌^◌, length, MatchOption};
+ghost use Rattle.std.specs.Prelude.{◌≡◌, ℕ, ◌<◌, ◌≤◌, ◌^◌, length, map, option_map, IfOk, MatchOption};
 ghost use Rattle.fractions.specs.Number.{Number};
 ghost use Rattle.lp_model.specs.Vectors.{Vector, vector_of};
 ghost use Rattle.lp_model.specs.Meaning.{meaning};
 ghost use Rattle.lp_model.specs.LinearProgram.{LinearProgram};
 ghost use Rattle.lp_check.specs.declared.verdicts.Item.TheVariants.{Cost};
-ghost use Rattle.lp_check.specs.Deciding.{EarlierPass};
-ghost use Rattle.lp_check.specs.DecidingPairs.{DualPasses, DualsPass, DecidesPair};
-ghost use Rattle.lp_prices.specs.Prices.{IsSum};
-ghost use Rattle.lp_check.specs.Summing.{AreRowSums};
+ghost use Rattle.lp_check.specs.Deciding.{EarlierPassIn};
+ghost use Rattle.lp_check.specs.DecidingPairs.{DualPasses, DualsPass, DecidesPairIn};
+ghost use Rattle.lp_check.specs.Numbered.{numbered_pair};
+ghost use Rattle.lp_prices.specs.Prices.{IsSumIn};
+ghost use Rattle.lp_check.specs.Summing.{AreRowSumsIn};
 
 use crate::pair_verdicts::PairVerdict;
 use crate::placing::misplaced;
 use crate::sums::RowSum;
-use fractions::frac::Frac;
-use lp_model::{Duals, Program, RowDef, Sense};
+use exact_numbers::Exact;
+use lp_model::{Program, RowDef, Sense};
+use std::alloc::{AllocError, Global};
 
 /// No, where the dual of a row with this sum does not pass.
-fn dual_verdict(
+///
+/// # Errors
+/// [`AllocError`] where there is no memory for the numbers of the verdict.
+fn dual_verdict<T: Exact>(
+    alloc: Global,
     sense: Sense,
     row: &RowDef,
     id: u32,
-    dual: &Frac,
-    sum: &Option<Frac>,
-) -> Option<PairVerdict>
-    ensures { (M : LinearProgram) (x y : Vector) → id < M.rows → row.now.lower ≡ M.lower_side id → row.now.upper ≡ M.upper_side id → dual.now ≡ y id → IsSum M.columns (M.coefficient id) x sum.now
-        → EarlierPass M x Cost → DualsPass sense M x y id → MatchOption result (DualPasses sense M x y id) (λ verdict. DecidesPair sense M x y verdict) }
+    dual: &T,
+    sum: &Option<T>,
+) -> Result<Option<PairVerdict<T>>, AllocError>
+    ensures { IfOk result (λ found. (M : LinearProgram) (x y : Vector) → id < M.rows → row.now.lower ≡ M.lower_side id → row.now.upper ≡ M.upper_side id → T.number dual.now ≡ y id
+        → IsSumIn T.room M.columns (M.coefficient id) x (option_map T.number sum.now) → EarlierPassIn T.room M x Cost → DualsPass sense M x y id
+        → MatchOption found (DualPasses sense M x y id) (λ verdict. DecidesPairIn T.room sense M x y (numbered_pair T.number verdict))) }
 {
-    let value = sum.as_ref()?;
-    let found = misplaced(sense, dual, value, &row.lower, &row.upper)?;
-    Some(PairVerdict::Dual { row: id, found })
+    let Some(value) = sum else {
+        return Ok(None);
+    };
+    match misplaced(alloc, sense, dual, value, &row.lower, &row.upper)? {
+        Some(found) => Ok(Some(PairVerdict::Dual { row: id, found })),
+        None => Ok(None),
+    }
 }
 
 /// No, by the first row whose dual does not pass.
-pub fn failing_dual(program: &Program, duals: &Duals, sums: &[RowSum]) -> Option<PairVerdict>
+///
+/// # Errors
+/// [`AllocError`] where there is no memory for the numbers of the verdict.
+pub fn failing_dual<T: Exact>(
+    alloc: Global,
+    program: &Program,
+    duals: &[T],
+    sums: &[RowSum<T>],
+) -> Result<Option<PairVerdict<T>>, AllocError>
     requires long { length sums.now ≡ length program.now.rows }
     requires each { length duals.now ≡ length program.now.rows }
     requires few { length program.now.rows < 2 ^ 32 }
-    ensures { (x : Vector) → AreRowSums (meaning program.now) x (length program.now.columns) sums.now → EarlierPass (meaning program.now) x Cost
-        → MatchOption result (DualsPass program.now.sense (meaning program.now) x (vector_of duals.now) (length program.now.rows))
-        (λ verdict. DecidesPair program.now.sense (meaning program.now) x (vector_of duals.now) verdict) }
+    ensures { IfOk result (λ found. (x : Vector) → AreRowSumsIn T.number T.room (meaning program.now) x (length program.now.columns) sums.now → EarlierPassIn T.room (meaning program.now) x Cost
+        → MatchOption found (DualsPass program.now.sense (meaning program.now) x (vector_of (map T.number duals.now)) (length program.now.rows))
+        (λ verdict. DecidesPairIn T.room program.now.sense (meaning program.now) x (vector_of (map T.number duals.now)) (numbered_pair T.number verdict))) }
 {
     let rows = program.rows();
-    let numbers = duals.as_slice();
     let sense = program.sense();
     for i in 0..rows.len() {
-        if let Some(verdict) = dual_verdict(sense, &rows[i], i as u32, &numbers[i], &sums[i].sum) {
-            return Some(verdict);
+        if let Some(verdict) = dual_verdict(
+            alloc,
+            sense,
+            &rows[i],
+            i as u32,
+            &duals[i],
+            &sums[i].sum,
+        )? {
+            return Ok(Some(verdict));
         }
     }
-    None
+    Ok(None)
 }

@@ -4,7 +4,10 @@
 //! `specs/` says which item decides. [`laws`] states what a verdict says of the point and the duals.
 #![tactic(auto)]
 
+mod checking;
 mod columns;
+mod copies;
+mod costs;
 mod duals;
 mod judging;
 pub mod laws;
@@ -16,7 +19,8 @@ mod rows;
 mod sums;
 mod verdicts;
 
+pub use checking::{check_pair, check_point};
 pub use columns::first_not_continuous;
-pub use judging::{check_pair, check_point};
+pub use judging::{judge_pair, judge_point};
 pub use pair_verdicts::{End, Misplaced, PairVerdict};
 pub use verdicts::{Item, Limit, Verdict};

@@ -2,7 +2,6 @@
 
 use crate::verdicts::Verdict;
 use fractions::ext::Ext;
-use fractions::frac::Frac;
 
 /// The end of a range that the sign of a multiplier asks for. It may be infinite.
 #[derive(Clone, Copy, Debug)]
@@ -14,25 +13,25 @@ pub enum End {
 }
 
 /// A multiplier whose sign asks for an end at which the value is not.
-#[derive(Clone, Copy, Debug)]
-pub struct Misplaced {
+#[derive(Clone, Copy, Debug, Drop)]
+pub struct Misplaced<T> {
     /// The dual or the reduced cost, in the file's sense.
-    pub multiplier: Frac,
+    pub multiplier: T,
     /// The value of the row or the column.
-    pub value: Frac,
+    pub value: T,
     pub end: End,
 }
 
-/// What is said of a point with duals.
-#[derive(Clone, Copy, Debug)]
-pub enum PairVerdict {
+/// What is said of a point with duals, by numbers of a kind.
+#[derive(Clone, Copy, Debug, Drop)]
+pub enum PairVerdict<T> {
     /// What is said of the point. Where this is yes, the pair meets the optimality conditions: no feasible point has a better cost.
     /// Where it is of the cost, each dual and each reduced cost passes.
-    OnPoint(Verdict),
+    OnPoint(Verdict<T>),
     /// The dual of this row. No item before it decides.
-    Dual { row: u32, found: Misplaced },
+    Dual { row: u32, found: Misplaced<T> },
     /// The reduced cost of this column. No item before it decides.
-    ReducedCost { column: u32, found: Misplaced },
-    /// The reduced cost of this column has no room in a [`Frac`]. No item before it decides.
+    ReducedCost { column: u32, found: Misplaced<T> },
+    /// The reduced cost of this column has no room in the kind of numbers. No item before it decides.
     PastReducedCost { column: u32 },
 }

@@ -1,6 +1,6 @@
 //! The columns' reduced costs.
 
-ghost use Rattle.std.specs.Prelude.{◌≡◌, ◌<◌, ◌^◌, length, MatchOption, None};
+ghost use Rattle.std.specs.Prelude.{◌≡◌, ◌<◌, ◌^◌, length, map, IfOk, MatchOption, None};
 ghost use Rattle.lp_model.specs.Vectors.{vector_of};
 ghost use Rattle.lp_model.specs.Writable.{EntriesAscend};
 ghost use Rattle.lp_model.specs.Gaps.{gap_of, reach_lower, reach_upper};
@@ -8,74 +8,107 @@ ghost use Rattle.lp_model.specs.Meaning.{meaning};
 ghost use Rattle.lp_model.specs.Optimality.{Continuous};
 ghost use Rattle.lp_model.specs.Senses.{Sits};
 ghost use Rattle.lp_check.specs.declared.verdicts.Item.TheVariants.{Cost};
-ghost use Rattle.lp_check.specs.Deciding.{EarlierPass};
-ghost use Rattle.lp_check.specs.DecidingPairs.{IsMisplaced, DualsPass, ReducedCostPasses, ReducedCostsPass, DecidesPair};
+ghost use Rattle.lp_check.specs.Deciding.{EarlierPassIn};
+ghost use Rattle.lp_check.specs.DecidingPairs.{IsMisplaced, DualsPass, ReducedCostPassesIn, ReducedCostsPassIn, DecidesPairIn};
+ghost use Rattle.lp_check.specs.Numbered.{numbered_found, numbered_pair};
 
 use crate::pair_verdicts::{Misplaced, PairVerdict};
 use crate::placing::misplaced;
-use fractions::frac::Frac;
-use lp_model::{ColumnDef, Duals, Point, Program, Sense};
+use exact_numbers::Exact;
+use lp_model::{ColumnDef, Program, Sense};
 use lp_prices::reduced_cost;
+use std::alloc::{AllocError, Global};
 
 /// What is said of the reduced cost of a column that is not semi-continuous.
+///
+/// # Errors
+/// [`AllocError`] where there is no memory for the numbers.
 #[tactic(auto, using(crate::proofs::Breaking::no_gap))]
-fn misplaced_cost(
+fn misplaced_cost<T: Exact>(
+    alloc: Global,
     sense: Sense,
-    multiplier: &Frac,
-    value: &Frac,
+    multiplier: &T,
+    value: &T,
     column: &ColumnDef,
-) -> Option<Misplaced>
+) -> Result<Option<Misplaced<T>>, AllocError>
     requires { gap_of column.now.semi column.now.lower column.now.upper ≡ None }
-    ensures { MatchOption result (Sits sense (reach_lower column.now.semi column.now.lower column.now.upper) (reach_upper column.now.semi column.now.lower column.now.upper) value.now multiplier.now)
-        (λ found. IsMisplaced sense multiplier.now value.now (reach_lower column.now.semi column.now.lower column.now.upper) (reach_upper column.now.semi column.now.lower column.now.upper) found) }
+    ensures { IfOk result (λ found. MatchOption found (Sits sense (reach_lower column.now.semi column.now.lower column.now.upper) (reach_upper column.now.semi column.now.lower column.now.upper) (T.number value.now) (T.number multiplier.now))
+        (λ found. IsMisplaced sense (T.number multiplier.now) (T.number value.now) (reach_lower column.now.semi column.now.lower column.now.upper) (reach_upper column.now.semi column.now.lower column.now.upper) (numbered_found T.number found))) }
 {
-    misplaced(sense, multiplier, value, &column.lower, &column.upper)
+    misplaced(
+        alloc,
+        sense,
+        multiplier,
+        value,
+        &column.lower,
+        &column.upper,
+    )
 }
 
 /// No or past, where the reduced cost of a column does not pass.
-fn reduced_cost_verdict(
+///
+/// # Errors
+/// [`AllocError`] where there is no memory for the reduced cost or the numbers of the verdict.
+fn reduced_cost_verdict<T: Exact>(
+    alloc: Global,
     program: &Program,
-    point: &Point,
-    duals: &Duals,
+    point: &[T],
+    duals: &[T],
     column: u32,
-) -> Option<PairVerdict>
+) -> Result<Option<PairVerdict<T>>, AllocError>
     requires long { length point.now ≡ length program.now.columns }
     requires each { length duals.now ≡ length program.now.rows }
     requires ascends { EntriesAscend program.now }
     requires within { column < length program.now.columns }
     requires continuous { Continuous (meaning program.now) }
-    ensures { EarlierPass (meaning program.now) (vector_of point.now) Cost
-        → DualsPass program.now.sense (meaning program.now) (vector_of point.now) (vector_of duals.now) (length program.now.rows)
-        → ReducedCostsPass program.now.sense (meaning program.now) (vector_of point.now) (vector_of duals.now) column
-        → MatchOption result (ReducedCostPasses program.now.sense (meaning program.now) (vector_of point.now) (vector_of duals.now) column)
-        (λ verdict. DecidesPair program.now.sense (meaning program.now) (vector_of point.now) (vector_of duals.now) verdict) }
+    ensures { IfOk result (λ found. EarlierPassIn T.room (meaning program.now) (vector_of (map T.number point.now)) Cost
+        → DualsPass program.now.sense (meaning program.now) (vector_of (map T.number point.now)) (vector_of (map T.number duals.now)) (length program.now.rows)
+        → ReducedCostsPassIn T.room program.now.sense (meaning program.now) (vector_of (map T.number point.now)) (vector_of (map T.number duals.now)) column
+        → MatchOption found (ReducedCostPassesIn T.room program.now.sense (meaning program.now) (vector_of (map T.number point.now)) (vector_of (map T.number duals.now)) column)
+        (λ verdict. DecidesPairIn T.room program.now.sense (meaning program.now) (vector_of (map T.number point.now)) (vector_of (map T.number duals.now)) (numbered_pair T.number verdict))) }
 {
     let id = column as usize;
-    let Ok(multiplier) = reduced_cost(program, id, duals) else {
-        return Some(PairVerdict::PastReducedCost { column });
-    };
     let bounds = &program.columns()[id];
-    let value = &point.as_slice()[id];
-    let found = misplaced_cost(program.sense(), &multiplier, value, bounds)?;
-    Some(PairVerdict::ReducedCost { column, found })
+    match reduced_cost(alloc, program, id, duals) {
+        Ok(multiplier) => {
+            match misplaced_cost(alloc, program.sense(), &multiplier, &point[id], bounds)? {
+                Some(found) => Ok(Some(PairVerdict::ReducedCost { column, found })),
+                None => Ok(None),
+            }
+        }
+        Err(why) => {
+            if T::says_past(why) {
+                return Ok(Some(PairVerdict::PastReducedCost { column }));
+            }
+            Err(AllocError)
+        }
+    }
 }
 
 /// No or past, by the first column whose reduced cost does not pass.
-pub fn failing_reduced_cost(program: &Program, point: &Point, duals: &Duals) -> Option<PairVerdict>
+///
+/// # Errors
+/// [`AllocError`] where there is no memory for a reduced cost or the numbers of the verdict.
+pub fn failing_reduced_cost<T: Exact>(
+    alloc: Global,
+    program: &Program,
+    point: &[T],
+    duals: &[T],
+) -> Result<Option<PairVerdict<T>>, AllocError>
     requires long { length point.now ≡ length program.now.columns }
     requires each { length duals.now ≡ length program.now.rows }
     requires few { length program.now.columns < 2 ^ 32 }
     requires ascends { EntriesAscend program.now }
     requires continuous { Continuous (meaning program.now) }
-    requires point { EarlierPass (meaning program.now) (vector_of point.now) Cost }
-    requires duals { DualsPass program.now.sense (meaning program.now) (vector_of point.now) (vector_of duals.now) (length program.now.rows) }
-    ensures { MatchOption result (ReducedCostsPass program.now.sense (meaning program.now) (vector_of point.now) (vector_of duals.now) (length program.now.columns))
-        (λ verdict. DecidesPair program.now.sense (meaning program.now) (vector_of point.now) (vector_of duals.now) verdict) }
+    requires point { EarlierPassIn T.room (meaning program.now) (vector_of (map T.number point.now)) Cost }
+    requires duals { DualsPass program.now.sense (meaning program.now) (vector_of (map T.number point.now)) (vector_of (map T.number duals.now)) (length program.now.rows) }
+    ensures { IfOk result (λ found. MatchOption found (ReducedCostsPassIn T.room program.now.sense (meaning program.now) (vector_of (map T.number point.now)) (vector_of (map T.number duals.now)) (length program.now.columns))
+        (λ verdict. DecidesPairIn T.room program.now.sense (meaning program.now) (vector_of (map T.number point.now)) (vector_of (map T.number duals.now)) (numbered_pair T.number verdict))) }
 {
     for j in 0..program.columns().len() {
-        if let Some(verdict) = reduced_cost_verdict(program, point, duals, j as u32) {
-            return Some(verdict);
+        if let Some(verdict) = reduced_cost_verdict(alloc, program, point, duals, j as u32)? {
+            return Ok(Some(verdict));
         }
     }
-    None
+    Ok(None)
 }

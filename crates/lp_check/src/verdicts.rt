@@ -24,21 +24,13 @@ pub enum Limit {
     NotWhole,
 }
 
-/// What is said of a point.
-#[derive(Clone, Copy, Debug, PartialEq, Eq)]
-pub enum Verdict {
+/// What is said of a point, by numbers of a kind. The limits are the program's own.
+#[derive(Clone, Copy, Debug, PartialEq, Eq, Drop)]
+pub enum Verdict<T> {
     /// It meets the program, at this cost in the file's sense.
-    Yes {
-        cost: Frac,
-    },
+    Yes { cost: T },
     /// The value of this item breaks this limit. No item before it does.
-    No {
-        item: Item,
-        value: Frac,
-        limit: Limit,
-    },
-    /// The sum of this item has no room in a [`Frac`]. No item before it decides.
-    Past {
-        item: Item,
-    },
+    No { item: Item, value: T, limit: Limit },
+    /// The sum of this item has no room in the kind of numbers. No item before it decides.
+    Past { item: Item },
 }

@@ -1,3 +1,3 @@
-pub mod Room
+pub mod Sums
 pub mod Steps
 pub mod Pricing

@@ -1,24 +1,27 @@
 //! Sums of products.
 
-ghost use Rattle.std.specs.Prelude.{◌≡◌, ◌↔◌, IfOk, IsOk};
+ghost use Rattle.std.specs.Prelude.{◌≡◌, IfErr, IfOk, IsOk};
 ghost use Rattle.fractions.specs.Number.{◌+ℚ◌, ◌*ℚ◌};
-ghost use Rattle.fractions.specs.Lowest.{Fits};
-ghost use Rattle.fractions.specs.FracWords.{SumFits};
 
-use fractions::Past;
+use exact_numbers::Exact;
 use fractions::frac::Frac;
+use std::alloc::Global;
 
-/// A sum and a product.
+/// A sum and the product of a fraction and a number.
 ///
 /// # Errors
-/// [`Past`] exactly where the product or the sum has no room.
-pub fn plus_product(sum: &Frac, factor: &Frac, number: &Frac) -> Result<Frac, Past>
-    ensures value { IfOk result (λ r. r ≡ sum.now +ℚ factor.now *ℚ number.now) }
-    ensures kept { IfOk result (λ r. Fits r) }
-    ensures fits { IsOk result ↔ (Fits (factor.now *ℚ number.now) × SumFits sum.now (factor.now *ℚ number.now)) }
+/// Where the product or the sum has no room, or there is no memory for it.
+pub fn plus_product<T: Exact>(
+    alloc: Global,
+    sum: &T,
+    factor: &Frac,
+    number: &T,
+) -> Result<T, T::Refusal>
+    ensures value { IfOk result (λ r. T.number r ≡ T.number sum.now +ℚ factor.now *ℚ T.number number.now) }
+    ensures kept { IfOk result (λ r. T.room.number (T.number r)) }
+    ensures fits { IsOk result → T.room.number (factor.now *ℚ T.number number.now) × T.room.sum (T.number sum.now) (factor.now *ℚ T.number number.now) }
+    ensures past { IfErr result (λ why. T.is_past why → T.room.number (factor.now *ℚ T.number number.now) × T.room.sum (T.number sum.now) (factor.now *ℚ T.number number.now) → ⊥) }
 {
-    let product = factor.mul(number)?;
-    let total = sum.add(&product)?;
-    let _ = total.parts();
-    Ok(total)
+    let product = number.scaled(alloc, factor)?;
+    sum.plus(alloc, &product)
 }

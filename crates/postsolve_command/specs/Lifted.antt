@@ -3,6 +3,7 @@ use Rattle.std.specs.Prelude.{◌≡◌, ◌⊎◌, ℕ, List, [], ◌∷◌, �
 use Rattle.std.specs.Fmt.{decimal}
 use Rattle.fractions.specs.Number.{Number}
 use Rattle.fractions.specs.Lowest.{Fits}
+use Rattle.fractions.specs.Room.{in_frac}
 use Rattle.lp_model.specs.ProgramData.{ProgramData}
 use Rattle.lp_model.specs.Meaning.{meaning}
 use Rattle.lp_model.specs.Reductions.{Priced}
@@ -28,7 +29,7 @@ point_at records point = vector_of (placed records.columns point)
 
 -- the lift of a reduced point has room, and these are its numbers, one for each original column; each fits in 128 bits
 pub record IsLift (records : Postsolve) (point lifted : List Number) : Type 0 where
-  pub fits : LiftFits records.undos (point_at records point)
+  pub fits : LiftFits in_frac records.undos (point_at records point)
   pub room : All Fits lifted
   pub size : length lifted ≡ length records.columns
   pub is : vector_of lifted ≡ lift records.undos (point_at records point)
@@ -41,7 +42,7 @@ pair_lifted records program point duals = turned_for records.sense (lift_pair re
 -- each original column, and its prices, one for each original row; each fits in 128 bits
 pub record IsPairLift (records : Postsolve) (program : ProgramData) (point duals lifted prices : List Number) : Type 0 where
   pub priced : ReducedCostsFit (meaning program) (vector_of duals)
-  pub fits : LiftPairFits records.undos (started records program point duals)
+  pub fits : LiftPairFits in_frac records.undos (started records program point duals)
   pub room : All Fits lifted
   pub prices_room : All Fits prices
   pub size : length lifted ≡ length records.columns
@@ -95,16 +96,16 @@ unpriced_text program column = codes "past column " ++ (column_text program colu
 
 -- a reduced cost has no room, and the first such column is named
 abbrev pub IsUnpriced : ProgramData → List Number → List ℕ → Type 0
-IsUnpriced program duals said = (column : ℕ) × IsFirstPast (meaning program) (vector_of duals) column × (said ≡ unpriced_text program column)
+IsUnpriced program duals said = (column : ℕ) × IsFirstPast in_frac (meaning program) (vector_of duals) column × (said ≡ unpriced_text program column)
 
 -- the reduced costs have room, the lift has none, and the record at which it stops is named
 abbrev pub PairStops : Postsolve → ProgramData → List Number → List Number → List ℕ → Type 0
 PairStops records program point duals said = ReducedCostsFit (meaning program) (vector_of duals)
-    × ((at : ℕ) × PairStopsAt records.undos (started records program point duals) at × (said ≡ stop_text at))
+    × ((at : ℕ) × PairStopsAt in_frac records.undos (started records program point duals) at × (said ≡ stop_text at))
 
 -- the line of a lift that has no room
 abbrev pub Stops : Postsolve → ProgramData → List Number → Option (List Number) → List ℕ → Type 0
-Stops records program point None said = (at : ℕ) × StopsAt records.undos (point_at records point) at × (said ≡ stop_text at)
+Stops records program point None said = (at : ℕ) × StopsAt in_frac records.undos (point_at records point) at × (said ≡ stop_text at)
 Stops records program point (Some duals) said = IsUnpriced program duals said ⊎ PairStops records program point duals said
 
 -- ---- what the steps of a lift give

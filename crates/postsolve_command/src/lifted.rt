@@ -10,11 +10,12 @@ ghost use Rattle.record_reader.specs.Matching.{Matches};
 ghost use Rattle.postsolve_command.specs.Lifted.{GivesTexts, Lifts, Starts, column_names, columns_text, counts_text, row_names, rows_text, stop_text, unpriced_text};
 
 use crate::refusal::Refusal;
+use exact_numbers::Numbers;
 use fractions::frac::Frac;
 use lp_model::{Duals, Labels, Pair, Point, Program};
 use point_text::write_pair;
 use postsolve_dual::{PairBuf, lift_pair};
-use postsolve_primal::{PointBuf, lift};
+use postsolve_primal::{at_columns, lift};
 use std::alloc::{AllocError, Global};
 use undo_records::Records;
 
@@ -60,6 +61,16 @@ fn numbers_fit(numbers: &[Frac])
     }
 }
 
+/// The fractions, each of which has room.
+fn fractions_of(numbers: Numbers<Frac>) -> Vec<Frac>
+    ensures same { result.items ≡ numbers }
+    ensures fits { All Fits numbers }
+{
+    let fractions = numbers.into_fractions();
+    numbers_fit(fractions.as_slice());
+    fractions
+}
+
 /// The original point that the records make of a reduced one.
 fn lifted_point(
     alloc: Global,
@@ -69,15 +80,13 @@ fn lifted_point(
 ) -> Result<Pair, Refusal>
     ensures { Lifts records.now program.now point.now None result }
 {
-    let mut buffer = PointBuf::new(alloc, records, point)?;
-    match lift(records, &mut buffer) {
-        Ok(()) => {
-            numbers_fit(buffer.as_slice());
-            Ok(Pair {
-                point: buffer.into_point(),
-                duals: None,
-            })
-        }
+    let given: Numbers<Frac> = Numbers::of_fractions(alloc, point.as_slice())?;
+    let mut numbers = at_columns(alloc, records, given)?;
+    match lift(alloc, records, &mut numbers)? {
+        Ok(()) => Ok(Pair {
+            point: Point::new(fractions_of(numbers)),
+            duals: None,
+        }),
         Err(stop) => Err(Refusal::Stopped(stop_line(alloc, stop.at)?)),
     }
 }
@@ -89,11 +98,13 @@ fn started_pair(
     records: &Records,
     point: &Point,
     duals: &Duals,
-) -> Result<PairBuf, Refusal>
+) -> Result<PairBuf<Frac>, Refusal>
     requires each { length duals.now ≡ length program.now.rows }
     requires ascends { EntriesAscend program.now }
     ensures { Starts records.now program.now point.now duals.now result }
 {
+    let point = Numbers::of_fractions(alloc, point.as_slice())?;
+    let duals = Numbers::of_fractions(alloc, duals.as_slice())?;
     match PairBuf::new(alloc, records, program, point, duals)? {
         Ok(pair) => Ok(pair),
         Err(unpriced) => {
@@ -116,14 +127,12 @@ fn lifted_pair(
     ensures { Lifts records.now program.now point.now (Some duals.now) result }
 {
     let mut buffer = started_pair(alloc, program, records, point, duals)?;
-    match lift_pair(records, &mut buffer) {
+    match lift_pair(alloc, records, &mut buffer)? {
         Ok(()) => {
             let (point, duals) = buffer.into_parts(records.sense());
-            numbers_fit(point.as_slice());
-            numbers_fit(duals.as_slice());
             Ok(Pair {
-                point,
-                duals: Some(duals),
+                point: Point::new(fractions_of(point)),
+                duals: Some(Duals::new(fractions_of(duals))),
             })
         }
         Err(stop) => Err(Refusal::Stopped(stop_line(alloc, stop.at)?)),

@@ -4,4 +4,3 @@ pub mod Pairs
 pub mod Ratios
 pub mod Starts
 pub mod Takings
-pub mod Turns

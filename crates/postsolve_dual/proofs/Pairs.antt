@@ -4,7 +4,7 @@ use Rattle.fractions.specs.Number.{Number, neg_ℚ, ◌+ℚ◌, ◌-ℚ◌, ◌*
 use Rattle.fractions.specs.Division.{◌/ℚ◌}
 use Rattle.fractions.specs.Total.{put}
 use Rattle.lp_model.specs.declared.terms.Term.{Term}
-use Rattle.lp_model.specs.Vectors.{Vector, vector_of}
+use Rattle.lp_model.specs.Vectors.{vector_of}
 use Rattle.lp_model.specs.Sparse.{dense}
 use Rattle.lp_model.specs.Turning.{turned}
 use Rattle.lp_model.specs.declared.program.Sense.{Sense}
@@ -40,13 +40,13 @@ handed_is old mid new i j ts d r g b s er eg ed eb es mp md mz np nz ny = subst 
 })
 
 -- duals and reduced costs are negated
-pub turned_is : (s : Sense) (old : PairNumbers) (xs ds cs ys zs os ps : List Number) → s ≡ Max → ◌≡◌ {A = PairNumbers} (record { point = xs; duals = ds; reduced_costs = cs }) old → os ≡ ds → ps ≡ cs
-    → vector_of ys ≡ (λ k. neg_ℚ (vector_of os k)) → vector_of zs ≡ (λ k. neg_ℚ (vector_of ps k))
+pub turned_is : (s : Sense) (old : PairNumbers) (xs ds cs ys zs : List Number) → s ≡ Max → ◌≡◌ {A = PairNumbers} (record { point = xs; duals = ds; reduced_costs = cs }) old
+    → vector_of ys ≡ (λ k. neg_ℚ (vector_of ds k)) → vector_of zs ≡ (λ k. neg_ℚ (vector_of cs k))
     → priced_of (record { point = xs; duals = ys; reduced_costs = zs }) ≡ turned_for s (priced_of old)
-turned_is s old xs ds cs ys zs os ps es eo ed ec ey ez =
+turned_is s old xs ds cs ys zs es eo ey ez =
     subst (λ d. priced_of (record { point = xs; duals = ys; reduced_costs = zs }) ≡ turned_for d (priced_of old)) (sym es)
     (subst (λ q. priced_of (record { point = xs; duals = ys; reduced_costs = zs }) ≡ turned (priced_of q)) eo (λ w. record {
       x = vector_of xs;
-      y = (ey ∙ ap {B = Vector} (λ (vs : List Number) k. neg_ℚ (vector_of vs k)) ed) w;
-      z = (ez ∙ ap {B = Vector} (λ (vs : List Number) k. neg_ℚ (vector_of vs k)) ec) w;
+      y = ey w;
+      z = ez w;
     }))

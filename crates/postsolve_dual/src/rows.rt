@@ -1,6 +1,6 @@
 //! Undoings that give a dual to a row of inequalities.
 
-ghost use Rattle.std.specs.Prelude.{◌≡◌, ◌≢◌, ℕ, ◌<◌, length, true, IfOk, IsOk, OnOk, ◌↔◌};
+ghost use Rattle.std.specs.Prelude.{◌≡◌, ◌≢◌, ℕ, ◌<◌, length, true, IfOk, IfErr, IsOk, OnOk};
 ghost use Rattle.fractions.specs.Number.{zero_ℚ};
 ghost use Rattle.lp_model.specs.Vectors.{vector_of};
 ghost use Rattle.lp_model.specs.Sparse.{Ascends, dense, has, sparse_total};
@@ -18,40 +18,46 @@ ghost use Rattle.postsolve_dual.specs.PairRoom.{DualsFit, HandedFits, RatiosFit,
 use crate::numbers::{is_from_row, is_off_bound};
 use crate::pair::PairBuf;
 use crate::terms::furthest_ratio;
-use fractions::Past;
+use exact_numbers::{Exact, Numbers};
 use fractions::frac::Frac;
 use lp_model::{Term, number_at};
 use postsolve_primal::{Range, sum_of_terms};
+use std::alloc::Global;
 use undo_records::{BoundTightening, ParallelRows, Side, SingletonRow};
 
 /// K1, K5: a row that asks nothing has the dual 0.
-pub fn undo_empty_row(pair: &mut PairBuf, row: u32)
+pub fn undo_empty_row<T: Exact>(pair: &mut PairBuf<T>, row: u32)
     requires { row < length pair.old.duals }
     ensures sized { (m n : ℕ) → IsSized m n pair.old → IsSized m n pair.new }
     ensures lifted { priced_of pair.new ≡ empty_row_of row (priced_of pair.old) }
 {
-    pair.set_dual(row, Frac::zero());
+    pair.set_dual(row, T::zero());
 }
 
 /// K2: the row takes the reduced cost over where the column holds it at an end that the row made.
 ///
 /// # Errors
-/// [`Past`] exactly where the row takes it over, and the quotient is.
-pub fn undo_singleton_row(undo: &SingletonRow, pair: &mut PairBuf) -> Result<(), Past>
+/// Where the row takes it over, and the quotient has no room, or there is no memory for it.
+pub fn undo_singleton_row<T: Exact>(
+    alloc: Global,
+    undo: &SingletonRow,
+    pair: &mut PairBuf<T>,
+) -> Result<(), T::Refusal>
     requires sound { IsSound (length pair.old.duals) (length pair.old.point) (kind.SingletonRow undo.now) }
     requires costs { length pair.old.reduced_costs ≡ length pair.old.point }
     ensures sized { (m n : ℕ) → IsSized m n pair.old → IsSized m n pair.new }
     ensures lifted { OnOk result (priced_of pair.new ≡ duals_undone (kind.SingletonRow undo.now) (priced_of pair.old)) }
-    ensures fits { IsOk result ↔ DualsFit (kind.SingletonRow undo.now) (priced_of pair.old) }
+    ensures fits { IsOk result → DualsFit T.room (kind.SingletonRow undo.now) (priced_of pair.old) }
+    ensures past { IfErr result (λ why. T.is_past why → DualsFit T.room (kind.SingletonRow undo.now) (priced_of pair.old) → ⊥) }
 {
     let bounds = Range::between(&undo.lower.get(), &undo.upper.get());
     let multiplier = pair.reduced_cost(undo.column);
-    if is_from_row(bounds, &pair.value(undo.column), &multiplier) {
-        let dual = multiplier.div(&undo.value.get())?;
+    if is_from_row(bounds, pair.value(undo.column), multiplier) {
+        let dual = multiplier.over(alloc, &undo.value.get())?;
         pair.set_dual(undo.row, dual);
-        pair.set_reduced_cost(undo.column, Frac::zero());
+        pair.set_reduced_cost(undo.column, T::zero());
     } else {
-        pair.set_dual(undo.row, Frac::zero());
+        pair.set_dual(undo.row, T::zero());
     }
     Ok(())
 }
@@ -59,21 +65,23 @@ pub fn undo_singleton_row(undo: &SingletonRow, pair: &mut PairBuf) -> Result<(),
 /// K7: the row takes as much of the reduced costs that no column is left with one of the wrong sign.
 ///
 /// # Errors
-/// [`Past`] exactly where a quotient, a product or a difference is.
-pub fn undo_forcing_row(
-    pair: &mut PairBuf,
+/// Where a quotient, a product or a difference has no room, or there is no memory for it.
+pub fn undo_forcing_row<T: Exact>(
+    alloc: Global,
+    pair: &mut PairBuf<T>,
     row: u32,
     side: Side,
     entries: &[Term],
-) -> Result<(), Past>
+) -> Result<(), T::Refusal>
     requires row { row < length pair.old.duals }
     requires entries { Ascends 0 (length pair.old.reduced_costs) entries.now }
     ensures sized { (m n : ℕ) → IsSized m n pair.old → IsSized m n pair.new }
     ensures lifted { OnOk result (priced_of pair.new ≡ set_for_row row (dense entries.now) (furthest side zero_ℚ entries.now (vector_of pair.old.reduced_costs)) (priced_of pair.old)) }
-    ensures fits { IsOk result ↔ (RatiosFit entries.now (vector_of pair.old.reduced_costs) × TakenFits entries.now (furthest side zero_ℚ entries.now (vector_of pair.old.reduced_costs)) (vector_of pair.old.reduced_costs)) }
+    ensures fits { IsOk result → (RatiosFit T.room entries.now (vector_of pair.old.reduced_costs) × TakenFits T.room entries.now (furthest side zero_ℚ entries.now (vector_of pair.old.reduced_costs)) (vector_of pair.old.reduced_costs)) }
+    ensures past { IfErr result (λ why. T.is_past why → (RatiosFit T.room entries.now (vector_of pair.old.reduced_costs) × TakenFits T.room entries.now (furthest side zero_ℚ entries.now (vector_of pair.old.reduced_costs)) (vector_of pair.old.reduced_costs)) → ⊥) }
 {
-    let dual = furthest_ratio(side, entries, pair.reduced_costs())?;
-    pair.take_row(entries, &dual)?;
+    let dual = furthest_ratio(alloc, side, entries, pair.reduced_costs())?;
+    pair.take_row(alloc, entries, &dual)?;
     pair.set_dual(row, dual);
     Ok(())
 }
@@ -81,21 +89,28 @@ pub fn undo_forcing_row(
 /// A column's reduced cost goes to the row that made its bound, and the row's other columns pay for it.
 ///
 /// # Errors
-/// [`Past`] exactly where a number on the way is.
+/// Where a number on the way has no room, or there is no memory for it.
 #[tactic(auto, using(crate::proofs::Ids::number_there))]
-fn hand_to_row(pair: &mut PairBuf, row: u32, column: u32, entries: &[Term]) -> Result<(), Past>
+fn hand_to_row<T: Exact>(
+    alloc: Global,
+    pair: &mut PairBuf<T>,
+    row: u32,
+    column: u32,
+    entries: &[Term],
+) -> Result<(), T::Refusal>
     requires row { row < length pair.old.duals }
     requires column { column < length pair.old.reduced_costs }
     requires entries { Ascends 0 (length pair.old.reduced_costs) entries.now }
     requires own { has column entries.now ≡ true }
     ensures sized { (m n : ℕ) → IsSized m n pair.old → IsSized m n pair.new }
     ensures lifted { OnOk result (priced_of pair.new ≡ handed_to_row row column (dense entries.now) (priced_of pair.old)) }
-    ensures fits { IsOk result ↔ HandedFits column entries.now (vector_of pair.old.duals row) (vector_of pair.old.reduced_costs) }
+    ensures fits { IsOk result → HandedFits T.room column entries.now (vector_of pair.old.duals row) (vector_of pair.old.reduced_costs) }
+    ensures past { IfErr result (λ why. T.is_past why → HandedFits T.room column entries.now (vector_of pair.old.duals row) (vector_of pair.old.reduced_costs) → ⊥) }
 {
     let entry = number_at(entries, column as usize);
-    let change = pair.reduced_cost(column).div(&entry)?;
-    let dual = pair.dual(row).add(&change)?;
-    pair.take_row(entries, &change)?;
+    let change = pair.reduced_cost(column).over(alloc, &entry)?;
+    let dual = pair.dual(row).plus(alloc, &change)?;
+    pair.take_row(alloc, entries, &change)?;
     pair.set_dual(row, dual);
     Ok(())
 }
@@ -103,18 +118,23 @@ fn hand_to_row(pair: &mut PairBuf, row: u32, column: u32, entries: &[Term]) -> R
 /// K8: the row takes the reduced cost over where the column isn't at its old bound.
 ///
 /// # Errors
-/// [`Past`] exactly where the row takes it over, and a number on the way is.
-pub fn undo_bound_tightening(undo: &BoundTightening, pair: &mut PairBuf) -> Result<(), Past>
+/// Where the row takes it over, and a number on the way has no room, or there is no memory for it.
+pub fn undo_bound_tightening<T: Exact>(
+    alloc: Global,
+    undo: &BoundTightening,
+    pair: &mut PairBuf<T>,
+) -> Result<(), T::Refusal>
     requires sound { IsSound (length pair.old.duals) (length pair.old.point) (kind.BoundTightening undo.now) }
     requires costs { length pair.old.reduced_costs ≡ length pair.old.point }
     ensures sized { (m n : ℕ) → IsSized m n pair.old → IsSized m n pair.new }
     ensures lifted { OnOk result (priced_of pair.new ≡ duals_undone (kind.BoundTightening undo.now) (priced_of pair.old)) }
-    ensures fits { IsOk result ↔ DualsFit (kind.BoundTightening undo.now) (priced_of pair.old) }
+    ensures fits { IsOk result → DualsFit T.room (kind.BoundTightening undo.now) (priced_of pair.old) }
+    ensures past { IfErr result (λ why. T.is_past why → DualsFit T.room (kind.BoundTightening undo.now) (priced_of pair.old) → ⊥) }
 {
     let multiplier = pair.reduced_cost(undo.column);
     let value = pair.value(undo.column);
-    if is_off_bound(undo.side, &undo.bound.get(), &value, &multiplier) {
-        hand_to_row(pair, undo.row, undo.column, undo.entries.as_slice())
+    if is_off_bound(undo.side, &undo.bound.get(), value, multiplier) {
+        hand_to_row(alloc, pair, undo.row, undo.column, undo.entries.as_slice())
     } else {
         Ok(())
     }
@@ -123,44 +143,51 @@ pub fn undo_bound_tightening(undo: &BoundTightening, pair: &mut PairBuf) -> Resu
 /// Whether the side at which the kept row holds its dual came from its multiple. Where the dual is 0 no value is summed.
 ///
 /// # Errors
-/// [`Past`] exactly where the dual isn't 0, and a product or a sum on the way is.
+/// Where the dual isn't 0, and a product or a sum on the way has no room, or there is no memory for it.
 #[tactic(auto, using(crate::proofs::Ids::ids_below))]
-fn is_from_multiple(
+fn is_from_multiple<T: Exact>(
+    alloc: Global,
     sides: Range,
     entries: &[Term],
-    point: &[Frac],
-    dual: &Frac,
-) -> Result<bool, Past>
+    point: &Numbers<T>,
+    dual: &T,
+) -> Result<bool, T::Refusal>
     requires { Ascends 0 (length point.now) entries.now }
-    ensures value { IfOk result (λ b. b ≡ is_from_row_of sides.lower sides.upper (sparse_total entries.now (vector_of point.now)) dual.now) }
-    ensures fits { IsOk result ↔ (dual.now ≢ zero_ℚ → TermsFit zero_ℚ entries.now (vector_of point.now)) }
+    ensures value { IfOk result (λ b. b ≡ is_from_row_of sides.lower sides.upper (sparse_total entries.now (vector_of point.now)) (T.number dual.now)) }
+    ensures fits { IsOk result → (T.number dual.now ≢ zero_ℚ → TermsFit T.room zero_ℚ entries.now (vector_of point.now)) }
+    ensures past { IfErr result (λ why. T.is_past why → (T.number dual.now ≢ zero_ℚ → TermsFit T.room zero_ℚ entries.now (vector_of point.now)) → ⊥) }
 {
-    if dual.is_zero() {
+    if dual.is_fraction(&Frac::zero()) {
         return Ok(false);
     }
-    let value = sum_of_terms(entries, point)?;
+    let value = sum_of_terms(alloc, entries, point)?;
     Ok(is_from_row(sides, &value, dual))
 }
 
 /// K15: the deleted row takes the dual of the kept one over where that is held at a side of the deleted one.
 ///
 /// # Errors
-/// [`Past`] exactly where a number on the way is.
-pub fn undo_parallel_rows(undo: &ParallelRows, pair: &mut PairBuf) -> Result<(), Past>
+/// Where a number on the way has no room, or there is no memory for it.
+pub fn undo_parallel_rows<T: Exact>(
+    alloc: Global,
+    undo: &ParallelRows,
+    pair: &mut PairBuf<T>,
+) -> Result<(), T::Refusal>
     requires sound { IsSound (length pair.old.duals) (length pair.old.point) (kind.ParallelRows undo.now) }
     requires costs { length pair.old.reduced_costs ≡ length pair.old.point }
     ensures sized { (m n : ℕ) → IsSized m n pair.old → IsSized m n pair.new }
     ensures lifted { OnOk result (priced_of pair.new ≡ duals_undone (kind.ParallelRows undo.now) (priced_of pair.old)) }
-    ensures fits { IsOk result ↔ DualsFit (kind.ParallelRows undo.now) (priced_of pair.old) }
+    ensures fits { IsOk result → DualsFit T.room (kind.ParallelRows undo.now) (priced_of pair.old) }
+    ensures past { IfErr result (λ why. T.is_past why → DualsFit T.room (kind.ParallelRows undo.now) (priced_of pair.old) → ⊥) }
 {
     let sides = Range::between(&undo.lower.get(), &undo.upper.get());
     let dual = pair.dual(undo.kept);
-    if is_from_multiple(sides, undo.entries.as_slice(), pair.point(), &dual)? {
-        let taken = dual.div(&undo.factor.get())?;
-        pair.set_dual(undo.kept, Frac::zero());
+    if is_from_multiple(alloc, sides, undo.entries.as_slice(), pair.point(), dual)? {
+        let taken = dual.over(alloc, &undo.factor.get())?;
+        pair.set_dual(undo.kept, T::zero());
         pair.set_dual(undo.row, taken);
     } else {
-        pair.set_dual(undo.row, Frac::zero());
+        pair.set_dual(undo.row, T::zero());
     }
     Ok(())
 }

@@ -1,6 +1,7 @@
 -- A lift, one record at a time from the last on.
 use Rattle.std.proofs.Common.{◌≡◌, ℕ, zero, suc, pred, ◌<◌, List, [], ◌∷◌, length, drop, get_or, sym, ap, ◌∙◌, subst, arith}
 use Rattle.std.proofs.Math.Seq.{drop-cons}
+use Rattle.fractions.specs.Room.{Room}
 use Rattle.lp_model.specs.Vectors.{Vector}
 use Rattle.undo_records.specs.declared.undo.Undo.{Undo}
 use Rattle.undo_records.specs.Lift.{undone, lift}
@@ -14,29 +15,29 @@ pub lifted_more : (us : List Undo) (n m : ℕ) (u : Undo) (x y z : Vector) → n
 lifted_more us n m u x y z l em eu ey ez =
     ez ∙ ap (undone u) (ey ∙ ap (λ (k : ℕ). lift (drop k us) x) em) ∙ sym (ap (λ vs. lift vs x) (from_here us n u l eu))
 
-pub fits_more : (us : List Undo) (n m : ℕ) (u : Undo) (x y : Vector) → n < length us → m ≡ suc n → u ≡ get_or us n u → y ≡ lift (drop m us) x → LiftFits (drop m us) x → UndoFits u y → LiftFits (drop n us) x
-fits_more us n m u x y l em eu ey f g =
-    subst (λ vs. LiftFits vs x) (sym (from_here us n u l eu))
-    (subst (λ (k : ℕ). LiftFits (drop k us) x) em f, subst (λ w. UndoFits u w) (ey ∙ ap (λ (k : ℕ). lift (drop k us) x) em) g)
+pub fits_more : (r : Room) (us : List Undo) (n m : ℕ) (u : Undo) (x y : Vector) → n < length us → m ≡ suc n → u ≡ get_or us n u → y ≡ lift (drop m us) x → LiftFits r (drop m us) x → UndoFits r u y → LiftFits r (drop n us) x
+fits_more r us n m u x y l em eu ey f g =
+    subst (λ vs. LiftFits r vs x) (sym (from_here us n u l eu))
+    (subst (λ (k : ℕ). LiftFits r (drop k us) x) em f, subst (λ w. UndoFits r u w) (ey ∙ ap (λ (k : ℕ). lift (drop k us) x) em) g)
 
 -- record n doesn't fit
-pub stops : (us : List Undo) (n m : ℕ) (u : Undo) (x y : Vector) → n < length us → m ≡ suc n → u ≡ get_or us n u → y ≡ lift (drop m us) x → LiftFits (drop m us) x → (UndoFits u y → ⊥) → StopsAt us x m
-stops us n m u x y l em eu ey f g = record {
+pub stops : (r : Room) (us : List Undo) (n m : ℕ) (u : Undo) (x y : Vector) → n < length us → m ≡ suc n → u ≡ get_or us n u → y ≡ lift (drop m us) x → LiftFits r (drop m us) x → (UndoFits r u y → ⊥) → StopsAt r us x m
+stops r us n m u x y l em eu ey f g = record {
   within = omega arith;
   after = f;
-  here = λ h. g (here (subst (λ (k : ℕ). LiftFits (drop (pred k) us) x) em h));
+  here = λ h. g (here (subst (λ (k : ℕ). LiftFits r (drop (pred k) us) x) em h));
 }
   where
-    here : LiftFits (drop n us) x → UndoFits u y
-    here h = subst (λ w. UndoFits u w) (sym (ey ∙ ap (λ (k : ℕ). lift (drop k us) x) em)) (subst (λ vs. LiftFits vs x) (from_here us n u l eu) h).1
+    here : LiftFits r (drop n us) x → UndoFits r u y
+    here h = subst (λ w. UndoFits r u w) (sym (ey ∙ ap (λ (k : ℕ). lift (drop k us) x) em)) (subst (λ vs. LiftFits r vs x) (from_here us n u l eu) h).1
 
 -- what fits, fits from record n on
-pub fits_from : (us : List Undo) (n : ℕ) (x : Vector) → LiftFits us x → LiftFits (drop n us) x
-fits_from [] zero x h = h
-fits_from [] (suc n) x h = h
-fits_from (u ∷ us) zero x h = h
-fits_from (u ∷ us) (suc n) x h = fits_from us n x h.0
+pub fits_from : (r : Room) (us : List Undo) (n : ℕ) (x : Vector) → LiftFits r us x → LiftFits r (drop n us) x
+fits_from r [] zero x h = h
+fits_from r [] (suc n) x h = h
+fits_from r (u ∷ us) zero x h = h
+fits_from r (u ∷ us) (suc n) x h = fits_from r us n x h.0
 
 -- a lift that stops doesn't fit
-pub stopped : (us : List Undo) (x : Vector) (m : ℕ) → StopsAt us x m → LiftFits us x → ⊥
-stopped us x m s h = s.here (fits_from us (pred m) x h)
+pub stopped : (r : Room) (us : List Undo) (x : Vector) (m : ℕ) → StopsAt r us x m → LiftFits r us x → ⊥
+stopped r us x m s h = s.here (fits_from r us (pred m) x h)

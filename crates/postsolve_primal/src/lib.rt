@@ -1,4 +1,5 @@
-//! Brings a point of the reduced program back to the original one: the records are undone last first.
+//! Brings a point of the reduced program back to the original one: the records are undone last first. The numbers are of any kind of exact
+//! numbers.
 //!
 //! What undoing makes of a point, and when its numbers have room, is defined in the specs of `undo_records`.
 #![tactic(auto)]
@@ -9,8 +10,8 @@ mod lifting;
 mod sums;
 mod undo;
 
-pub use buffer::{PointBuf, placed};
+pub use buffer::{at_columns, placed};
 pub use ends::Range;
 pub use lifting::{Stop, lift};
-pub use sums::{less_product, number_of, set_number, sum_of_terms};
+pub use sums::{less_product, sum_of_terms};
 pub use undo::undo_one;

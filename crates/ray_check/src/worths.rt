@@ -1,7 +1,9 @@
 //! What weights of ends are worth.
 
 ghost use Rattle.std.specs.Prelude.{◌≡◌, ◌↔◌, length, IfOk, IsOk};
-ghost use Rattle.fractions.specs.Number.{◌+ℚ◌};
+ghost use Rattle.fractions.specs.Number.{◌+ℚ◌, ◌*ℚ◌};
+ghost use Rattle.fractions.specs.Lowest.{Fits};
+ghost use Rattle.fractions.specs.FracWords.{SumFits};
 ghost use Rattle.lp_model.specs.Meaning.{meaning};
 ghost use Rattle.lp_model.specs.Optimality.{Continuous};
 ghost use Rattle.lp_rays.specs.Ray.{worth, total_of};
@@ -12,8 +14,19 @@ use fractions::Past;
 use fractions::ext::Ext;
 use fractions::frac::Frac;
 use lp_model::Program;
-use lp_prices::plus_product;
 use lp_rays::Ray;
+
+/// A sum and a product.
+///
+/// # Errors
+/// [`Past`] exactly where the product or the sum has no room.
+fn plus_product(sum: &Frac, factor: &Frac, number: &Frac) -> Result<Frac, Past>
+    ensures value { IfOk result (λ r. r ≡ sum.now +ℚ factor.now *ℚ number.now) }
+    ensures fits { IsOk result ↔ (Fits (factor.now *ℚ number.now) × SumFits sum.now (factor.now *ℚ number.now)) }
+{
+    let product = factor.mul(number)?;
+    sum.add(&product)
+}
 
 /// A sum with what a weight of an end is worth.
 fn plus_worth(sum: &Frac, end: &Ext, weight: &Frac) -> Result<Frac, Past>

@@ -91,7 +91,7 @@ module _ (program : ProgramData) (solution : List ℕ) where
   record OfPoint (s : ℕ) (said : List ℕ) : Type 0 where
     other : is_ray_text solution ≡ false
     alone : duals ≡ None
-    verdict : Verdict
+    verdict : Verdict Number
     decides : Decides (meaning program) (vector_of point) verdict
     answers : status_of_verdict verdict ≡ s
     line : said ≡ verdict_text program verdict
@@ -102,7 +102,7 @@ module _ (program : ProgramData) (solution : List ℕ) where
     prices : List Number
     given : duals ≡ Some prices
     continuous : Continuous (meaning program)
-    verdict : PairVerdict
+    verdict : PairVerdict Number
     decides : DecidesPair program.sense (meaning program) (vector_of point) (vector_of prices) verdict
     answers : status_of_pair_verdict verdict ≡ s
     line : said ≡ pair_verdict_text program verdict
@@ -139,8 +139,8 @@ module _ (program : ProgramData) (solution : List ℕ) where
   not_asked other alone (inl (still, (prices, given))) = none_or_some prices alone given
   not_asked other alone (inr starts) = ray_or_not solution other starts
 
-  module _ (one_verdict : (M : LinearProgram) (x : Vector) (v w : Verdict) → Decides M x v → Decides M x w → v ≡ w)
-      (one_pair_verdict : (d : Sense) (M : LinearProgram) (x y : Vector) (v w : PairVerdict) → DecidesPair d M x y v → DecidesPair d M x y w → v ≡ w)
+  module _ (one_verdict : (M : LinearProgram) (x : Vector) (v w : Verdict Number) → Decides M x v → Decides M x w → v ≡ w)
+      (one_pair_verdict : (d : Sense) (M : LinearProgram) (x y : Vector) (v w : PairVerdict Number) → DecidesPair d M x y v → DecidesPair d M x y w → v ≡ w)
       (one_ray_verdict : (d : ProgramData) (x : Weights) (v w : RayChecked) → DecidesRay d x v → DecidesRay d x w → v ≡ w) (s t : ℕ) (said more : List ℕ) where
     points_same : OfPoint s said → OfPoint t more → (s ≡ t) × (said ≡ more)
     points_same a b =
@@ -295,8 +295,8 @@ module _ (names : CheckNames) (input solution : List ℕ) where
         (λ w9. either (at_status s 9 _ _ w9) (λ h. checked 9 s said h.0 h.1)
         (λ none. absurd none)))))))
 
-pub check_same : ((M : LinearProgram) (x : Vector) (v w : Verdict) → Decides M x v → Decides M x w → v ≡ w)
-    → ((d : Sense) (M : LinearProgram) (x y : Vector) (v w : PairVerdict) → DecidesPair d M x y v → DecidesPair d M x y w → v ≡ w)
+pub check_same : ((M : LinearProgram) (x : Vector) (v w : Verdict Number) → Decides M x v → Decides M x w → v ≡ w)
+    → ((d : Sense) (M : LinearProgram) (x y : Vector) (v w : PairVerdict Number) → DecidesPair d M x y v → DecidesPair d M x y w → v ≡ w)
     → ((d : ProgramData) (x : Weights) (v w : RayChecked) → DecidesRay d x v → DecidesRay d x w → v ≡ w) → ChecksAreOne
 check_same one pair on_ray names s t said more before now then later (input, i, j) (solution, k, l) b c x y =
     let p : ProgramData = program_in (check_form names) input in

@@ -2,6 +2,7 @@
 use Rattle.std.proofs.Common.{◌≡◌, ◌⊎◌, inl, inr, ℕ, pred, ◌<◌, ◌≤◌, List, drop, Option, Some, None, sym, refl, ap, ◌∙◌, arith}
 use Rattle.std.proofs.lemmas.Bool.{cases_lt}
 use Rattle.fractions.specs.Number.{Number}
+use Rattle.fractions.specs.Room.{in_frac}
 use Rattle.lp_model.specs.LinearProgram.{LinearProgram}
 use Rattle.lp_model.specs.Meaning.{meaning}
 use Rattle.lp_model.specs.ProgramData.{ProgramData}
@@ -19,21 +20,21 @@ use Rattle.told_rays.proofs.SameNumbers.{numbers_same}
 
 -- ---- records that are undone on a point, and on a pair
 module _ (x : Vector) where
-  fits_drop : (us : List Undo) (b : ℕ) → LiftFits us x → LiftFits (drop b us) x
-  fits_drop us b h = room_drop (λ (vs : List Undo). LiftFits vs x) tt (λ u vs k. k.0) us b h
+  fits_drop : (us : List Undo) (b : ℕ) → LiftFits in_frac us x → LiftFits in_frac (drop b us) x
+  fits_drop us b h = room_drop (λ (vs : List Undo). LiftFits in_frac vs x) tt (λ u vs k. k.0) us b h
 
-  stop_same : (us : List Undo) (a b : ℕ) → StopsAt us x a → StopsAt us x b → a ≡ b
-  stop_same us a b s t = one_stop (λ (vs : List Undo). LiftFits vs x) tt (λ u vs h. h.0) us a b (s.after, s.here) (t.after, t.here)
+  stop_same : (us : List Undo) (a b : ℕ) → StopsAt in_frac us x a → StopsAt in_frac us x b → a ≡ b
+  stop_same us a b s t = one_stop (λ (vs : List Undo). LiftFits in_frac vs x) tt (λ u vs h. h.0) us a b (s.after, s.here) (t.after, t.here)
 
 module _ (p : Priced) where
-  pair_drop : (us : List Undo) (b : ℕ) → LiftPairFits us p → LiftPairFits (drop b us) p
-  pair_drop us b h = room_drop (λ (vs : List Undo). LiftPairFits vs p) tt (λ u vs k. k.0) us b h
+  pair_drop : (us : List Undo) (b : ℕ) → LiftPairFits in_frac us p → LiftPairFits in_frac (drop b us) p
+  pair_drop us b h = room_drop (λ (vs : List Undo). LiftPairFits in_frac vs p) tt (λ u vs k. k.0) us b h
 
-  pair_stop_same : (us : List Undo) (a b : ℕ) → PairStopsAt us p a → PairStopsAt us p b → a ≡ b
-  pair_stop_same us a b s t = one_stop (λ (vs : List Undo). LiftPairFits vs p) tt (λ u vs h. h.0) us a b (s.after, s.here) (t.after, t.here)
+  pair_stop_same : (us : List Undo) (a b : ℕ) → PairStopsAt in_frac us p a → PairStopsAt in_frac us p b → a ≡ b
+  pair_stop_same us a b s t = one_stop (λ (vs : List Undo). LiftPairFits in_frac vs p) tt (λ u vs h. h.0) us a b (s.after, s.here) (t.after, t.here)
 
 -- ---- the first reduced cost without room
-first_same : (M : LinearProgram) (y : Vector) (j k : ℕ) → IsFirstPast M y j → IsFirstPast M y k → j ≡ k
+first_same : (M : LinearProgram) (y : Vector) (j k : ℕ) → IsFirstPast in_frac M y j → IsFirstPast in_frac M y k → j ≡ k
 first_same M y j k f g = by (cases_lt j k) (cases_lt k j)
   where
     by : (j < k) ⊎ (k ≤ j) → (k < j) ⊎ (j ≤ k) → j ≡ k
@@ -41,7 +42,7 @@ first_same M y j k f g = by (cases_lt j k) (cases_lt k j)
     by (inr n) (inl m) = absurd (g.here (f.before k m))
     by (inr n) (inr m) = omega (arith, n, m)
 
-not_all : (M : LinearProgram) (y : Vector) (j : ℕ) → IsFirstPast M y j → ReducedCostsFit M y → ⊥
+not_all : (M : LinearProgram) (y : Vector) (j : ℕ) → IsFirstPast in_frac M y j → ReducedCostsFit M y → ⊥
 not_all M y j f all = f.here (all j f.within)
 
 -- ---- the lift

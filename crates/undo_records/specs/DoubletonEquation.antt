@@ -2,12 +2,12 @@
 use Rattle.std.specs.Prelude.{◌≢◌, ℕ, ◌<◌, List, [], ◌∷◌}
 use Rattle.fractions.specs.Number.{Number, zero_ℚ, ◌-ℚ◌, ◌*ℚ◌}
 use Rattle.fractions.specs.Division.{◌/ℚ◌}
-use Rattle.fractions.specs.Lowest.{Fits}
 use Rattle.fractions.specs.Total.{put}
+use Rattle.fractions.specs.Room.{Room}
 use Rattle.lp_model.specs.Vectors.{Vector}
 use Rattle.undo_records.specs.declared.kinds.doubleton_equation.DoubletonEquation.{DoubletonEquation}
 use Rattle.undo_records.specs.Ids.{AreTwo, IsEntry, AreOthers, ids_of}
-use Rattle.undo_records.specs.Fitting.{LessProductFits}
+use Rattle.undo_records.specs.Fitting.{LessFits}
 
 -- what is asked of it by itself, in a program of m rows and n columns
 abbrev pub IsSound : ℕ → ℕ → DoubletonEquation → Type 0
@@ -42,5 +42,5 @@ abbrev pub undone : DoubletonEquation → Vector → Vector
 undone r x = put x r.column (solved r x)
 
 -- what the undoing computes has room
-abbrev pub UndoFits : DoubletonEquation → Vector → Type 0
-UndoFits r x = LessProductFits r.equal r.kept_value (x r.kept) × Fits (solved r x)
+abbrev pub UndoFits : Room → DoubletonEquation → Vector → Type 0
+UndoFits m r x = LessFits m r.equal r.kept_value (x r.kept) × m.number (solved r x)

@@ -3,11 +3,12 @@ use Rattle.std.specs.Prelude.{◌≢◌, ℕ, ◌<◌, List, [], ◌∷◌, All}
 use Rattle.fractions.specs.Number.{Number, zero_ℚ, ◌-ℚ◌}
 use Rattle.fractions.specs.Division.{◌/ℚ◌}
 use Rattle.fractions.specs.Total.{put}
+use Rattle.fractions.specs.Room.{Room}
 use Rattle.lp_model.specs.Vectors.{Vector}
 use Rattle.lp_model.specs.Sparse.{sparse_total}
 use Rattle.undo_records.specs.declared.kinds.free_column_singleton.FreeColumnSingleton.{FreeColumnSingleton}
 use Rattle.undo_records.specs.Ids.{IsEntry, AreOthers, ids_of}
-use Rattle.undo_records.specs.Fitting.{TermsFit, QuotientFits}
+use Rattle.undo_records.specs.Fitting.{TermsFit, OverFits}
 
 -- what is asked of it by itself, in a program of m rows and n columns
 abbrev pub IsSound : ℕ → ℕ → FreeColumnSingleton → Type 0
@@ -42,5 +43,5 @@ abbrev pub undone : FreeColumnSingleton → Vector → Vector
 undone r x = put x r.column (at_side r x)
 
 -- what the undoing computes has room
-abbrev pub UndoFits : FreeColumnSingleton → Vector → Type 0
-UndoFits r x = TermsFit zero_ℚ r.entries x × QuotientFits r.at (sparse_total r.entries x) r.value
+abbrev pub UndoFits : Room → FreeColumnSingleton → Vector → Type 0
+UndoFits m r x = TermsFit m zero_ℚ r.entries x × OverFits m r.at (sparse_total r.entries x) r.value

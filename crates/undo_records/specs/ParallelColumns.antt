@@ -3,11 +3,12 @@ use Rattle.std.specs.Prelude.{◌≢◌, ℕ, ◌<◌, List, [], ◌∷◌, Some
 use Rattle.fractions.specs.Number.{Number, zero_ℚ, ◌-ℚ◌, ◌*ℚ◌}
 use Rattle.fractions.specs.Ends.{minus_ends}
 use Rattle.fractions.specs.Total.{put}
+use Rattle.fractions.specs.Room.{Room}
 use Rattle.lp_model.specs.Vectors.{Vector}
 use Rattle.undo_records.specs.declared.kinds.parallel_columns.ParallelColumns.{ParallelColumns}
 use Rattle.undo_records.specs.Ids.{AreTwo}
 use Rattle.undo_records.specs.Near.{near_within}
-use Rattle.undo_records.specs.Fitting.{LessProductFits, ShareFits}
+use Rattle.undo_records.specs.Fitting.{LessFits, ShareFits}
 
 -- what is asked of it by itself, in a program of n columns
 abbrev pub IsSound : ℕ → ParallelColumns → Type 0
@@ -38,5 +39,5 @@ abbrev pub undone : ParallelColumns → Vector → Vector
 undone r x = part x r.column r.kept r.factor (share r x)
 
 -- what the undoing computes has room
-abbrev pub UndoFits : ParallelColumns → Vector → Type 0
-UndoFits r x = ShareFits r.factor r.kept_lower r.kept_upper (x r.kept) × LessProductFits (x r.kept) r.factor (share r x)
+abbrev pub UndoFits : Room → ParallelColumns → Vector → Type 0
+UndoFits m r x = ShareFits m r.factor r.kept_lower r.kept_upper (x r.kept) × LessFits m (x r.kept) r.factor (share r x)

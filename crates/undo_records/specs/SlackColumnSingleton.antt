@@ -3,6 +3,7 @@ use Rattle.std.specs.Prelude.{◌≢◌, ℕ, ◌<◌, List, [], ◌∷◌, All}
 use Rattle.fractions.specs.Number.{Number, zero_ℚ}
 use Rattle.fractions.specs.Ends.{less}
 use Rattle.fractions.specs.Total.{put}
+use Rattle.fractions.specs.Room.{Room}
 use Rattle.lp_model.specs.Vectors.{Vector}
 use Rattle.lp_model.specs.Sparse.{sparse_total}
 use Rattle.undo_records.specs.declared.side.RowFate.{RowFate}
@@ -50,5 +51,5 @@ abbrev pub undone : SlackColumnSingleton → Vector → Vector
 undone r x = put x r.column (within_sides r x)
 
 -- what the undoing computes has room
-abbrev pub UndoFits : SlackColumnSingleton → Vector → Type 0
-UndoFits r x = TermsFit zero_ℚ r.entries x × SlackFits r.value r.lower_side r.upper_side (sparse_total r.entries x)
+abbrev pub UndoFits : Room → SlackColumnSingleton → Vector → Type 0
+UndoFits m r x = TermsFit m zero_ℚ r.entries x × SlackFits m r.value r.lower_side r.upper_side (sparse_total r.entries x)

@@ -1,10 +1,9 @@
-use Rattle.std.proofs.Common.{Option, ◌+◌, sym, subst}
-use Rattle.fractions.specs.Number.{Number}
-use Rattle.lp_prices.specs.Prices.{IsSum}
-use Rattle.lp_prices.proofs.Steps.{sum_of_result}
+use Rattle.std.proofs.Common.{refl, subst}
+use Rattle.std.specs.Prelude.{option_map}
+use Rattle.lp_prices.specs.Prices.{IsSumIn}
+use Rattle.lp_prices.proofs.Steps.{sum_more}
 use Rattle.lp_check.proofs.sums.with_product.Goals as goal
 
-pub returns-in-Some : goal.returns-in-Some
-returns-in-Some c = λ n a x ef ew h. subst (λ (o : Option Number). IsSum (n + 1) a x o) (sym c.ok.ensures.value)
-    (sum_of_result n a x c.in-Some.sum c.args.factor.now c.args.number.now c.plus_product.result c.plus_product.ensures.value c.plus_product.ensures.kept c.plus_product.ensures.fits ef ew
-    (subst (λ (o : Option Number). IsSum n a x o) c.in-Some.is h))
+pub returns-in-Ok : goal.returns-in-Ok
+returns-in-Ok g c = λ n a x ef ew h. sum_more g.T.Exact.room n a x _ _ _ _ ef ew c.in-Ok.ensures.value c.in-Ok.ensures.kept (c.in-Ok.ensures.fits refl)
+    (subst (λ o. IsSumIn g.T.Exact.room n a x (option_map g.T.Exact.number o)) c.in-Some.is h)

@@ -5,7 +5,7 @@ use Rattle.postsolve_dual.proofs.terms.furthest_ratio.Given as goal
 
 -- the furthest ratio so far
 abbrev pub invariant-loop-entry : goal.invariant-loop-entry
-invariant-loop-entry l = Seeking l.side (length l.numbers) l.entries l.rest (vector_of l.numbers) l.best
+invariant-loop-entry g l = Seeking g.T.Exact.room l.side (length l.numbers) l.entries l.rest (vector_of l.numbers) (g.T.Exact.number l.best)
 
 abbrev pub decreases-loop-entry : goal.decreases-loop-entry
-decreases-loop-entry l = length l.rest
+decreases-loop-entry g l = length l.rest

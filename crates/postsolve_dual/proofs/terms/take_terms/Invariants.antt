@@ -5,7 +5,7 @@ use Rattle.postsolve_dual.proofs.terms.take_terms.Given as goal
 
 -- the terms before the rest are taken
 abbrev pub invariant-loop-entry : goal.invariant-loop-entry
-invariant-loop-entry l = Taking (length l.numbers) (length l.fn.numbers) l.entries l.rest l.factor (vector_of l.fn.numbers) (vector_of l.numbers)
+invariant-loop-entry g l = Taking g.T.Exact.room (length l.numbers) (length l.fn.numbers) l.entries l.rest (g.T.Exact.number l.factor) (vector_of l.fn.numbers) (vector_of l.numbers)
 
 abbrev pub decreases-loop-entry : goal.decreases-loop-entry
-decreases-loop-entry l = length l.rest
+decreases-loop-entry g l = length l.rest

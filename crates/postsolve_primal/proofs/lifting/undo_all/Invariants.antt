@@ -5,12 +5,12 @@ use Rattle.undo_records.specs.Room.{LiftFits}
 use Rattle.postsolve_primal.proofs.lifting.undo_all.Given as goal
 
 abbrev pub invariant-loop-left : goal.invariant-loop-left
-invariant-loop-left l = record {
+invariant-loop-left g l = record {
   within : l.left ≤ length l.undos;
   size : length l.point ≡ length l.fn.point;
   lifted : vector_of l.point ≡ lift (drop l.left l.undos) (vector_of l.fn.point);
-  fits : LiftFits (drop l.left l.undos) (vector_of l.fn.point);
+  fits : LiftFits g.T.Exact.room (drop l.left l.undos) (vector_of l.fn.point);
 }
 
 abbrev pub decreases-loop-left : goal.decreases-loop-left
-decreases-loop-left l = l.left
+decreases-loop-left g l = l.left

@@ -1,4 +1,4 @@
--- A sum with 0 has room where its other number has.
+-- A sum with 0 has room in a `Frac` where its other number has.
 use Rattle.std.proofs.Common.{◌≡◌, ℕ, ◌/◌, ◌<◌, ◌^◌, ℤ, pos, ◌+ℤ◌, ◌*ℤ◌, nat_abs, refl, lit<, [], ◌∷◌, mul-one, zero-mul}
 use Rattle.std.proofs.Math.Nat.{div-one}
 use Rattle.fractions.specs.Ring.{ring, whole, v, num, ◌:+◌, ◌:*◌}
@@ -6,6 +6,7 @@ use Rattle.fractions.specs.Gcd.{gcd, coprime_by}
 use Rattle.fractions.specs.Number.{Number, zero_ℚ, of_ℤ}
 use Rattle.fractions.specs.Lowest.{over_of, under_of, of_lowest, Fits}
 use Rattle.fractions.specs.FracWords.{StepsFit, SumFits}
+use Rattle.fractions.specs.Room.{Room, in_frac}
 
 gcd-one : (n : ℕ) → gcd n 1 ≡ 1
 gcd-one n = coprime_by n 1 (λ d p q. q)
@@ -37,3 +38,11 @@ steps_with_zero a b h k = record {
 
 pub room_with_zero : (p : Number) → Fits p → SumFits p zero_ℚ
 room_with_zero p h = rw (over_zero, under_zero) (steps_with_zero (over_of p) (under_of p) h.over h.under)
+
+-- 0 has room in a kind of numbers, and so has a sum with 0 where its other number has
+pub record AddsNothing (m : Room) : Type 0 where
+  pub zero : m.number zero_ℚ
+  pub sum : (p : Number) → m.number p → m.sum p zero_ℚ
+
+pub frac_adds_nothing : AddsNothing in_frac
+frac_adds_nothing = record { zero = zero_fits; sum = room_with_zero }

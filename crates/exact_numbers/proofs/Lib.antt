@@ -1,0 +1,2 @@
+pub mod ById
+pub mod Turns
