@@ -8,7 +8,9 @@ _papilo() {
   case $name:${COMP_WORDS[1]} in
     papilo-explain:*) options='--limit --fractions --fixed --opb --all --column --row' ;;
     papilo:presolve) options='--threads --limit --dual --ray --fractions --ordered --fixed --opb' ;;
-    papilo:check | papilo:verify) options='--fixed --opb' ;;
+    papilo:postsolve) options='--wide' ;;
+    papilo:check) options='--fixed --opb --wide' ;;
+    papilo:verify) options='--fixed --opb' ;;
     papilo:solve) options='--pivots --fixed' ;;
     papilo:help) options="status $(printf 'M%d ' {1..19})$(printf 'O%d ' {1..5})$(printf 'F%d ' {1..9})$(printf 'S%d ' {1..6})" ;;
   esac

@@ -62,17 +62,17 @@ presolve_app = with_rule formats_app (flag_rule (codes "opb"))
 unfoldable pub check_words : App
 check_words = with_rule (with_rule (with_rule (new_app (codes "check")) (word_rule (codes "in"))) (word_rule (codes "sol"))) (flag_rule (codes "fixed"))
 
--- check IN SOL [--fixed] [--opb]
+-- check IN SOL [--fixed] [--opb] [--wide]
 unfoldable pub check_app : App
-check_app = with_rule check_words (flag_rule (codes "opb"))
+check_app = with_rule (with_rule check_words (flag_rule (codes "opb"))) (flag_rule (codes "wide"))
 
 -- postsolve OUT REC SOL
 unfoldable pub postsolve_words : App
 postsolve_words = with_rule (with_rule (with_rule (new_app (codes "postsolve")) (word_rule (codes "out"))) (word_rule (codes "rec"))) (word_rule (codes "sol"))
 
--- postsolve OUT REC SOL RESULT
+-- postsolve OUT REC SOL RESULT [--wide]
 unfoldable pub postsolve_app : App
-postsolve_app = with_rule postsolve_words (word_rule (codes "result"))
+postsolve_app = with_rule (with_rule postsolve_words (word_rule (codes "result"))) (flag_rule (codes "wide"))
 
 -- migrate REC NEW
 unfoldable pub migrate_app : App

@@ -137,7 +137,9 @@ fn check<'a>(alloc: Global) -> Result<Command<'a>, AllocError>
     ensures app { IfOk result (λ command. app_of command ≡ check_app) }
     ensures local { IfOk result (λ command. (out-Command command).has_globals ≡ false) }
 {
-    check_words(alloc)?.arg(flag(alloc, "opb"))
+    check_words(alloc)?
+        .arg(flag(alloc, "opb"))?
+        .arg(flag(alloc, "wide"))
 }
 
 #[tactic(auto, unfolding(crate::specs::Line::postsolve_words))]
@@ -156,7 +158,9 @@ fn postsolve<'a>(alloc: Global) -> Result<Command<'a>, AllocError>
     ensures app { IfOk result (λ command. app_of command ≡ postsolve_app) }
     ensures local { IfOk result (λ command. (out-Command command).has_globals ≡ false) }
 {
-    postsolve_words(alloc)?.arg(word(alloc, "result"))
+    postsolve_words(alloc)?
+        .arg(word(alloc, "result"))?
+        .arg(flag(alloc, "wide"))
 }
 
 #[tactic(auto, unfolding(crate::specs::Line::migrate_app))]

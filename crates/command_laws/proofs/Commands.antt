@@ -187,7 +187,7 @@ presolve_asks word answers differs = (
 
 check_known : Each (IsKnown check_command.rules) check_command.rules
 unfolding check_command line_app third_app second_app first_app check_app check_words presolve_app formats_app ray_app ordered_app dual_app limited_app threaded_app presolve_words postsolve_app postsolve_words migrate_app verify_words verify_app solve_words solve_app gen_words gen_app
-check_known = ((refl, refl), ((refl, refl), ((refl, refl), ((refl, refl), ((refl, refl), tt)))))
+check_known = ((refl, refl), ((refl, refl), ((refl, refl), ((refl, refl), ((refl, refl), ((refl, refl), tt))))))
 
 check_asks : AsksWhereGiven check_command
 unfolding check_command line_app third_app second_app first_app check_app check_words presolve_app formats_app ray_app ordered_app dual_app limited_app threaded_app presolve_words postsolve_app postsolve_words migrate_app verify_words verify_app solve_words solve_app gen_words gen_app
@@ -201,7 +201,7 @@ check_asks word answers differs = (
 
 postsolve_known : Each (IsKnown postsolve_command.rules) postsolve_command.rules
 unfolding postsolve_command line_app third_app second_app first_app check_app check_words presolve_app formats_app ray_app ordered_app dual_app limited_app threaded_app presolve_words postsolve_app postsolve_words migrate_app verify_words verify_app solve_words solve_app gen_words gen_app
-postsolve_known = ((refl, refl), ((refl, refl), ((refl, refl), ((refl, refl), ((refl, refl), tt)))))
+postsolve_known = ((refl, refl), ((refl, refl), ((refl, refl), ((refl, refl), ((refl, refl), ((refl, refl), tt))))))
 
 postsolve_asks : AsksWhereGiven postsolve_command
 unfolding postsolve_command line_app third_app second_app first_app check_app check_words presolve_app formats_app ray_app ordered_app dual_app limited_app threaded_app presolve_words postsolve_app postsolve_words migrate_app verify_words verify_app solve_words solve_app gen_words gen_app

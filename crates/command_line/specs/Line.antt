@@ -81,22 +81,22 @@ presolve_names input output records ray options = None
 abbrev pub presolve_of : List Row → Option PresolveNames
 presolve_of rows = presolve_names (first_of (codes "in") rows) (first_of (codes "out") rows) (first_of (codes "rec") rows) (first_of (codes "ray") rows) (options_of rows)
 
--- two names, and the format of IN
-abbrev pub check_names : Option Text → Option Text → Option InputFormat → Option CheckNames
-check_names (Some input) (Some solution) (Some format) = Some (record { input = input; solution = solution; format = format })
-check_names input solution format = None
+-- two names, the format of IN, and an option
+abbrev pub check_names : Option Text → Option Text → Option InputFormat → Bool → Option CheckNames
+check_names (Some input) (Some solution) (Some format) wide = Some (record { input = input; solution = solution; format = format; wide = wide })
+check_names input solution format wide = None
 
 abbrev pub check_of : List Row → Option CheckNames
-check_of rows = check_names (first_of (codes "in") rows) (first_of (codes "sol") rows) (format_of rows)
+check_of rows = check_names (first_of (codes "in") rows) (first_of (codes "sol") rows) (format_of rows) (is_on (first_of (codes "wide") rows))
 
--- four names
-abbrev pub postsolve_names : Option Text → Option Text → Option Text → Option Text → Option PostsolveNames
-postsolve_names (Some program) (Some records) (Some solution) (Some result) =
-    Some (record { program = program; records = records; solution = solution; result = result })
-postsolve_names program records solution result = None
+-- four names and an option
+abbrev pub postsolve_names : Option Text → Option Text → Option Text → Option Text → Bool → Option PostsolveNames
+postsolve_names (Some program) (Some records) (Some solution) (Some result) wide =
+    Some (record { program = program; records = records; solution = solution; result = result; wide = wide })
+postsolve_names program records solution result wide = None
 
 abbrev pub postsolve_of : List Row → Option PostsolveNames
-postsolve_of rows = postsolve_names (first_of (codes "out") rows) (first_of (codes "rec") rows) (first_of (codes "sol") rows) (first_of (codes "result") rows)
+postsolve_of rows = postsolve_names (first_of (codes "out") rows) (first_of (codes "rec") rows) (first_of (codes "sol") rows) (first_of (codes "result") rows) (is_on (first_of (codes "wide") rows))
 
 -- two names, which differ
 abbrev pub migrate_names : Option Text → Option Text → Option MigrateNames

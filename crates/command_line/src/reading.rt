@@ -108,6 +108,13 @@ fn input_format(found: &ArgMatches) -> Option<InputFormat>
     }
 }
 
+// Whether SOL's numbers may have any width.
+fn is_wide(found: &ArgMatches) -> bool
+    ensures { result ≡ is_on (first_of (codes "wide") (rows_of (found_of found.now))) }
+{
+    is_given(found, "wide")
+}
+
 // The options for `presolve`.
 fn options(found: &ArgMatches) -> Option<PresolveOptions>
     ensures given { result ≡ options_of (rows_of (found_of found.now)) }
@@ -161,7 +168,7 @@ fn presolve<'a>(found: &ArgMatches<'a>) -> Option<PresolveWords<'a>>
     })
 }
 
-// The names for `check`.
+// The names and the options for `check`.
 fn check<'a>(found: &ArgMatches<'a>) -> Option<CheckWords<'a>>
     ensures { option_map check_names_of result ≡ check_of (rows_of (found_of found.now)) }
 {
@@ -172,10 +179,11 @@ fn check<'a>(found: &ArgMatches<'a>) -> Option<CheckWords<'a>>
         input,
         solution,
         format,
+        wide: is_wide(found),
     })
 }
 
-// The names for `postsolve`.
+// The names and the option for `postsolve`.
 fn postsolve<'a>(found: &ArgMatches<'a>) -> Option<PostsolveWords<'a>>
     ensures { option_map postsolve_names_of result ≡ postsolve_of (rows_of (found_of found.now)) }
 {
@@ -188,6 +196,7 @@ fn postsolve<'a>(found: &ArgMatches<'a>) -> Option<PostsolveWords<'a>>
         records,
         solution,
         result,
+        wide: is_wide(found),
     })
 }
 

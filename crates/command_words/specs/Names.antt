@@ -17,18 +17,20 @@ pub record PresolveNames : Type 0 where
   pub ray : Option Text
   pub options : PresolveOptions
 
--- the names that check works on, and the format of IN
+-- the names that check works on, the format of IN, and whether SOL's numbers may have any width
 pub record CheckNames : Type 0 where
   pub input : Text
   pub solution : Text
   pub format : InputFormat
+  pub wide : Bool
 
--- the names that postsolve works on
+-- the names that postsolve works on, and whether SOL's numbers may have any width
 pub record PostsolveNames : Type 0 where
   pub program : Text
   pub records : Text
   pub solution : Text
   pub result : Text
+  pub wide : Bool
 
 -- the names that migrate works on
 pub record MigrateNames : Type 0 where

@@ -14,10 +14,10 @@ abbrev pub names_of : PresolveWords → PresolveNames
 names_of words = record { input = words.input.now; output = words.output.now; records = words.records.now; ray = option_map (λ name. name.now) words.ray; options = words.options }
 
 abbrev pub check_names_of : CheckWords → CheckNames
-check_names_of words = record { input = words.input.now; solution = words.solution.now; format = words.format }
+check_names_of words = record { input = words.input.now; solution = words.solution.now; format = words.format; wide = words.wide }
 
 abbrev pub postsolve_names_of : PostsolveWords → PostsolveNames
-postsolve_names_of words = record { program = words.program.now; records = words.records.now; solution = words.solution.now; result = words.result.now }
+postsolve_names_of words = record { program = words.program.now; records = words.records.now; solution = words.solution.now; result = words.result.now; wide = words.wide }
 
 abbrev pub migrate_names_of : MigrateWords → MigrateNames
 migrate_names_of words = record { records = words.records.now; written = words.written.now }

@@ -57,22 +57,26 @@ pub struct PresolveWords<'a> {
     pub options: PresolveOptions,
 }
 
-/// The names that `check IN SOL` works on, and its option.
+/// The names that `check IN SOL` works on, and its options.
 #[derive(Clone, Copy, Debug)]
 pub struct CheckWords<'a> {
     pub input: &'a str,
     pub solution: &'a str,
     /// The format of IN.
     pub format: InputFormat,
+    /// SOL's numbers may have any width.
+    pub wide: bool,
 }
 
-/// The names that `postsolve OUT REC SOL RESULT` works on.
+/// The names that `postsolve OUT REC SOL RESULT` works on, and its option.
 #[derive(Clone, Copy, Debug)]
 pub struct PostsolveWords<'a> {
     pub program: &'a str,
     pub records: &'a str,
     pub solution: &'a str,
     pub result: &'a str,
+    /// SOL's numbers may have any width.
+    pub wide: bool,
 }
 
 /// The names that `migrate REC NEW` works on, which differ.
