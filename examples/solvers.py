@@ -10,9 +10,13 @@ import re
 import resource
 import signal
 import subprocess
+import sys
 from collections import namedtuple
 from decimal import Decimal
 from fractions import Fraction
+
+if hasattr(sys, 'set_int_max_str_digits'):
+    sys.set_int_max_str_digits(0)  # numbers may be of any length
 
 OPTIMAL, INFEASIBLE, UNBOUNDED, NO_TIME, NOTHING = 'optimal', 'infeasible', 'unbounded', 'no time', 'nothing'
 BITS = 127  # numerators and denominators are below 2^127

@@ -117,7 +117,7 @@ class Way:
         verdict = self.solve()
         if verdict != solvers.OPTIMAL:
             return STATUSES[verdict]
-        self.must(*self.papilo('postsolve', 'OUT', 'REC', 'SOL', 'RESULT'), about='the solution cannot be brought back')
+        self.must(*self.papilo('postsolve', 'OUT', 'REC', 'SOL', 'RESULT', '--wide'), about='the solution cannot be brought back')
         self.check()
         self.assign(rows, columns)
         return pulp.LpStatusOptimal
@@ -133,16 +133,12 @@ class Way:
         if answer.verdict == solvers.NOTHING:
             log = solvers.text(self.place, 'solver.log').split('\n')
             self.fail('%s found no optimal solution: %s' % (inner.path, ' | '.join(filter(None, log[-4:]))))
-        wide = solvers.too_wide(answer.values)
-        if wide:
-            self.fail('the value of variable %s has %d bits, and 127 are the most: the solution cannot be brought back' % wide)
-        self.duals = self.duals and not solvers.too_wide(answer.duals)
         self.write('SOL', solvers.solution(answer.values, answer.duals if self.duals else None))
         return answer.verdict
 
     def check(self):
         """Checks RESULT, and keeps its cost."""
-        status, printed = self.papilo('check', 'IN', 'RESULT')
+        status, printed = self.papilo('check', 'IN', 'RESULT', '--wide')
         self.must(status, printed, 'the solution of %s does not pass the check' % self.presolved.inner.path)
         self.cost, self.proved = Fraction(printed.removeprefix('yes cost ')), self.duals
 

@@ -1,4 +1,5 @@
 mod Said
+mod Exactly
 mod Proved
 mod Told
 mod RayProved

@@ -1,5 +1,5 @@
 -- What an ending by a verdict on a ray says of SOL.
-use Rattle.std.proofs.Common.{◌≡◌, ℕ, List, inr, sym, ◌∙◌}
+use Rattle.std.proofs.Common.{◌≡◌, ℕ, List, sym, ◌∙◌}
 use Rattle.file_ports.specs.Ports.{Moment}
 use Rattle.lp_model.specs.ProgramData.{ProgramData}
 use Rattle.lp_model.specs.Meaning.{meaning}
@@ -13,8 +13,7 @@ use Rattle.endings.specs.declared.ending.Ending.{Ending}
 use Rattle.endings.specs.declared.ending.Ending.TheVariants.{Done, Usage, Refused, ReadFault, WriteFault, NoMemory, NoRoom, RecordsRefused, SolutionRefused, Violated, Spent, Infeasible, RayPast, UnboundedOrInfeasible, Unbounded}
 use Rattle.check_command.specs.GivenTexts.{IsRayOf}
 use Rattle.check_command.specs.RayVerdictText.{status_of_ray_verdict, ray_verdict_text}
-use Rattle.check_command.specs.JudgedRay.{IsRayJudged, TellsRayVerdict}
-use Rattle.check_command.specs.Checked.{SaysSolution}
+use Rattle.check_command.specs.JudgedRay.{IsRayJudged, SaysRay, TellsRayVerdict}
 use Rattle.check_command.proofs.RayProved.{proved_infeasible, room_at_zero, zero_of_room}
 
 module _ (program : ProgramData) (ray : RayData) (verdict : RayChecked) (name : List ℕ) (before now : Moment)
@@ -37,17 +36,17 @@ module _ (program : ProgramData) (ray : RayData) (verdict : RayChecked) (name : 
     proves = λ zero. proved_infeasible program (weights_of ray) verdict printed decides said (answers ∙ zero);
   }
 
-  pub ray_told : (ending : Ending) → TellsRayVerdict program verdict ending → SaysSolution program name before now ending
-  ray_told (Done text) h = inr (inr (ray_judged 0 text.items h.0 h.1))
+  pub ray_told : (ending : Ending) → TellsRayVerdict program verdict ending → SaysRay program name before now ending
+  ray_told (Done text) h = ray_judged 0 text.items h.0 h.1
   ray_told Usage h = absurd h
   ray_told (Refused line) h = absurd h
   ray_told ReadFault h = absurd h
   ray_told WriteFault h = absurd h
   ray_told NoMemory h = absurd h
-  ray_told (NoRoom line) h = inr (inr (ray_judged 6 line.items h.0 h.1))
+  ray_told (NoRoom line) h = ray_judged 6 line.items h.0 h.1
   ray_told (RecordsRefused line) h = absurd h
   ray_told (SolutionRefused line) h = absurd h
-  ray_told (Violated line) h = inr (inr (ray_judged 9 line.items h.0 h.1))
+  ray_told (Violated line) h = ray_judged 9 line.items h.0 h.1
   ray_told Spent h = absurd h
   ray_told Infeasible h = absurd h
   ray_told (RayPast lines) h = absurd h

@@ -1,6 +1,6 @@
 -- What an ending of a check says of a ray.
-use Rattle.std.specs.Prelude.{◌≡◌, ◌↔◌, ℕ, List}
-use Rattle.file_ports.specs.Ports.{Told}
+use Rattle.std.specs.Prelude.{◌≡◌, ◌↔◌, true, ℕ, List, Some}
+use Rattle.file_ports.specs.Ports.{Moment, Told}
 use Rattle.lp_model.specs.ProgramData.{ProgramData}
 use Rattle.lp_model.specs.Meaning.{meaning}
 use Rattle.lp_model.specs.Optimality.{Continuous}
@@ -10,11 +10,16 @@ use Rattle.lp_rays.specs.RayData.{RayData, weights_of}
 use Rattle.ray_check.specs.Deciding.{ColumnsFit, DecidesRay}
 use Rattle.ray_check.specs.Room.{TotalFits}
 use Rattle.ray_check.specs.declared.verdict.RayChecked.{RayChecked}
+use Rattle.text_lines.specs.declared.fault.Fault.{Fault}
+use Rattle.point_text.specs.declared.faults.SolFaultKind.{SolFaultKind}
+use Rattle.ray_text.specs.RayLines.{is_ray_text}
+use Rattle.endings.specs.Continuity.{NamesFirstNotContinuous}
+use Rattle.endings.specs.SolutionTexts.{solution_fault_text}
 use Rattle.endings.specs.Moments.{Reads}
 use Rattle.endings.specs.declared.reads.TheConstants.{SOLUTION_LIMIT}
 use Rattle.endings.specs.declared.ending.Ending.{Ending}
-use Rattle.endings.specs.declared.ending.Ending.TheVariants.{Done, NoRoom, Violated}
-use Rattle.check_command.specs.GivenTexts.{IsRayOf}
+use Rattle.endings.specs.declared.ending.Ending.TheVariants.{Done, NoRoom, Refused, SolutionRefused, Violated}
+use Rattle.check_command.specs.GivenTexts.{GivesRay, IsRayOf, ray_fault_of}
 use Rattle.check_command.specs.RayVerdictText.{infeasible_text, status_of_ray_verdict, ray_verdict_text}
 
 -- an ending by a verdict on a ray, with its line
@@ -47,3 +52,22 @@ pub record IsRayJudged (program : ProgramData) (solution : Told) (status : ℕ) 
   pub said : printed ≡ ray_verdict_text program verdict
   pub yes : (status ≡ 0) ↔ IsRayWithRoom program (weights_of ray)
   pub proves : status ≡ 0 → IsProvedInfeasible program printed
+
+-- SOL gives a ray, and this line names the first column of IN that has to be whole or is semi-continuous
+pub record IsRayNotContinuous (program : ProgramData) (solution : Told) (printed : List ℕ) : Type 0 where
+  pub given : Reads SOLUTION_LIMIT solution (λ text. GivesRay program text)
+  pub names : NamesFirstNotContinuous program printed
+
+-- this is said of the first fault of a ray's text
+abbrev pub SaysRayFault : ProgramData → Told → List ℕ → Type 0
+SaysRayFault program solution said = (fault : Fault SolFaultKind)
+    × Reads SOLUTION_LIMIT solution (λ text. (is_ray_text text ≡ true) × (ray_fault_of program text ≡ Some (fault.kind, fault.line))) × (said ≡ solution_fault_text fault)
+
+-- what an ending says of a program and of the ray that the text by this name gives
+abbrev pub SaysRay : ProgramData → List ℕ → Moment → Moment → Ending → Type 0
+SaysRay program name before now (Done text) = IsRayJudged program (before.told name) 0 text.items
+SaysRay program name before now (Refused line) = IsRayNotContinuous program (before.told name) line.items
+SaysRay program name before now (NoRoom line) = IsRayJudged program (before.told name) 6 line.items
+SaysRay program name before now (Violated line) = IsRayJudged program (before.told name) 9 line.items
+SaysRay program name before now (SolutionRefused line) = SaysRayFault program (before.told name) line.items
+SaysRay program name before now ending = ⊥

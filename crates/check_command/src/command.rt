@@ -1,4 +1,4 @@
-//! The command `check IN SOL [--fixed] [--opb]`.
+//! The command `check IN SOL [--fixed] [--opb] [--wide]`.
 
 ghost use Rattle.std.specs.Prelude.{◌≡◌, ◌≤◌, ◌⊎◌, length, option_map, IfOk, IfSome, OnErr, IsErrOf};
 ghost use Rattle.command_words.specs.Seen.{check_names_of};
@@ -50,7 +50,7 @@ pub fn check<F: Files>(
 {
     let form = form_with(words.format, Numbers::Fractions);
     match read_both(alloc, words.input, words.solution, files) {
-        Ok(BothTexts { input, solution }) => judge(alloc, input, solution, form),
+        Ok(BothTexts { input, solution }) => judge(alloc, input, solution, form, words.wide),
         Err(Unread::Failed) => Ok(Ending::ReadFault),
         Err(Unread::NoMemory) => Err(AllocError),
     }

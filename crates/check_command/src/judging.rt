@@ -10,6 +10,7 @@ ghost use Rattle.lp_model.specs.Meaning.{meaning};
 ghost use Rattle.lp_model.specs.Optimality.{Continuous};
 ghost use Rattle.lp_model.specs.Writable.{EntriesAscend};
 ghost use Rattle.ray_text.specs.RayLines.{is_ray_text};
+ghost use Rattle.exact_texts.specs.Kinds.{room_of, texts_of};
 ghost use Rattle.check_command.specs.GivenTexts.{IsSolutionOf};
 ghost use Rattle.check_command.specs.Checked.{SaysCheck, SaysSolution, check_form};
 
@@ -19,59 +20,67 @@ use crate::verdict_text::verdict_ending;
 use endings::{
     Ending, Form, ProgramError, fault_line, not_continuous_text, read_program, solution_fault_line,
 };
-use lp_check::{check_pair, check_point, first_not_continuous};
-use lp_model::{Duals, Pair, Point, Program};
-use point_text::{SolError, read_pair};
+use exact_numbers::Numbers;
+use exact_texts::Textual;
+use fractions::frac::Frac;
+use lp_check::{first_not_continuous, judge_pair, judge_point};
+use lp_model::Program;
+use point_text::{PairOf, SolError, read_pair_of};
 use ray_text::is_ray;
 use std::alloc::{AllocError, Global};
+use wide_numbers::Wide;
 
-/// What is said of a point.
-fn judge_point(alloc: Global, program: &Program, point: &Point) -> Result<Ending, AllocError>
+/// What is said of a point, by numbers of a kind.
+fn judge_alone<T: Textual>(
+    alloc: Global,
+    program: &Program,
+    point: &Numbers<T>,
+) -> Result<Ending, AllocError>
     requires long { length point.now ≡ length program.now.columns }
     requires few { (length program.now.rows < 2 ^ 32) × (length program.now.columns < 2 ^ 32) }
-    ensures { (name : List ℕ) → (before now : Moment) → Reads SOLUTION_LIMIT (before.told name) (λ text. IsSolutionOf program.now text point.now None)
-        → IfOk result (λ ending. SaysSolution program.now name before now ending) }
+    ensures { (name : List ℕ) → (before now : Moment) → Reads SOLUTION_LIMIT (before.told name) (λ text. IsSolutionOf T.texts.reading program.now text point.now None)
+        → IfOk result (λ ending. SaysSolution T.room T.texts program.now name before now ending) }
 {
-    match check_point(alloc, program, point) {
+    match judge_point(alloc, program, point.as_slice()) {
         Ok(verdict) => verdict_ending(alloc, program, verdict),
         Err(error) => Err(error),
     }
 }
 
 /// What is said of a point with duals, where no column has to be whole or is semi-continuous.
-fn judge_continuous(
+fn judge_continuous<T: Textual>(
     alloc: Global,
     program: &Program,
-    point: &Point,
-    duals: &Duals,
+    point: &Numbers<T>,
+    duals: &Numbers<T>,
 ) -> Result<Ending, AllocError>
     requires long { length point.now ≡ length program.now.columns }
     requires each { length duals.now ≡ length program.now.rows }
     requires few { (length program.now.rows < 2 ^ 32) × (length program.now.columns < 2 ^ 32) }
     requires ascends { EntriesAscend program.now }
     requires continuous { Continuous (meaning program.now) }
-    ensures { (name : List ℕ) → (before now : Moment) → Reads SOLUTION_LIMIT (before.told name) (λ text. IsSolutionOf program.now text point.now (Some duals.now))
-        → IfOk result (λ ending. SaysSolution program.now name before now ending) }
+    ensures { (name : List ℕ) → (before now : Moment) → Reads SOLUTION_LIMIT (before.told name) (λ text. IsSolutionOf T.texts.reading program.now text point.now (Some duals.now))
+        → IfOk result (λ ending. SaysSolution T.room T.texts program.now name before now ending) }
 {
-    match check_pair(alloc, program, point, duals) {
+    match judge_pair(alloc, program, point.as_slice(), duals.as_slice()) {
         Ok(verdict) => pair_verdict_ending(alloc, program, verdict),
         Err(error) => Err(error),
     }
 }
 
 /// What is said of a point with duals. Where a column has to be whole or is semi-continuous, that is all that is said.
-fn judge_pair(
+fn judge_with_duals<T: Textual>(
     alloc: Global,
     program: &Program,
-    point: &Point,
-    duals: &Duals,
+    point: &Numbers<T>,
+    duals: &Numbers<T>,
 ) -> Result<Ending, AllocError>
     requires long { length point.now ≡ length program.now.columns }
     requires each { length duals.now ≡ length program.now.rows }
     requires few { (length program.now.rows < 2 ^ 32) × (length program.now.columns < 2 ^ 32) }
     requires ascends { EntriesAscend program.now }
-    ensures { (name : List ℕ) → (before now : Moment) → Reads SOLUTION_LIMIT (before.told name) (λ text. IsSolutionOf program.now text point.now (Some duals.now))
-        → IfOk result (λ ending. SaysSolution program.now name before now ending) }
+    ensures { (name : List ℕ) → (before now : Moment) → Reads SOLUTION_LIMIT (before.told name) (λ text. IsSolutionOf T.texts.reading program.now text point.now (Some duals.now))
+        → IfOk result (λ ending. SaysSolution T.room T.texts program.now name before now ending) }
 {
     match first_not_continuous(program) {
         Some(column) => Ok(Ending::Refused(not_continuous_text(alloc, program, column)?)),
@@ -80,29 +89,37 @@ fn judge_pair(
 }
 
 /// What is said of a point, with duals if there are any.
-fn judge_given(alloc: Global, program: &Program, pair: &Pair) -> Result<Ending, AllocError>
+fn judge_given<T: Textual>(
+    alloc: Global,
+    program: &Program,
+    pair: &PairOf<T>,
+) -> Result<Ending, AllocError>
     requires long { length pair.now.point ≡ length program.now.columns }
     requires each { IfSome pair.now.duals (λ duals. length duals ≡ length program.now.rows) }
     requires few { (length program.now.rows < 2 ^ 32) × (length program.now.columns < 2 ^ 32) }
     requires ascends { EntriesAscend program.now }
-    ensures { (name : List ℕ) → (before now : Moment) → Reads SOLUTION_LIMIT (before.told name) (λ text. IsSolutionOf program.now text pair.now.point pair.now.duals)
-        → IfOk result (λ ending. SaysSolution program.now name before now ending) }
+    ensures { (name : List ℕ) → (before now : Moment) → Reads SOLUTION_LIMIT (before.told name) (λ text. IsSolutionOf T.texts.reading program.now text pair.now.point pair.now.duals)
+        → IfOk result (λ ending. SaysSolution T.room T.texts program.now name before now ending) }
 {
     match &pair.duals {
-        Some(duals) => judge_pair(alloc, program, &pair.point, duals),
-        None => judge_point(alloc, program, &pair.point),
+        Some(duals) => judge_with_duals(alloc, program, &pair.point, duals),
+        None => judge_alone(alloc, program, &pair.point),
     }
 }
 
-/// What is said of a solution's text.
-fn judge_solution_text(alloc: Global, program: &Program, text: &[u8]) -> Result<Ending, AllocError>
+/// What is said of a solution's text, by numbers of a kind.
+fn judge_solution_text<T: Textual>(
+    alloc: Global,
+    program: &Program,
+    text: &[u8],
+) -> Result<Ending, AllocError>
     requires few { (length program.now.rows < 2 ^ 32) × (length program.now.columns < 2 ^ 32) }
     requires ascends { EntriesAscend program.now }
     requires starts { is_ray_text text.now ≡ false }
     ensures { (name : List ℕ) → (before now : Moment) → Finds SOLUTION_LIMIT name before now (Some text.now)
-        → IfOk result (λ ending. SaysSolution program.now name before now ending) }
+        → IfOk result (λ ending. SaysSolution T.room T.texts program.now name before now ending) }
 {
-    match read_pair(alloc, text, program) {
+    match read_pair_of::<T, Program>(alloc, text, program) {
         Ok(pair) => judge_given(alloc, program, &pair),
         Err(SolError::Fault(fault)) => {
             Ok(Ending::SolutionRefused(solution_fault_line(alloc, fault)?))
@@ -111,22 +128,27 @@ fn judge_solution_text(alloc: Global, program: &Program, text: &[u8]) -> Result<
     }
 }
 
-/// What is said of the text of a ray or of a solution: its first line that is not blank says which of the two it is.
-fn judge_text(alloc: Global, program: &Program, text: &[u8]) -> Result<Ending, AllocError>
+/// What is said of the text of a ray or of a solution, by numbers of a kind: its first line that is not blank says which of the two it
+/// is. The numbers of a ray are fractions.
+fn judge_text<T: Textual>(
+    alloc: Global,
+    program: &Program,
+    text: &[u8],
+) -> Result<Ending, AllocError>
     requires few { (length program.now.rows < 2 ^ 32) × (length program.now.columns < 2 ^ 32) }
     requires ascends { EntriesAscend program.now }
     ensures { (name : List ℕ) → (before now : Moment) → Finds SOLUTION_LIMIT name before now (Some text.now)
-        → IfOk result (λ ending. SaysSolution program.now name before now ending) }
+        → IfOk result (λ ending. SaysSolution T.room T.texts program.now name before now ending) }
 {
     if is_ray(text) {
         judge_ray_text(alloc, program, text)
     } else {
-        judge_solution_text(alloc, program, text)
+        judge_solution_text::<T>(alloc, program, text)
     }
 }
 
-/// What is said of SOL's text, none where it is longer than is read.
-fn judge_solution(
+/// What is said of SOL's text, by numbers of a kind, none where it is longer than is read.
+fn judge_solution<T: Textual>(
     alloc: Global,
     program: &Program,
     solution: Option<Vec<u8>>,
@@ -134,11 +156,30 @@ fn judge_solution(
     requires few { (length program.now.rows < 2 ^ 32) × (length program.now.columns < 2 ^ 32) }
     requires ascends { EntriesAscend program.now }
     ensures { (name : List ℕ) → (before now : Moment) → Finds SOLUTION_LIMIT name before now (option_map (λ text. text.items) solution)
-        → IfOk result (λ ending. SaysSolution program.now name before now ending) }
+        → IfOk result (λ ending. SaysSolution T.room T.texts program.now name before now ending) }
 {
     match solution {
-        Some(text) => judge_text(alloc, program, &text),
+        Some(text) => judge_text::<T>(alloc, program, &text),
         None => Ok(Ending::SolutionRefused(Vec::from_slice(alloc, b"error S6\n")?)),
+    }
+}
+
+/// What is said of SOL's text, by numbers of any width if they are asked for.
+fn judge_by_width(
+    alloc: Global,
+    program: &Program,
+    solution: Option<Vec<u8>>,
+    wide: bool,
+) -> Result<Ending, AllocError>
+    requires few { (length program.now.rows < 2 ^ 32) × (length program.now.columns < 2 ^ 32) }
+    requires ascends { EntriesAscend program.now }
+    ensures { (name : List ℕ) → (before now : Moment) → Finds SOLUTION_LIMIT name before now (option_map (λ text. text.items) solution)
+        → IfOk result (λ ending. SaysSolution (room_of wide) (texts_of wide) program.now name before now ending) }
+{
+    if wide {
+        judge_solution::<Wide>(alloc, program, solution)
+    } else {
+        judge_solution::<Frac>(alloc, program, solution)
     }
 }
 
@@ -148,9 +189,10 @@ pub fn judge(
     input: Option<Vec<u8>>,
     solution: Option<Vec<u8>>,
     form: Form,
+    wide: bool,
 ) -> Result<Ending, AllocError>
     requires { IfSome input (λ text. length text.items ≤ INPUT_LIMIT) }
-    ensures { (names : CheckNames) → (before now : Moment) → form ≡ check_form names
+    ensures { (names : CheckNames) → (before now : Moment) → form ≡ check_form names → wide ≡ names.wide
         → Finds INPUT_LIMIT names.input before now (option_map (λ text. text.items) input)
         → Finds SOLUTION_LIMIT names.solution before now (option_map (λ text. text.items) solution)
         → IfOk result (λ ending. SaysCheck names (status_of ending) (text_of ending) before now) }
@@ -159,7 +201,7 @@ pub fn judge(
         return Ok(Ending::Refused(Vec::from_slice(alloc, b"error M17\n")?));
     };
     match read_program(alloc, &text, form) {
-        Ok(program) => judge_solution(alloc, &program, solution),
+        Ok(program) => judge_by_width(alloc, &program, solution, wide),
         Err(ProgramError::Fault(fault)) => Ok(Ending::Refused(fault_line(alloc, fault)?)),
         Err(ProgramError::NoMemory) => Err(AllocError),
     }

@@ -2,11 +2,12 @@
 
 ghost use Rattle.std.specs.Prelude.{◌≡◌, ◌++◌, OnOk, IfOk};
 ghost use Rattle.check_command.specs.VerdictText.{end_text, no_dual_text, no_reduced_cost_text};
+ghost use Rattle.lp_check.specs.Numbered.{numbered_found, numbered_pair};
 ghost use Rattle.check_command.specs.Checked.{TellsPairVerdict};
 
 use crate::verdict_text::{past_text, push_row, verdict_ending};
 use endings::{Ending, push_column};
-use fractions::frac::Frac;
+use exact_texts::Textual;
 use lp_check::{End, Item, Misplaced, PairVerdict};
 use lp_model::Program;
 use std::alloc::{AllocError, Global};
@@ -27,42 +28,42 @@ fn push_end(out: &mut Vec<u8>, end: End) -> Result<(), AllocError>
     }
 }
 
-fn no_dual_text(
+fn no_dual_text<T: Textual>(
     alloc: Global,
     program: &Program,
     row: u32,
-    found: &Misplaced<Frac>,
+    found: &Misplaced<T>,
 ) -> Result<Vec<u8>, AllocError>
-    ensures { IfOk result (λ text. text.items ≡ no_dual_text program.now row found.now) }
+    ensures { IfOk result (λ text. text.items ≡ no_dual_text T.texts.writing program.now row (numbered_found T.number found.now)) }
 {
     let mut text = Vec::new(alloc);
     text.extend_from_slice(b"no dual ")?;
     push_row(&mut text, program, row)?;
     text.extend_from_slice(b" y ")?;
-    number_texts::push(&mut text, &found.multiplier)?;
+    found.multiplier.push(alloc, &mut text)?;
     text.extend_from_slice(b" value ")?;
-    number_texts::push(&mut text, &found.value)?;
+    found.value.push(alloc, &mut text)?;
     text.extend_from_slice(b" side ")?;
     push_end(&mut text, found.end)?;
     text.push(b'\n')?;
     Ok(text)
 }
 
-fn no_reduced_cost_text(
+fn no_reduced_cost_text<T: Textual>(
     alloc: Global,
     program: &Program,
     column: u32,
-    found: &Misplaced<Frac>,
+    found: &Misplaced<T>,
 ) -> Result<Vec<u8>, AllocError>
-    ensures { IfOk result (λ text. text.items ≡ no_reduced_cost_text program.now column found.now) }
+    ensures { IfOk result (λ text. text.items ≡ no_reduced_cost_text T.texts.writing program.now column (numbered_found T.number found.now)) }
 {
     let mut text = Vec::new(alloc);
     text.extend_from_slice(b"no reduced cost ")?;
     push_column(&mut text, program, column)?;
     text.extend_from_slice(b" z ")?;
-    number_texts::push(&mut text, &found.multiplier)?;
+    found.multiplier.push(alloc, &mut text)?;
     text.extend_from_slice(b" value ")?;
-    number_texts::push(&mut text, &found.value)?;
+    found.value.push(alloc, &mut text)?;
     text.extend_from_slice(b" bound ")?;
     push_end(&mut text, found.end)?;
     text.push(b'\n')?;
@@ -70,12 +71,12 @@ fn no_reduced_cost_text(
 }
 
 /// The ending of a check of a point with duals with this verdict.
-pub fn pair_verdict_ending(
+pub fn pair_verdict_ending<T: Textual>(
     alloc: Global,
     program: &Program,
-    verdict: PairVerdict<Frac>,
+    verdict: PairVerdict<T>,
 ) -> Result<Ending, AllocError>
-    ensures { IfOk result (λ ending. TellsPairVerdict program.now verdict ending) }
+    ensures { IfOk result (λ ending. TellsPairVerdict T.texts.writing program.now (numbered_pair T.number verdict) ending) }
 {
     match verdict {
         PairVerdict::OnPoint(verdict) => verdict_ending(alloc, program, verdict),

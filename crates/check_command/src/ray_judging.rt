@@ -10,7 +10,7 @@ ghost use Rattle.lp_model.specs.Writable.{EntriesAscend};
 ghost use Rattle.lp_rays.specs.RayData.{IsSized};
 ghost use Rattle.ray_text.specs.RayLines.{is_ray_text};
 ghost use Rattle.check_command.specs.GivenTexts.{IsRayOf};
-ghost use Rattle.check_command.specs.Checked.{SaysSolution};
+ghost use Rattle.check_command.specs.JudgedRay.{SaysRay};
 
 use crate::ray_verdict_text::ray_verdict_ending;
 use endings::{Ending, not_continuous_text, solution_fault_line};
@@ -29,7 +29,7 @@ fn judge_continuous_ray(alloc: Global, program: &Program, ray: &Ray) -> Result<E
     requires ascends { EntriesAscend program.now }
     requires continuous { Continuous (meaning program.now) }
     ensures { (name : List ℕ) → (before now : Moment) → Reads SOLUTION_LIMIT (before.told name) (λ text. IsRayOf program.now text ray.now)
-        → IfOk result (λ ending. SaysSolution program.now name before now ending) }
+        → IfOk result (λ ending. SaysRay program.now name before now ending) }
 {
     ray_verdict_ending(alloc, program, check_ray(program, ray))
 }
@@ -40,7 +40,7 @@ fn judge_ray(alloc: Global, program: &Program, ray: &Ray) -> Result<Ending, Allo
     requires few { (length program.now.rows < 2 ^ 32) × (length program.now.columns < 2 ^ 32) }
     requires ascends { EntriesAscend program.now }
     ensures { (name : List ℕ) → (before now : Moment) → Reads SOLUTION_LIMIT (before.told name) (λ text. IsRayOf program.now text ray.now)
-        → IfOk result (λ ending. SaysSolution program.now name before now ending) }
+        → IfOk result (λ ending. SaysRay program.now name before now ending) }
 {
     match first_not_continuous(program) {
         Some(column) => Ok(Ending::Refused(not_continuous_text(alloc, program, column)?)),
@@ -54,7 +54,7 @@ pub fn judge_ray_text(alloc: Global, program: &Program, text: &[u8]) -> Result<E
     requires ascends { EntriesAscend program.now }
     requires starts { is_ray_text text.now ≡ true }
     ensures { (name : List ℕ) → (before now : Moment) → Finds SOLUTION_LIMIT name before now (Some text.now)
-        → IfOk result (λ ending. SaysSolution program.now name before now ending) }
+        → IfOk result (λ ending. SaysRay program.now name before now ending) }
 {
     match read_ray(alloc, text, program) {
         Ok(ray) => judge_ray(alloc, program, &ray),

@@ -2,10 +2,11 @@
 
 ghost use Rattle.std.specs.Prelude.{◌≡◌, ◌++◌, OnOk, IfOk};
 ghost use Rattle.check_command.specs.VerdictText.{row_text, item_text, limit_text, yes_text, no_text, past_text};
+ghost use Rattle.lp_check.specs.Numbered.{numbered};
 ghost use Rattle.check_command.specs.Checked.{TellsVerdict};
 
 use endings::{Ending, push_column};
-use fractions::frac::Frac;
+use exact_texts::Textual;
 use lp_check::{Item, Limit, Verdict};
 use lp_model::{Labels, Program};
 use std::alloc::{AllocError, Global};
@@ -54,30 +55,30 @@ fn push_limit(out: &mut Vec<u8>, limit: Limit) -> Result<(), AllocError>
     }
 }
 
-fn yes_text(alloc: Global, cost: &Frac) -> Result<Vec<u8>, AllocError>
-    ensures { IfOk result (λ text. text.items ≡ yes_text cost.now) }
+fn yes_text<T: Textual>(alloc: Global, cost: &T) -> Result<Vec<u8>, AllocError>
+    ensures { IfOk result (λ text. text.items ≡ yes_text T.texts.writing (T.number cost.now)) }
 {
     let mut text = Vec::new(alloc);
     text.extend_from_slice(b"yes cost ")?;
-    number_texts::push(&mut text, cost)?;
+    cost.push(alloc, &mut text)?;
     text.push(b'\n')?;
     Ok(text)
 }
 
-fn no_text(
+fn no_text<T: Textual>(
     alloc: Global,
     program: &Program,
     item: Item,
-    value: &Frac,
+    value: &T,
     limit: Limit,
 ) -> Result<Vec<u8>, AllocError>
-    ensures { IfOk result (λ text. text.items ≡ no_text program.now item value.now limit) }
+    ensures { IfOk result (λ text. text.items ≡ no_text T.texts.writing program.now item (T.number value.now) limit) }
 {
     let mut text = Vec::new(alloc);
     text.extend_from_slice(b"no ")?;
     push_item(&mut text, program, item)?;
     text.extend_from_slice(b" value ")?;
-    number_texts::push(&mut text, value)?;
+    value.push(alloc, &mut text)?;
     push_limit(&mut text, limit)?;
     text.push(b'\n')?;
     Ok(text)
@@ -94,12 +95,12 @@ pub fn past_text(alloc: Global, program: &Program, item: Item) -> Result<Vec<u8>
 }
 
 /// The ending of a check with this verdict.
-pub fn verdict_ending(
+pub fn verdict_ending<T: Textual>(
     alloc: Global,
     program: &Program,
-    verdict: Verdict<Frac>,
+    verdict: Verdict<T>,
 ) -> Result<Ending, AllocError>
-    ensures { IfOk result (λ ending. TellsVerdict program.now verdict ending) }
+    ensures { IfOk result (λ ending. TellsVerdict T.texts.writing program.now (numbered T.number verdict) ending) }
 {
     match verdict {
         Verdict::Yes { cost } => Ok(Ending::Done(yes_text(alloc, &cost)?)),

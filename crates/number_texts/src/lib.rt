@@ -6,7 +6,7 @@
 //! value: nothing is rounded.
 #![tactic(auto)]
 
-mod decimal_form;
+pub mod decimal_form;
 mod display;
 pub mod form;
 pub mod laws;

@@ -9,3 +9,4 @@ mod Unbroken
 mod Silence
 mod PairGoing
 mod PairAgain
+mod Lines

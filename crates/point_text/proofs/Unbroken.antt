@@ -1,7 +1,6 @@
 -- Names and numbers without breaks.
 use Rattle.std.proofs.Common.{◌≡◌, ◌≢◌, ℕ, ◌<◌, ◌==◌, ◌||◌, not, List, [], ◌∷◌, length, Bool, true, false, refl, sym, arith}
-use Rattle.std.specs.Prelude.{All, Ok, Err}
-use Rattle.std.specs.Char.{is_ascii_digit}
+use Rattle.std.specs.Prelude.{All}
 use Rattle.std.specs.Str.{bytes_eq}
 use Rattle.std.specs.List.{list_all}
 use Rattle.std.proofs.lemmas.Bool.{or_parts}
@@ -9,27 +8,14 @@ use Rattle.std.proofs.lemmas.Bool.Decides.{nat_tests}
 use Rattle.std.proofs.lemmas.List.Elements.{All-nil, All-cons, All-weaker}
 use Rattle.std.proofs.lemmas.Slice.Eq.{bytes_eq-Decides}
 use Rattle.fractions.specs.Number.{Number}
-use Rattle.fractions.specs.Lowest.{Fits}
-use Rattle.fractions.specs.declared.Numbers.TheVariants.{Fractions}
-use Rattle.number_texts.specs.Form.{terms_of}
-use Rattle.number_texts.specs.Read.{read_decimal, read_of}
-use Rattle.number_texts.specs.Written.{written}
-use Rattle.number_texts.specs.declared.reading.ReadNumber.TheVariants.{NotNumber}
-use Rattle.number_texts.proofs.Again.{read-written}
 use Rattle.number_texts.proofs.Cutting.{both_true}
-use Rattle.number_texts.proofs.Marks.{IsMark, written-marks}
+use Rattle.exact_texts.specs.Texts.{Texts, ReadsAgain, IsField}
 use Rattle.mps_profile.specs.Texts.{Text}
 use Rattle.mps_profile.specs.Fields.{is_blank}
 use Rattle.point_text.specs.PlainNames.{is_break}
 
 abbrev pub Unbroken : Text → Type 0
 Unbroken text = All (λ b. is_break b ≡ false) text
-
-digit_unbroken : (c : ℕ) → is_ascii_digit c ≡ true → not (is_break c) ≡ true
-digit_unbroken c h = grind (arith, nat_tests)
-
-break_mark : IsMark is_break
-break_mark = record { digit = digit_unbroken; minus = refl; point = refl; slash = refl }
 
 not_true : (b : Bool) → not b ≡ true → b ≡ false
 not_true true is = sym is
@@ -41,8 +27,19 @@ each_unbroken (x ∷ xs) all =
     let parts = both_true (not (is_break x)) (list_all (λ b. not (is_break b)) xs) all in
     All-cons (λ b. is_break b ≡ false) x xs (not_true (is_break x) parts.0) (each_unbroken xs parts.1)
 
-pub number_unbroken : (q : Number) → Fits q → Unbroken (written q)
-number_unbroken q fits = each_unbroken (written q) (written-marks is_break break_mark q fits)
+-- what is written of a short number is a field, and is read again
+pub record Returns (t : Texts) : Type 0 where
+  pub again : ReadsAgain t
+  pub field : IsField t
+
+no_break : (b : ℕ) → 32 < b → not (is_break b) ≡ true
+no_break b h = grind (arith, nat_tests)
+
+pub number_unbroken : (t : Texts) → Returns t → (q : Number) → t.IsShort q → Unbroken (t.writing q)
+number_unbroken t k q short = All-weaker (λ b. 32 < b) (λ b. is_break b ≡ false) (λ b h. not_true (is_break b) (no_break b h)) (t.writing q) (k.field q short).1
+
+pub number_filled : (t : Texts) → Returns t → (q : Number) → t.IsShort q → 0 < length (t.writing q)
+number_filled t k q short = (k.field q short).0
 
 -- what is unbroken has no blank, no line feed and no carriage return
 no_parts : (b : ℕ) → is_break b ≡ false → (is_blank b ≡ false) × ((b == 10) ≡ false) × ((b == 13) ≡ false)
@@ -59,21 +56,6 @@ no_feeds text all = All-weaker (λ b. is_break b ≡ false) (λ b. (b == 10) ≡
 
 pub no_returns : (text : Text) → Unbroken text → All (λ b. (b == 13) ≡ false) text
 no_returns text all = All-weaker (λ b. is_break b ≡ false) (λ b. (b == 13) ≡ false) (λ b is. (no_parts b is).2) text all
-
--- what is written is read
-pub written_again : (q : Number) → Fits q → read_of Fractions (written q) ≡ Ok q
-written_again q fits = read-written Fractions q fits refl
-
-no_number : read_of Fractions [] ≡ Err NotNumber
-unfolding read_of read_decimal terms_of
-no_number = refl
-
-filled_by : (text : Text) (q : Number) → read_of Fractions text ≡ Ok q → 0 < length text
-filled_by [] q is = let none = no_number in cc
-filled_by (b ∷ bytes) q is = omega arith
-
-pub number_filled : (q : Number) → Fits q → 0 < length (written q)
-number_filled q fits = filled_by (written q) q (written_again q fits)
 
 differ_by : (name other : Text) (b : Bool) → name ≢ other → bytes_eq name other ≡ b → b ≡ false
 differ_by name other true apart is = absurd (apart ((bytes_eq-Decides name other).0 is))

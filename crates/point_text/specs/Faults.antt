@@ -1,14 +1,13 @@
 -- The faults of lines, each by the lines before it, of which the nearest stands first.
 use Rattle.std.specs.Prelude.{ℕ, Bool, true, false, List, [], ◌∷◌, Option, Some, None, Result, Ok, Err, is_some, is_none, if◌then◌else◌}
 use Rattle.fractions.specs.Number.{Number}
-use Rattle.fractions.specs.declared.Numbers.TheVariants.{Fractions}
 use Rattle.names.specs.Names.{place}
-use Rattle.number_texts.specs.Read.{read_of}
 use Rattle.number_texts.specs.declared.reading.ReadNumber.{ReadNumber}
 use Rattle.number_texts.specs.declared.reading.ReadNumber as reasons
+use Rattle.exact_texts.specs.Texts.{Reading}
 use Rattle.mps_profile.specs.Texts.{Text}
 use Rattle.point_text.specs.SolutionLines.{Line, Silent, Gives, Odd}
-use Rattle.point_text.specs.Values.{value_named}
+use Rattle.point_text.specs.Values.{value_named_by}
 use Rattle.point_text.specs.declared.faults.SolFaultKind.{SolFaultKind}
 use Rattle.point_text.specs.declared.faults.SolFaultKind.TheVariants.{BadLine, UnknownName, TwiceNamed, NumberPast, BadNumber}
 
@@ -34,7 +33,7 @@ is_past (Err reasons.TheVariants.NotNumber) = false
 is_past (Err reasons.TheVariants.NumberPast) = true
 
 -- the number that was read, or the fault of its line
-abbrev pub number_result : Result Number ReadNumber → Result Number SolFaultKind
+abbrev pub number_result : {A : Type 0} → Result A ReadNumber → Result A SolFaultKind
 number_result (Ok value) = Ok value
 number_result (Err reasons.TheVariants.NotNumber) = Err BadNumber
 number_result (Err reasons.TheVariants.NumberPast) = Err NumberPast
@@ -44,10 +43,10 @@ abbrev pub first_of : List (Bool × SolFaultKind) → Option SolFaultKind
 first_of [] = None
 first_of ((holds, fault) ∷ more) = if holds then Some fault else first_of more
 
--- the fault of a line: the first of the table, which is in the order of the numbers
-abbrev pub line_fault : List Text → List Line → Line → Option SolFaultKind
-line_fault names before Silent = None
-line_fault names before (Gives name number) = first_of (
-    (is_unknown names name, UnknownName) ∷ (is_some (value_named before name), TwiceNamed)
-    ∷ (is_past (read_of Fractions number), NumberPast) ∷ (is_bad (read_of Fractions number), BadNumber) ∷ [])
-line_fault names before Odd = Some BadLine
+-- the fault of a line, by what texts of numbers mean: the first of the table, which is in the order of the numbers
+abbrev pub line_fault_by : Reading → List Text → List Line → Line → Option SolFaultKind
+line_fault_by r names before Silent = None
+line_fault_by r names before (Gives name number) = first_of (
+    (is_unknown names name, UnknownName) ∷ (is_some (value_named_by r before name), TwiceNamed)
+    ∷ (is_past (r number), NumberPast) ∷ (is_bad (r number), BadNumber) ∷ [])
+line_fault_by r names before Odd = Some BadLine

@@ -1,13 +1,17 @@
 //! The reading of a solution with duals.
 
-ghost use Rattle.std.specs.Prelude.{◌≡◌, ◌+◌, ◌<◌, ◌^◌, length, []};
-ghost use Rattle.point_text.specs.Holding.{Holds};
-ghost use Rattle.point_text.specs.PairReading.{TookColumns, AreColumnsRead, AreDualsRead, IsPairRead};
+ghost use Rattle.std.specs.Prelude.{◌≡◌, ◌+◌, ◌<◌, ◌^◌, length, [], All, IfOk, IfSome};
+ghost use Rattle.point_text.specs.Holding.{held, Holds};
+ghost use Rattle.point_text.specs.PairReading.{TookColumns, AreColumnsRead, AreDualsRead, IsPairRead, IsPairReadBy};
 
 use crate::faults::SolError;
+use crate::pairs::PairOf;
 use crate::reading::take_lines;
 use crate::solution_lines::split_pair_line;
 use crate::values::Values;
+use exact_numbers::{Exact, Numbers};
+use exact_texts::Textual;
+use fractions::frac::Frac;
 use lp_model::{Duals, Labels, Pair, Point};
 use std::alloc::Global;
 use text_lines::{Fault, first_line};
@@ -22,20 +26,20 @@ pub struct DualPart<'a> {
 
 /// What the lines of columns give, and what follows them, if there is a line of the duals.
 #[derive(Drop)]
-pub struct ColumnPart<'a> {
-    pub point: Point,
+pub struct ColumnPart<'a, T: Exact> {
+    pub point: Numbers<T>,
     pub duals: Option<DualPart<'a>>,
 }
 
 /// Takes in the lines of a text up to the line of the duals, and says what follows this line.
-fn take_column_lines<'a>(
+fn take_column_lines<'a, T: Textual>(
     alloc: Global,
-    values: &mut Values,
+    values: &mut Values<T>,
     text: &'a [u8],
 ) -> Result<Option<DualPart<'a>>, SolError>
     requires len { length values.old.numbers.items ≡ length values.old.table }
-    requires holds { Holds [] values.old }
-    ensures took { TookColumns values.old.table text.now result values.new }
+    requires holds { Holds T.texts.reading [] (held T.number values.old) }
+    ensures took { TookColumns T.texts.reading values.old.table text.now result (held T.number values.new) }
     ensures len { length values.new.numbers.items ≡ length values.new.table }
     ensures table { values.new.table ≡ values.old.table }
 {
@@ -51,7 +55,7 @@ fn take_column_lines<'a>(
                 line: line_number,
             }));
         };
-        if let Err(kind) = values.take_line(said) {
+        if let Err(kind) = values.take_line(alloc, said)? {
             return Err(SolError::Fault(Fault {
                 kind,
                 line: line_number,
@@ -63,12 +67,13 @@ fn take_column_lines<'a>(
 }
 
 /// The point of the lines of columns, and what follows them.
-fn read_columns<'a, L: Labels>(
+fn read_columns<'a, T: Textual, L: Labels>(
     alloc: Global,
     text: &'a [u8],
     labels: &L,
-) -> Result<ColumnPart<'a>, SolError>
-    ensures { AreColumnsRead (L.column_names labels.now) text.now result }
+) -> Result<ColumnPart<'a, T>, SolError>
+    ensures read { AreColumnsRead T.texts.reading (L.column_names labels.now) text.now result }
+    ensures kept { IfOk result (λ part. All T.room.number part.point) }
 {
     let mut values = Values::new(alloc, labels)?;
     match take_column_lines(alloc, &mut values, text) {
@@ -81,14 +86,15 @@ fn read_columns<'a, L: Labels>(
 }
 
 /// The duals of a text that follows so many lines.
-fn read_duals<L: Labels>(
+fn read_duals<T: Textual, L: Labels>(
     alloc: Global,
     text: &[u8],
     lines_before: u64,
     labels: &L,
-) -> Result<Duals, SolError>
+) -> Result<Numbers<T>, SolError>
     requires { lines_before + length text.now < 2 ^ 64 }
-    ensures { AreDualsRead (L.row_names labels.now) lines_before text.now result }
+    ensures read { AreDualsRead T.texts.reading (L.row_names labels.now) lines_before text.now result }
+    ensures kept { IfOk result (λ duals. All T.room.number duals) }
 {
     let mut values = Values::of_rows(alloc, labels)?;
     match take_lines(alloc, &mut values, text, lines_before) {
@@ -97,12 +103,41 @@ fn read_duals<L: Labels>(
     }
 }
 
-/// The point that a text gives, and its duals if it has the line of the duals, `=duals=` alone: the
-/// lines before it give values to columns, those after it give duals to rows. A column or a row
-/// that no line names has 0.
+/// The point that a text gives, and its duals if it has the line of the duals, `=duals=` alone, in exact numbers of a kind: the lines before it
+/// give values to columns, those after it give duals to rows. A column or a row that no line names has 0.
 ///
-/// A line is a name and a number with spaces or tabs between them. Blank lines count for nothing,
-/// and so does a line whose name is `=obj=`. Numbers are read exactly, fractions among them.
+/// A line is a name and a number with spaces or tabs between them. Blank lines count for nothing, and so does a line whose name is `=obj=`.
+/// Numbers are read exactly, fractions among them, as the kind reads them.
+///
+/// # Errors
+/// [`SolError::Fault`] exactly where a line has a fault: the first such line, and its fault with
+/// the lowest number; a second line of the duals has not two fields.
+/// [`SolError::NoMemory`] where memory is short.
+pub fn read_pair_of<T: Textual, L: Labels>(
+    alloc: Global,
+    bytes: &[u8],
+    labels: &L,
+) -> Result<PairOf<T>, SolError>
+    ensures read { IsPairReadBy T.texts.reading (L.column_names labels.now) (L.row_names labels.now) bytes.now result }
+    ensures point_kept { IfOk result (λ pair. All T.room.number pair.point) }
+    ensures duals_kept { IfOk result (λ pair. IfSome pair.duals (λ duals. All T.room.number duals)) }
+{
+    match read_columns(alloc, bytes, labels) {
+        Ok(ColumnPart { point, duals }) => match duals {
+            Some(part) => match read_duals(alloc, part.text, part.line, labels) {
+                Ok(duals) => Ok(PairOf {
+                    point,
+                    duals: Some(duals),
+                }),
+                Err(error) => Err(error),
+            },
+            None => Ok(PairOf { point, duals: None }),
+        },
+        Err(error) => Err(error),
+    }
+}
+
+/// The point that a text gives, and its duals if it has the line of the duals, in fractions, as [`read_pair_of`] reads them.
 ///
 /// # Errors
 /// [`SolError::Fault`] exactly where a line has a fault: the first such line, and its fault with
@@ -111,17 +146,18 @@ fn read_duals<L: Labels>(
 pub fn read_pair<L: Labels>(alloc: Global, bytes: &[u8], labels: &L) -> Result<Pair, SolError>
     ensures { IsPairRead (L.column_names labels.now) (L.row_names labels.now) bytes.now result }
 {
-    match read_columns(alloc, bytes, labels) {
-        Ok(ColumnPart { point, duals }) => match duals {
-            Some(part) => match read_duals(alloc, part.text, part.line, labels) {
-                Ok(duals) => Ok(Pair {
-                    point,
-                    duals: Some(duals),
-                }),
-                Err(error) => Err(error),
-            },
-            None => Ok(Pair { point, duals: None }),
-        },
+    let read: Result<PairOf<Frac>, SolError> = read_pair_of(alloc, bytes, labels);
+    match read {
+        Ok(PairOf { point, duals }) => {
+            let duals = match duals {
+                Some(duals) => Some(Duals::new(duals.into_fractions())),
+                None => None,
+            };
+            Ok(Pair {
+                point: Point::new(point.into_fractions()),
+                duals,
+            })
+        }
         Err(error) => Err(error),
     }
 }

@@ -1,2 +1,4 @@
 mod Columns
+mod Rooms
 mod Brought
+mod AnyWidth

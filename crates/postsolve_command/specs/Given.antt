@@ -2,7 +2,8 @@
 use Rattle.std.specs.Prelude.{◌≡◌, ℕ, true, false, List, [], ◌∷◌, ◌++◌, codes, Option, Some, None, Result, Ok, Err}
 use Rattle.fractions.specs.Number.{Number}
 use Rattle.lp_model.specs.ProgramData.{ProgramData}
-use Rattle.lp_model.specs.declared.point.Pair.{Pair}
+use Rattle.exact_texts.specs.Texts.{Reading}
+use Rattle.point_text.specs.declared.pairs.PairOf.{PairOf}
 use Rattle.text_lines.specs.declared.fault.Fault.{Fault}
 use Rattle.point_text.specs.declared.faults.SolFaultKind.{SolFaultKind}
 use Rattle.record_reader.specs.Matching.{Matches}
@@ -12,7 +13,7 @@ use Rattle.endings.specs.declared.forms.ProgramFault.{ProgramFault}
 use Rattle.endings.specs.Forms.{fractions_form}
 use Rattle.endings.specs.Moments.{IfFound}
 use Rattle.endings.specs.ProgramTexts.{IsFaultOf, IsProgramOf, fault_text}
-use Rattle.endings.specs.SolutionTexts.{IsPairOf, fault_of, solution_fault_text}
+use Rattle.endings.specs.SolutionTexts.{IsPairBy, fault_by, solution_fault_text}
 use Rattle.record_texts.specs.declared.no_records.NoRecords.{NoRecords}
 use Rattle.record_texts.specs.declared.no_records.NoRecords.TheVariants as no_records
 use Rattle.postsolve_command.specs.declared.refusal.Refusal.{Refusal}
@@ -49,17 +50,21 @@ abbrev pub Fitting : {T : Type 0} → Postsolve → ProgramData → Result T Ref
 Fitting records program (Ok done) = Matches records program
 Fitting records program (Err refusal) = FaultsMatch records program refusal
 
-abbrev pub FaultsSolution : ProgramData → Option (List ℕ) → List ℕ → Type 0
-FaultsSolution program None said = said ≡ codes "error S6" ++ 10 ∷ []
-FaultsSolution program (Some text) said =
-    (fault : Fault SolFaultKind) × (fault_of program text ≡ Some (fault.kind, fault.line)) × (said ≡ solution_fault_text fault)
+abbrev pub FaultsSolution : Reading → ProgramData → Option (List ℕ) → List ℕ → Type 0
+FaultsSolution r program None said = said ≡ codes "error S6" ++ 10 ∷ []
+FaultsSolution r program (Some text) said =
+    (fault : Fault SolFaultKind) × (fault_by r program text ≡ Some (fault.kind, fault.line)) × (said ≡ solution_fault_text fault)
+
+-- the line that refuses the solution
+abbrev pub FaultsPair : Reading → ProgramData → Option (List ℕ) → Refusal → Type 0
+FaultsPair r program found (Solution line) = FaultsSolution r program found line.items
+FaultsPair r program found NoMemory = Unit {0}
+FaultsPair r program found other = ⊥
 
 -- the point and the duals, or the line that refuses the solution
-abbrev pub GivesPair : ProgramData → Option (List ℕ) → Result Pair Refusal → Type 0
-GivesPair program found (Ok pair) = IfFound found (λ text. IsPairOf program text pair.point pair.duals)
-GivesPair program found (Err (Solution line)) = FaultsSolution program found line.items
-GivesPair program found (Err NoMemory) = Unit {0}
-GivesPair program found (Err other) = ⊥
+abbrev pub GivesPair : {A B : Type 0} → Reading → ProgramData → Option (List ℕ) → Result (PairOf A B) Refusal → Type 0
+GivesPair r program found (Ok pair) = IfFound found (λ text. IsPairBy r program text pair.point pair.duals)
+GivesPair r program found (Err refusal) = FaultsPair r program found refusal
 
 -- the records undo duals, where there are any
 abbrev pub UndoesThem : Postsolve → Option (List Number) → Type 0

@@ -1,20 +1,23 @@
 -- What an ending of a postsolve says of the files before and after it.
-use Rattle.std.specs.Prelude.{◌≡◌, ◌≢◌, ◌⊎◌, ◌==◌, ℕ, List, [], ◌∷◌, ◌++◌, codes, Option, option_map, Result, Ok, Err}
+use Rattle.std.specs.Prelude.{◌≡◌, true, ◌≢◌, ◌⊎◌, ◌==◌, ℕ, List, [], ◌∷◌, ◌++◌, codes, Option, option_map, Result, Ok, Err}
 use Rattle.fractions.specs.Number.{Number}
+use Rattle.fractions.specs.Room.{Room}
 use Rattle.file_ports.specs.Ports.{Moment, Unsettled, KeepsOthers, Written}
 use Rattle.command_words.specs.Names.{PostsolveNames}
 use Rattle.lp_model.specs.ProgramData.{ProgramData}
 use Rattle.undo_records.specs.Postsolve.{Postsolve}
 use Rattle.record_reader.specs.Matching.{Matches}
 use Rattle.endings.specs.Ending.{When, no_memory_line, read_fault_line, write_fault_line}
-use Rattle.endings.specs.Moments.{FailsToRead, FailsToWrite, Finds, IsQuiet, IsThere, Reads}
+use Rattle.endings.specs.Moments.{FailsToRead, FailsToWrite, Finds, IfFound, IsQuiet, IsThere, Reads}
 use Rattle.endings.specs.ProgramTexts.{IsProgramOf, SaysFaultOf}
-use Rattle.endings.specs.SolutionTexts.{IsPairOf, SaysPairFault}
+use Rattle.endings.specs.SolutionTexts.{IsPairBy, SaysPairFaultBy}
+use Rattle.exact_texts.specs.Texts.{Texts as Readable}
+use Rattle.exact_texts.specs.Kinds.{room_of, texts_of}
 use Rattle.endings.specs.declared.reads.TheConstants.{SOLUTION_LIMIT}
 use Rattle.record_texts.specs.RecordTexts.{AreRecordsOf, SaysRecordFault}
 use Rattle.record_texts.specs.declared.reading.TheConstants.{RECORDS_LIMIT}
 use Rattle.postsolve_command.specs.Lifted.{AreTexts, Stops}
-use Rattle.postsolve_command.specs.Given.{LeavesThem, UndoesThem, reduced_form}
+use Rattle.postsolve_command.specs.Given.{FaultsSolution, LeavesThem, UndoesThem, reduced_form}
 use Rattle.postsolve_command.specs.declared.given.TheConstants.{PROGRAM_LIMIT}
 use Rattle.postsolve_command.specs.declared.given.Found.{Found}
 use Rattle.postsolve_command.specs.declared.lifted.Texts.{Texts}
@@ -37,7 +40,7 @@ AreRecordsIn names before records = Reads RECORDS_LIMIT (before.told names.recor
 
 -- SOL has no fault, and this is its point for a program, with these duals, if it has duals
 abbrev pub IsPairIn : PostsolveNames → Moment → ProgramData → List Number → Option (List Number) → Type 0
-IsPairIn names before program point duals = Reads SOLUTION_LIMIT (before.told names.solution) (λ text. IsPairOf program text point duals)
+IsPairIn names before program point duals = Reads SOLUTION_LIMIT (before.told names.solution) (λ text. IsPairBy (texts_of names.wide).reading program text point duals)
 
 -- OUT and REC have no fault, and the records are those of the program
 pub record AreMatched (names : PostsolveNames) (before : Moment) (program : ProgramData) (records : Postsolve) : Type 0 where
@@ -62,7 +65,7 @@ pub record AreLifted (names : PostsolveNames) (result printed : List ℕ) (befor
   pub point : List Number
   pub duals : Option (List Number)
   pub given : AreGiven names before program records point duals
-  pub texts : AreTexts records program point duals result printed
+  pub texts : AreTexts (room_of names.wide) (texts_of names.wide).writing records program point duals result printed
 
 -- SOL's point, with its duals, can't be brought back, and the record at which the lift stops is named, or the column whose reduced
 -- cost has no room
@@ -72,7 +75,7 @@ pub record IsStopped (names : PostsolveNames) (said : List ℕ) (before : Moment
   pub point : List Number
   pub duals : Option (List Number)
   pub given : AreGiven names before program records point duals
-  pub stops : Stops records program point duals said
+  pub stops : Stops (room_of names.wide) records program point duals said
 
 -- this is said of OUT's text
 abbrev pub RefusesProgram : PostsolveNames → List ℕ → Moment → Moment → Type 0
@@ -101,7 +104,39 @@ RefusesRecords names said before now = RefusesTexts names said before now ⊎ Re
 -- OUT and REC have no fault and go together, and this is said of SOL's text
 abbrev pub RefusesPoint : PostsolveNames → List ℕ → Moment → Moment → Type 0
 RefusesPoint names said before now = (program : ProgramData) × (records : Postsolve) × AreMatched names before program records
-    × SaysPairFault program names.solution said before now
+    × SaysPairFaultBy (texts_of names.wide).reading program names.solution said before now
+
+-- what SOL's text gives by a program and its records, in numbers with this room and these texts
+pub record GivesLift (m : Room) (t : Readable) (program : ProgramData) (records : Postsolve) (found : Option (List ℕ)) (texts : Texts) : Type 0 where
+  pub point : List Number
+  pub duals : Option (List Number)
+  pub pair_text : IfFound found (λ text. IsPairBy t.reading program text point duals)
+  pub undoes : UndoesThem records duals
+  pub lifts : AreTexts m t.writing records program point duals texts.result.items texts.printed.items
+
+-- it can't be brought back; or it has duals that the records don't undo
+pub record StopsLift (m : Room) (t : Readable) (program : ProgramData) (records : Postsolve) (found : Option (List ℕ)) (said : List ℕ) : Type 0 where
+  pub point : List Number
+  pub duals : Option (List Number)
+  pub pair_text : IfFound found (λ text. IsPairBy t.reading program text point duals)
+  pub undoes : UndoesThem records duals
+  pub stops : Stops m records program point duals said
+
+pub record LeavesDuals (t : Readable) (program : ProgramData) (records : Postsolve) (found : Option (List ℕ)) (said : List ℕ) : Type 0 where
+  pub point : List Number
+  pub duals : Option (List Number)
+  pub pair_text : IfFound found (λ text. IsPairBy t.reading program text point duals)
+  pub leaves : LeavesThem records duals
+  pub says : said ≡ codes "error F7" ++ 10 ∷ []
+
+-- what is made of SOL's text by a program and its records
+abbrev pub BringsBack : Room → Readable → ProgramData → Postsolve → Option (List ℕ) → Result Texts Refusal → Type 0
+BringsBack m t program records found (Ok texts) = GivesLift m t program records found texts
+BringsBack m t program records found (Err (Solution line)) = FaultsSolution t.reading program found line.items
+BringsBack m t program records found (Err (Records line)) = LeavesDuals t program records found line.items
+BringsBack m t program records found (Err (Stopped line)) = StopsLift m t program records found line.items
+BringsBack m t program records found (Err NoMemory) = Unit {0}
+BringsBack m t program records found (Err other) = ⊥
 
 -- what is made of the three texts
 abbrev pub IsBrought : PostsolveNames → Result Texts Refusal → Moment → Moment → Type 0
@@ -145,7 +180,8 @@ SaysPostsolve names status printed before now =
     (When (status == 8) (RefusesPoint names printed before now × IsQuiet before now)
     ⊥)))))))
 
--- the same; and where the three files could be read, none is told as missing
+-- the same; where the three files could be read, none is told as missing; and with numbers of any width no lift stops
 pub record EndsPostsolve (names : PostsolveNames) (status : ℕ) (printed : List ℕ) (before now : Moment) : Type 0 where
   pub says : SaysPostsolve names status printed before now
+  pub never_past : names.wide ≡ true → status ≢ 6
   pub read : status ≢ 3 → status ≢ 5 → IsThere (before.told names.program) × IsThere (before.told names.records) × IsThere (before.told names.solution)

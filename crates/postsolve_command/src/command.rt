@@ -1,6 +1,6 @@
-//! The command `postsolve OUT REC SOL RESULT`.
+//! The command `postsolve OUT REC SOL RESULT [--wide]`.
 
-ghost use Rattle.std.specs.Prelude.{◌≤◌, length, option_map, IfOk, IfSome, OnErr, IsErrOf};
+ghost use Rattle.std.specs.Prelude.{◌≡◌, ◌≤◌, length, option_map, IfOk, IfSome, OnErr, IsErrOf};
 ghost use Rattle.file_ports.specs.Ports.{Moment, NeverFall};
 ghost use Rattle.command_words.specs.Names.{PostsolveNames};
 ghost use Rattle.command_words.specs.Seen.{postsolve_names_of};
@@ -9,16 +9,23 @@ ghost use Rattle.endings.specs.Moments.{Finds, IsQuiet};
 ghost use Rattle.endings.specs.declared.reads.TheConstants.{SOLUTION_LIMIT};
 ghost use Rattle.record_texts.specs.declared.reading.TheConstants.{RECORDS_LIMIT};
 ghost use Rattle.postsolve_command.specs.declared.given.TheConstants.{PROGRAM_LIMIT};
-ghost use Rattle.postsolve_command.specs.Postsolved.{AreFound, EndsPostsolve, IsBrought, IsUnread};
+ghost use Rattle.lp_model.specs.Writable.{EntriesAscend};
+ghost use Rattle.record_reader.specs.Matching.{Matches};
+ghost use Rattle.postsolve_command.specs.Postsolved.{AreFound, BringsBack, EndsPostsolve, IsBrought, IsUnread};
 
 use crate::given::{Found, PROGRAM_LIMIT, pair_of, program_of, see_duals, see_match};
 use crate::lifted::{Texts, lifted_texts};
 use crate::refusal::Refusal;
 use command_words::PostsolveWords;
 use endings::{Ending, SOLUTION_LIMIT, Unread, read_within};
+use exact_texts::Textual;
 use file_ports::{Failed, Files};
+use fractions::frac::Frac;
+use lp_model::Program;
 use record_texts::{RECORDS_LIMIT, records_of};
 use std::alloc::{AllocError, Global};
+use undo_records::Records;
+use wide_numbers::Wide;
 
 /// Reads OUT, then REC, then SOL.
 fn read_all<F: Files>(
@@ -45,11 +52,27 @@ fn read_all<F: Files>(
     })
 }
 
-/// What is made of the texts of OUT, REC and SOL, of which OUT is looked at first.
-fn bring_back(alloc: Global, found: Found) -> Result<Texts, Refusal>
+/// What is made of SOL's text by a program and its records, in numbers of a kind.
+fn brought_by<T: Textual>(
+    alloc: Global,
+    program: &Program,
+    records: &Records,
+    solution: Option<Vec<u8>>,
+) -> Result<Texts, Refusal>
+    requires matches { Matches records.now program.now }
+    requires ascends { EntriesAscend program.now }
+    ensures { BringsBack T.room T.texts program.now records.now (option_map (λ text. text.items) solution) result }
+{
+    let pair = pair_of::<T>(alloc, program, solution)?;
+    see_duals(alloc, records, &pair)?;
+    lifted_texts(alloc, program, records, pair)
+}
+
+/// What is made of the texts of OUT, REC and SOL, of which OUT is looked at first, by numbers of any width if they are asked for.
+fn bring_back(alloc: Global, found: Found, wide: bool) -> Result<Texts, Refusal>
     requires program { IfSome found.program (λ text. length text.items ≤ PROGRAM_LIMIT) }
     requires records { IfSome found.records (λ text. length text.items ≤ RECORDS_LIMIT) }
-    ensures { (names : PostsolveNames) → (before now : Moment) → AreFound names found before now → IsBrought names result before now }
+    ensures { (names : PostsolveNames) → (before now : Moment) → wide ≡ names.wide → AreFound names found before now → IsBrought names result before now }
 {
     let Found {
         program,
@@ -59,9 +82,11 @@ fn bring_back(alloc: Global, found: Found) -> Result<Texts, Refusal>
     let program = program_of(alloc, program)?;
     let records = records_of(alloc, records)?;
     see_match(alloc, &records, &program)?;
-    let pair = pair_of(alloc, &program, solution)?;
-    see_duals(alloc, &records, &pair)?;
-    lifted_texts(alloc, &program, &records, &pair)
+    if wide {
+        brought_by::<Wide>(alloc, &program, &records, solution)
+    } else {
+        brought_by::<Frac>(alloc, &program, &records, solution)
+    }
 }
 
 /// Reads a reduced program, its records and a solution, and writes what the solution is brought back to. All that is written and
@@ -79,7 +104,7 @@ pub fn postsolve<F: Files>(
         Err(Unread::Failed) => return Ok(Ending::ReadFault),
         Err(Unread::NoMemory) => return Err(AllocError),
     };
-    let texts = match bring_back(alloc, found) {
+    let texts = match bring_back(alloc, found, words.wide) {
         Ok(texts) => texts,
         Err(Refusal::Program(line)) => return Ok(Ending::Refused(line)),
         Err(Refusal::Records(line)) => return Ok(Ending::RecordsRefused(line)),

@@ -6,8 +6,10 @@ ghost use Rattle.postsolve_command.specs.Given.{Fitting, GivesPair, GivesProgram
 
 use crate::refusal::Refusal;
 use endings::{ProgramError, fault_line, fractions_form, read_program, solution_fault_line};
-use lp_model::{Pair, Program};
-use point_text::{SolError, read_pair};
+use exact_numbers::Exact;
+use exact_texts::Textual;
+use lp_model::Program;
+use point_text::{PairOf, SolError, read_pair_of};
 use record_reader::matches;
 use std::alloc::Global;
 use undo_records::Records;
@@ -49,15 +51,19 @@ pub fn see_match(alloc: Global, records: &Records, program: &Program) -> Result<
     Err(Refusal::Records(Vec::from_slice(alloc, b"error F5\n")?))
 }
 
-/// The point of SOL's text, and its duals if it has duals, by the program's names.
-pub fn pair_of(alloc: Global, program: &Program, found: Option<Vec<u8>>) -> Result<Pair, Refusal>
-    ensures pair { GivesPair program.now (option_map (λ text. text.items) found) result }
+/// The point of SOL's text, and its duals if it has duals, by the program's names and in numbers of a kind.
+pub fn pair_of<T: Textual>(
+    alloc: Global,
+    program: &Program,
+    found: Option<Vec<u8>>,
+) -> Result<PairOf<T>, Refusal>
+    ensures pair { GivesPair T.texts.reading program.now (option_map (λ text. text.items) found) result }
     ensures each { IfOk result (λ pair. IfSome pair.duals (λ duals. length duals ≡ length program.now.rows)) }
 {
     let Some(text) = found else {
         return Err(Refusal::Solution(Vec::from_slice(alloc, b"error S6\n")?));
     };
-    match read_pair(alloc, &text, program) {
+    match read_pair_of::<T, Program>(alloc, &text, program) {
         Ok(pair) => Ok(pair),
         Err(SolError::Fault(fault)) => Err(Refusal::Solution(solution_fault_line(alloc, fault)?)),
         Err(SolError::NoMemory) => Err(Refusal::NoMemory),
@@ -65,7 +71,11 @@ pub fn pair_of(alloc: Global, program: &Program, found: Option<Vec<u8>>) -> Resu
 }
 
 /// Whether the records undo duals, where there are any.
-pub fn see_duals(alloc: Global, records: &Records, pair: &Pair) -> Result<(), Refusal>
+pub fn see_duals<T: Exact>(
+    alloc: Global,
+    records: &Records,
+    pair: &PairOf<T>,
+) -> Result<(), Refusal>
     ensures { Undoing records.now pair.now.duals result }
 {
     let Some(_duals) = &pair.duals else {

@@ -1,19 +1,18 @@
 //! The lift of a point, alone or with duals, and its texts.
 
-ghost use Rattle.std.specs.Prelude.{◌≡◌, ◌<◌, Some, None, length, All, IfOk, IfSome};
-ghost use Rattle.fractions.specs.Lowest.{Fits};
+ghost use Rattle.std.specs.Prelude.{◌≡◌, ◌<◌, Some, None, length, map, All, IfOk, IfSome};
 ghost use Rattle.lp_model.specs.Writable.{EntriesAscend};
-ghost use Rattle.point_text.specs.PairText.{pair_text};
+ghost use Rattle.point_text.specs.PairText.{pair_text_by};
 ghost use Rattle.undo_pairs.specs.LiftPair.{lift_pair as lift_pair_of};
 ghost use Rattle.undo_pairs.specs.Numbers.{IsSized, priced_of};
 ghost use Rattle.record_reader.specs.Matching.{Matches};
 ghost use Rattle.postsolve_command.specs.Lifted.{GivesTexts, Lifts, Starts, column_names, columns_text, counts_text, row_names, rows_text, stop_text, unpriced_text};
 
 use crate::refusal::Refusal;
-use exact_numbers::Numbers;
-use fractions::frac::Frac;
-use lp_model::{Duals, Labels, Pair, Point, Program};
-use point_text::write_pair;
+use exact_numbers::{Exact, Numbers};
+use exact_texts::Textual;
+use lp_model::{Labels, Program};
+use point_text::{PairOf, write_pair_of};
 use postsolve_dual::{PairBuf, lift_pair};
 use postsolve_primal::{at_columns, lift};
 use std::alloc::{AllocError, Global};
@@ -45,46 +44,37 @@ fn unpriced_line(alloc: Global, program: &Program, column: usize) -> Result<Vec<
     Ok(line)
 }
 
-/// A number has room. Says so, and does nothing.
-fn number_fits(number: &Frac)
-    ensures { Fits number.now }
-{
-    let _parts = number.parts();
-}
-
-/// Each number has room. Says so, and does nothing.
-fn numbers_fit(numbers: &[Frac])
-    ensures { All Fits numbers.now }
+/// Each number has room in its kind. Says so, and does nothing.
+fn have_room<T: Textual>(numbers: &[T])
+    ensures { All T.room.number (map T.number numbers.now) }
 {
     for number in numbers {
-        number_fits(number);
+        number.has_room();
     }
 }
 
-/// The fractions, each of which has room.
-fn fractions_of(numbers: Numbers<Frac>) -> Vec<Frac>
-    ensures same { result.items ≡ numbers }
-    ensures fits { All Fits numbers }
+/// The numbers, each of which has room in its kind.
+fn with_room<T: Textual>(numbers: Numbers<T>) -> Numbers<T>
+    ensures same { result ≡ numbers }
+    ensures room { All T.room.number numbers }
 {
-    let fractions = numbers.into_fractions();
-    numbers_fit(fractions.as_slice());
-    fractions
+    have_room(numbers.as_slice());
+    numbers
 }
 
 /// The original point that the records make of a reduced one.
-fn lifted_point(
+fn lifted_point<T: Textual>(
     alloc: Global,
     program: &Program,
     records: &Records,
-    point: &Point,
-) -> Result<Pair, Refusal>
-    ensures { Lifts records.now program.now point.now None result }
+    point: Numbers<T>,
+) -> Result<PairOf<T>, Refusal>
+    ensures { Lifts T.room records.now program.now point None result }
 {
-    let given: Numbers<Frac> = Numbers::of_fractions(alloc, point.as_slice())?;
-    let mut numbers = at_columns(alloc, records, given)?;
+    let mut numbers = at_columns(alloc, records, point)?;
     match lift(alloc, records, &mut numbers)? {
-        Ok(()) => Ok(Pair {
-            point: Point::new(fractions_of(numbers)),
+        Ok(()) => Ok(PairOf {
+            point: with_room(numbers),
             duals: None,
         }),
         Err(stop) => Err(Refusal::Stopped(stop_line(alloc, stop.at)?)),
@@ -92,19 +82,17 @@ fn lifted_point(
 }
 
 /// A reduced point with duals at the original ids.
-fn started_pair(
+fn started_pair<T: Textual>(
     alloc: Global,
     program: &Program,
     records: &Records,
-    point: &Point,
-    duals: &Duals,
-) -> Result<PairBuf<Frac>, Refusal>
-    requires each { length duals.now ≡ length program.now.rows }
+    point: Numbers<T>,
+    duals: Numbers<T>,
+) -> Result<PairBuf<T>, Refusal>
+    requires each { length duals ≡ length program.now.rows }
     requires ascends { EntriesAscend program.now }
-    ensures { Starts records.now program.now point.now duals.now result }
+    ensures { Starts T.room records.now program.now point duals result }
 {
-    let point = Numbers::of_fractions(alloc, point.as_slice())?;
-    let duals = Numbers::of_fractions(alloc, duals.as_slice())?;
     match PairBuf::new(alloc, records, program, point, duals)? {
         Ok(pair) => Ok(pair),
         Err(unpriced) => {
@@ -115,24 +103,24 @@ fn started_pair(
 }
 
 /// The original point with duals that the records make of a reduced one.
-fn lifted_pair(
+fn lifted_pair<T: Textual>(
     alloc: Global,
     program: &Program,
     records: &Records,
-    point: &Point,
-    duals: &Duals,
-) -> Result<Pair, Refusal>
-    requires each { length duals.now ≡ length program.now.rows }
+    point: Numbers<T>,
+    duals: Numbers<T>,
+) -> Result<PairOf<T>, Refusal>
+    requires each { length duals ≡ length program.now.rows }
     requires ascends { EntriesAscend program.now }
-    ensures { Lifts records.now program.now point.now (Some duals.now) result }
+    ensures { Lifts T.room records.now program.now point (Some duals) result }
 {
     let mut buffer = started_pair(alloc, program, records, point, duals)?;
     match lift_pair(alloc, records, &mut buffer)? {
         Ok(()) => {
             let (point, duals) = buffer.into_parts(records.sense());
-            Ok(Pair {
-                point: Point::new(fractions_of(point)),
-                duals: Some(Duals::new(fractions_of(duals))),
+            Ok(PairOf {
+                point: with_room(point),
+                duals: Some(with_room(duals)),
             })
         }
         Err(stop) => Err(Refusal::Stopped(stop_line(alloc, stop.at)?)),
@@ -140,14 +128,20 @@ fn lifted_pair(
 }
 
 /// What the records make of a reduced point, with its duals if it has duals.
-fn lifted(alloc: Global, program: &Program, records: &Records, pair: &Pair) -> Result<Pair, Refusal>
-    requires each { IfSome pair.now.duals (λ duals. length duals ≡ length program.now.rows) }
+fn lifted<T: Textual>(
+    alloc: Global,
+    program: &Program,
+    records: &Records,
+    pair: PairOf<T>,
+) -> Result<PairOf<T>, Refusal>
+    requires each { IfSome pair.duals (λ duals. length duals ≡ length program.now.rows) }
     requires ascends { EntriesAscend program.now }
-    ensures { Lifts records.now program.now pair.now.point pair.now.duals result }
+    ensures { Lifts T.room records.now program.now pair.point pair.duals result }
 {
-    match &pair.duals {
-        Some(duals) => lifted_pair(alloc, program, records, &pair.point, duals),
-        None => lifted_point(alloc, program, records, &pair.point),
+    let PairOf { point, duals } = pair;
+    match duals {
+        Some(duals) => lifted_pair(alloc, program, records, point, duals),
+        None => lifted_point(alloc, program, records, point),
     }
 }
 
@@ -174,11 +168,11 @@ fn rows_line(alloc: Global, program: &Program, records: &Records) -> Result<Vec<
 }
 
 /// The lines that count columns, and with duals rows.
-fn counts(
+fn counts<T: Exact>(
     alloc: Global,
     program: &Program,
     records: &Records,
-    pair: &Pair,
+    pair: &PairOf<T>,
 ) -> Result<Vec<u8>, AllocError>
     requires { Matches records.now program.now }
     ensures { IfOk result (λ text. text.items ≡ counts_text records.now pair.now.duals) }
@@ -194,28 +188,32 @@ fn counts(
 
 /// The text of an original point by its names, with its duals if it has duals.
 #[tactic(auto, using(crate::proofs::Columns::names_counted))]
-fn result_text(alloc: Global, records: &Records, pair: &Pair) -> Result<Vec<u8>, AllocError>
+fn result_text<T: Textual>(
+    alloc: Global,
+    records: &Records,
+    pair: &PairOf<T>,
+) -> Result<Vec<u8>, AllocError>
     requires point { length pair.now.point ≡ length records.now.columns }
     requires duals { IfSome pair.now.duals (λ duals. length duals ≡ length records.now.rows) }
-    ensures { IfOk result (λ text. text.items ≡ pair_text (column_names records.now) (row_names records.now) pair.now.point pair.now.duals) }
+    ensures { IfOk result (λ text. text.items ≡ pair_text_by T.texts.writing (column_names records.now) (row_names records.now) pair.now.point pair.now.duals) }
 {
-    write_pair(alloc, records, pair)
+    write_pair_of(alloc, records, pair)
 }
 
 /// Brings a reduced point back, with its duals if it has duals, and makes the texts of it.
-pub fn lifted_texts(
+pub fn lifted_texts<T: Textual>(
     alloc: Global,
     program: &Program,
     records: &Records,
-    pair: &Pair,
+    pair: PairOf<T>,
 ) -> Result<Texts, Refusal>
     requires matches { Matches records.now program.now }
-    requires each { IfSome pair.now.duals (λ duals. length duals ≡ length program.now.rows) }
+    requires each { IfSome pair.duals (λ duals. length duals ≡ length program.now.rows) }
     requires ascends { EntriesAscend program.now }
-    ensures { GivesTexts records.now program.now pair.now.point pair.now.duals result }
+    ensures { GivesTexts T.room T.texts.writing records.now program.now pair.point pair.duals result }
 {
+    let printed = counts(alloc, program, records, &pair)?;
     let lifted = lifted(alloc, program, records, pair)?;
     let result = result_text(alloc, records, &lifted)?;
-    let printed = counts(alloc, program, records, pair)?;
     Ok(Texts { result, printed })
 }

@@ -2,7 +2,10 @@
 use Rattle.std.proofs.Common.{◌≡◌, ℕ, Bool, true, false, cond, List, [], ◌∷◌, Option, Some, None, IfSome, refl, sym, ap, ◌∙◌, subst}
 use Rattle.std.specs.List.{All}
 use Rattle.std.proofs.lemmas.List.Elements.{All-nil, All-cons, All-head, All-tail}
+use Rattle.fractions.specs.Lowest.{Fits}
 use Rattle.fractions.specs.Number.{Number}
+use Rattle.exact_texts.specs.Kinds.{texts_of}
+use Rattle.exact_texts.specs.Texts.{frac_texts}
 use Rattle.command_words.specs.Names.{PostsolveNames, PresolveNames, SolveNames}
 use Rattle.lp_model.specs.Meaning.{meaning}
 use Rattle.lp_model.specs.Names.{names_of_columns, names_of_rows}
@@ -15,16 +18,17 @@ use Rattle.undo_records.specs.Named.{live_names}
 use Rattle.undo_records.specs.Postsolve.{Postsolve}
 use Rattle.presolve_model.specs.Telling.{names_in}
 use Rattle.whole_way.proofs.Naming.{plain_kept}
-use Rattle.whole_way.proofs.Whole.{columns_numbered, PairsAgain, read_again, rows_numbered}
-use Rattle.whole_way.specs.Texts.{IsSolutionText, IsUnmarked}
+use Rattle.whole_way.proofs.Whole.{columns_numbered, read_again, rows_numbered}
+use Rattle.whole_way.specs.Laws.{NarrowIsWide}
+use Rattle.whole_way.specs.Texts.{IsSolutionText, IsUnmarked, PairsAgain}
 use Rattle.endings.specs.Forms.{fractions_form}
 use Rattle.endings.specs.ProgramTexts.{IsProgramOf, program_in}
 use Rattle.endings.specs.declared.reads.TheConstants.{INPUT_LIMIT}
 use Rattle.solve_command.specs.Solving.{IsBest, solve_form}
 use Rattle.two_runs.specs.ComingBack.{IsProvedBest}
-use Rattle.two_runs.specs.Runs.{AreRun, CanBeWritten, duals_in, original, reduced, Way}
+use Rattle.two_runs.specs.Runs.{AreRun, CanBeWritten, duals_in, original, records_in, reduced, Way}
 use Rattle.two_runs.proofs.Back.{proof_back}
-use Rattle.two_runs.proofs.Joined.{held_written, Joined, joined, records_in}
+use Rattle.two_runs.proofs.Joined.{held_written, Joined, joined}
 use Rattle.two_runs.proofs.Layers.{read_held}
 use Rattle.proved_runs.specs.Solved.{CanStand, IsSolvedBetween, SolvedComesBack}
 
@@ -42,16 +46,22 @@ where_duals : (P : Type 0) (duals : Option (List Number)) → P → IfSome duals
 where_duals P None h = tt
 where_duals P (Some y) h = h
 
-module _ (again : PairsAgain) (first : PresolveNames) (between : SolveNames) (second : PostsolveNames) (way : Way) (run : AreRun first second way) (s : IsSolvedBetween between way)
+-- what is read by fractions is read alike by numbers of any width
+alike : NarrowIsWide → (wide : Bool) (program : ProgramData) (text : List ℕ) (point : List Number) (duals : Option (List Number))
+    → IsSolutionText frac_texts program text point duals → IsSolutionText (texts_of wide) program text point duals
+alike narrow false program text point duals h = h
+alike narrow true program text point duals h = narrow program text point duals h
+
+module _ (again : (wide : Bool) → PairsAgain (texts_of wide)) (narrow : NarrowIsWide) (first : PresolveNames) (between : SolveNames) (second : PostsolveNames) (way : Way) (run : AreRun first second way) (s : IsSolvedBetween between way)
     (can : CanStand (original first way)) where
-  written : CanBeWritten (original first way) (duals_in (reduced way) way.solution)
+  written : CanBeWritten (original first way) (duals_in second.wide (reduced way) way.solution)
   written = record {
     plain = can.plain;
     columns = can.columns;
-    rows = where_duals (All IsUnmarked (names_of_rows (original first way).rows)) (duals_in (reduced way) way.solution) can.rows;
+    rows = where_duals (All IsUnmarked (names_of_rows (original first way).rows)) (duals_in second.wide (reduced way) way.solution) can.rows;
   }
 
-  abbrev j : Joined first way
+  abbrev j : Joined first second.wide way
   j = joined first second way run written
 
   abbrev told : Postsolve
@@ -83,19 +93,20 @@ module _ (again : PairsAgain) (first : PresolveNames) (between : SolveNames) (se
   here : IsBest (reduced way) between.pivots s.solved.text s.printed
   here = subst (λ (p : ProgramData). IsBest p between.pivots s.solved.text s.printed) same best
 
-  is_read : IsSolutionText (reduced way) way.solution here.point (Some here.duals)
-  is_read = read_again again (reduced way) (names_of_columns (reduced way).columns) (names_of_rows (reduced way).rows) here.point (Some here.duals) way.solution
-      (columns_numbered (reduced way) here.point j.concluded.named.left plain columns here.columns here.point_fits)
-      (rows_numbered (reduced way) here.duals j.concluded.named.left plain rows here.rows here.duals_fit)
-      refl refl (sym text ∙ here.text)
+  is_read : IsSolutionText (texts_of second.wide) (reduced way) way.solution here.point (Some here.duals)
+  is_read = alike narrow second.wide (reduced way) way.solution here.point (Some here.duals)
+      (read_again frac_texts (again false) (reduced way) (names_of_columns (reduced way).columns) (names_of_rows (reduced way).rows) here.point (Some here.duals) way.solution
+      (columns_numbered Fits (reduced way) here.point j.concluded.named.left plain columns here.columns here.point_fits)
+      (rows_numbered Fits (reduced way) here.duals j.concluded.named.left plain rows here.rows here.duals_fit)
+      refl refl (sym text ∙ here.text))
 
-  proved : IsProvedBest (reduced way) way.solution
+  proved : IsProvedBest second.wide (reduced way) way.solution
   proved = record {
     duals = here.duals;
     given = is_read.same_duals;
     meets = subst (λ (xs : List Number). Meets (reduced way).sense (meaning (reduced way)) (vector_of xs) (vector_of here.duals)) (sym is_read.same) here.proof;
   }
 
-pub solved_back : PairsAgain → SolvedComesBack
-solved_back again first between second way run s can =
-    proof_back again first second way run (written again first between second way run s can) (proved again first between second way run s can)
+pub solved_back : ((wide : Bool) → PairsAgain (texts_of wide)) → NarrowIsWide → SolvedComesBack
+solved_back again narrow first between second way run s can are =
+    proof_back again first second way run (written again narrow first between second way run s can) are (proved again narrow first between second way run s can)

@@ -1,6 +1,8 @@
 -- What a presolve wrote as RAY is taken by a check.
 use Rattle.std.proofs.Common.{◌≡◌, ◌≢◌, inl, inr, ℕ, ◌≤◌, Bool, true, false, List, length, Option, Some, None, refl, sym, ap, ◌∙◌, subst, arith, if◌then◌else◌}
 use Rattle.fractions.specs.Number.{Number}
+use Rattle.exact_texts.specs.Kinds.{room_of, texts_of}
+use Rattle.exact_texts.specs.Texts.{Reading}
 use Rattle.fractions.specs.declared.Numbers.TheVariants.{Fractions}
 use Rattle.command_words.specs.Names.{CheckNames, PresolveNames}
 use Rattle.command_words.specs.declared.words.InputFormat.{InputFormat}
@@ -22,7 +24,7 @@ use Rattle.endings.specs.Ending.{infeasible_line}
 use Rattle.endings.specs.Forms.{form_of, form_with, numbers_of}
 use Rattle.endings.specs.Moments.{Reads}
 use Rattle.endings.specs.ProgramTexts.{fault_in, HasNoFault, IsFaultOf, IsProgramOf, program_in, SaysFaultOf}
-use Rattle.endings.specs.SolutionTexts.{fault_of}
+use Rattle.endings.specs.SolutionTexts.{fault_by}
 use Rattle.endings.specs.declared.reads.TheConstants.{INPUT_LIMIT, SOLUTION_LIMIT}
 use Rattle.ray_file.specs.Telling.{TellsRay}
 use Rattle.told_rays.proofs.OneRay.{says_more}
@@ -132,9 +134,13 @@ module _ (again : RaysAgain) (pass : RaysPass) (first : PresolveNames) (name : L
   abbrev Taken : Type 0
   Taken = IsTaken program given.ray status said
 
-  no_solution : (xs : List Number) (ys : Option (List Number)) → Reads SOLUTION_LIMIT (given.found.told second.solution) (λ held. IsSolutionOf program held xs ys) → ⊥
+  -- what texts of a solution's numbers would mean
+  abbrev meant : Reading
+  meant = (texts_of second.wide).reading
+
+  no_solution : (xs : List Number) (ys : Option (List Number)) → Reads SOLUTION_LIMIT (given.found.told second.solution) (λ held. IsSolutionOf meant program held xs ys) → ⊥
   no_solution xs ys h =
-      let r = read_held SOLUTION_LIMIT (given.found.told second.solution) given.ray (λ held. IsSolutionOf program held xs ys) given.ray_found h in
+      let r = read_held SOLUTION_LIMIT (given.found.told second.solution) given.ray (λ held. IsSolutionOf meant program held xs ys) given.ray_found h in
       let e : true ≡ false = sym starts ∙ r.1.0 in
       cc
 
@@ -144,13 +150,13 @@ module _ (again : RaysAgain) (pass : RaysPass) (first : PresolveNames) (name : L
       by_verdict pass program (weights_of (ray_of program given.ray)) is_ray given.ray refl status said a.verdict (a.answers ∙ sym e) a.said
       (subst (λ (q : RayData). DecidesRay program (weights_of q) a.verdict) r.1.2 a.decides)
 
-  judged : (k : ℕ) → status ≡ k → IsJudged program (given.found.told second.solution) k said → Taken
+  judged : (k : ℕ) → status ≡ k → IsJudged (room_of second.wide) (texts_of second.wide) program (given.found.told second.solution) k said → Taken
   judged k e (inl a) = absurd (no_solution a.point None a.given)
   judged k e (inr (inl a)) = absurd (no_solution a.point (Some a.duals) a.given)
   judged k e (inr (inr a)) = ray_judged k e a
 
   checked : (k : ℕ) → status ≡ k → IsChecked second k said given.found → Taken
-  checked k e (p, h, a) = judged k e (subst (λ (q : ProgramData). IsJudged q (given.found.told second.solution) k said) (in_program p h) a)
+  checked k e (p, h, a) = judged k e (subst (λ (q : ProgramData). IsJudged (room_of second.wide) (texts_of second.wide) q (given.found.told second.solution) k said) (in_program p h) a)
 
   -- ---- it refuses neither text
   not_refused : SaysFaultOf INPUT_LIMIT (check_form second) second.input said given.found given.now → ⊥
@@ -167,20 +173,20 @@ module _ (again : RaysAgain) (pass : RaysPass) (first : PresolveNames) (name : L
   program_passes (inr (p, h, n)) =
       whole_not_continuous (meaning program) n.names.column (subst (λ (q : ProgramData). IsFirstNotContinuous (meaning q) n.names.column) (in_program p h) n.names.whole) continuous
 
-  no_given_fault : given_fault program given.ray ≡ None
-  no_given_fault = ap (λ (b : Bool). if b then ray_fault_of program given.ray else fault_of program given.ray) starts ∙ sound
+  no_given_fault : given_fault meant program given.ray ≡ None
+  no_given_fault = ap (λ (b : Bool). if b then ray_fault_of program given.ray else fault_by meant program given.ray) starts ∙ sound
 
-  ray_read : SaysGivenFault program second.solution said given.found given.now → ⊥
+  ray_read : SaysGivenFault meant program second.solution said given.found given.now → ⊥
   ray_read (inl (fault, h, line)) =
-      let r = read_held SOLUTION_LIMIT (given.found.told second.solution) given.ray (λ held. given_fault program held ≡ Some (fault.kind, fault.line)) given.ray_found h in
-      none_or_some (given_fault program given.ray) (fault.kind, fault.line) no_given_fault r.1
+      let r = read_held SOLUTION_LIMIT (given.found.told second.solution) given.ray (λ held. given_fault meant program held ≡ Some (fault.kind, fault.line)) given.ray_found h in
+      none_or_some (given_fault meant program given.ray) (fault.kind, fault.line) no_given_fault r.1
   ray_read (inr (over, line)) =
       let l = longer_held SOLUTION_LIMIT (given.found.told second.solution) given.ray given.ray_found over.0 in
       let m = given.ray_fits in
       omega (arith, l, m)
 
   ray_passes : RefusesSolution second said given.found given.now → ⊥
-  ray_passes (p, h, fault) = ray_read (subst (λ (q : ProgramData). SaysGivenFault q second.solution said given.found given.now) (in_program p h) fault)
+  ray_passes (p, h, fault) = ray_read (subst (λ (q : ProgramData). SaysGivenFault meant q second.solution said given.found given.now) (in_program p h) fault)
 
   pub taken : status ≢ 3 → status ≢ 5 → SaysCheck second status said given.found given.now → Taken
   taken read made w0 =

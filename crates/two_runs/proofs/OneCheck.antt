@@ -3,19 +3,23 @@ use Rattle.std.specs.Prelude.{IsSome, IsTrue, is_some}
 use Rattle.std.proofs.Common.{◌≡◌, ◌⊎◌, inl, inr, ℕ, ◌<◌, ◌≤◌, Bool, true, false, cond, List, [], ◌∷◌, ◌++◌, codes, length, Option, Some, None, sym, ap, ◌∙◌, subst, arith}
 use Rattle.std.proofs.lemmas.Bool.{cases_lt}
 use Rattle.fractions.specs.Number.{Number}
+use Rattle.fractions.specs.Room.{Room}
+use Rattle.exact_texts.specs.Kinds.{room_of, texts_of}
+use Rattle.exact_texts.specs.Texts.{Reading, Writing}
 use Rattle.file_ports.specs.Ports.{Moment}
 use Rattle.command_words.specs.Names.{CheckNames}
 use Rattle.lp_model.specs.LinearProgram.{LinearProgram}
 use Rattle.lp_model.specs.Meaning.{meaning}
 use Rattle.lp_model.specs.Optimality.{Continuous}
 use Rattle.lp_model.specs.ProgramData.{ProgramData}
-use Rattle.lp_model.specs.Vectors.{Vector, vector_of}
-use Rattle.lp_model.specs.declared.program.Sense.{Sense}
-use Rattle.lp_check.specs.Deciding.{Decides}
-use Rattle.lp_check.specs.DecidingPairs.{DecidesPair}
+use Rattle.lp_model.specs.Vectors.{vector_of}
+use Rattle.lp_check.specs.Deciding.{DecidesIn}
+use Rattle.lp_check.specs.DecidingPairs.{DecidesPairIn}
 use Rattle.lp_check.specs.FirstNotContinuous.{IsFirstNotContinuous}
 use Rattle.lp_check.specs.declared.pair_verdicts.PairVerdict.{PairVerdict}
 use Rattle.lp_check.specs.declared.verdicts.Verdict.{Verdict}
+use Rattle.lp_check.proofs.OnePairVerdict.{pair_same}
+use Rattle.lp_check.proofs.OneVerdict.{one_verdict}
 use Rattle.lp_rays.specs.Ray.{Weights}
 use Rattle.lp_rays.specs.RayData.{RayData, weights_of}
 use Rattle.ray_check.specs.Deciding.{DecidesRay}
@@ -25,7 +29,7 @@ use Rattle.ray_text.specs.RayLines.{is_ray_text}
 use Rattle.endings.specs.Continuity.{NamesFirstNotContinuous, not_continuous_text}
 use Rattle.endings.specs.Moments.{Reads}
 use Rattle.endings.specs.ProgramTexts.{fault_in, fault_text, IsFaultOf, IsProgramOf, program_in, SaysFaultOf}
-use Rattle.endings.specs.SolutionTexts.{fault_of, solution_fault_text}
+use Rattle.endings.specs.SolutionTexts.{fault_by, solution_fault_text}
 use Rattle.endings.specs.declared.reads.TheConstants.{INPUT_LIMIT, SOLUTION_LIMIT}
 use Rattle.check_command.specs.Checked.{check_form, IsChecked, IsJudged, IsNotContinuous, IsProgramIn, RefusesProgram, RefusesSolution, SaysCheck}
 use Rattle.check_command.specs.GivenTexts.{given_fault, IsRayOf, IsSolutionOf, NeedsContinuous, ray_fault_of, ray_of, SaysGivenFault}
@@ -67,22 +71,29 @@ pub whole_not_continuous : (M : LinearProgram) (j : ℕ) → IsFirstNotContinuou
 whole_not_continuous M j a c = of_a_kind M j a.kind (c j a.column)
 
 -- ---- the first fault of a text, by what starts it
-solution_sound : (program : ProgramData) (text : List ℕ) → is_ray_text text ≡ false → fault_of program text ≡ None → given_fault program text ≡ None
-solution_sound program text other none = ap (λ (b : Bool). cond b (ray_fault_of program text) (fault_of program text)) other ∙ none
+solution_sound : (r : Reading) (program : ProgramData) (text : List ℕ) → is_ray_text text ≡ false → fault_by r program text ≡ None → given_fault r program text ≡ None
+solution_sound r program text other none = ap (λ (b : Bool). cond b (ray_fault_of program text) (fault_by r program text)) other ∙ none
 
-ray_sound : (program : ProgramData) (text : List ℕ) → is_ray_text text ≡ true → ray_fault_of program text ≡ None → given_fault program text ≡ None
-ray_sound program text starts none = ap (λ (b : Bool). cond b (ray_fault_of program text) (fault_of program text)) starts ∙ none
+ray_sound : (r : Reading) (program : ProgramData) (text : List ℕ) → is_ray_text text ≡ true → ray_fault_of program text ≡ None → given_fault r program text ≡ None
+ray_sound r program text starts none = ap (λ (b : Bool). cond b (ray_fault_of program text) (fault_by r program text)) starts ∙ none
 
 ray_or_not : (text : List ℕ) → is_ray_text text ≡ false → is_ray_text text ≡ true → ⊥
 ray_or_not text other starts = let e : false ≡ true = sym other ∙ starts in cc
 
--- ---- a verdict
-module _ (program : ProgramData) (solution : List ℕ) where
+-- ---- a verdict, by numbers of any width or not
+module _ (wide : Bool) (program : ProgramData) (solution : List ℕ) where
+  -- the room for numbers, and their texts
+  abbrev room : Room
+  room = room_of wide
+
+  abbrev text_of : Writing
+  text_of = (texts_of wide).writing
+
   abbrev point : List Number
-  point = point_in program solution
+  point = point_in wide program solution
 
   abbrev duals : Option (List Number)
-  duals = duals_in program solution
+  duals = duals_in wide program solution
 
   abbrev ray : RayData
   ray = ray_of program solution
@@ -92,9 +103,9 @@ module _ (program : ProgramData) (solution : List ℕ) where
     other : is_ray_text solution ≡ false
     alone : duals ≡ None
     verdict : Verdict Number
-    decides : Decides (meaning program) (vector_of point) verdict
+    decides : DecidesIn room (meaning program) (vector_of point) verdict
     answers : status_of_verdict verdict ≡ s
-    line : said ≡ verdict_text program verdict
+    line : said ≡ verdict_text text_of program verdict
 
   -- on the point with its duals
   record OfPair (s : ℕ) (said : List ℕ) : Type 0 where
@@ -103,9 +114,9 @@ module _ (program : ProgramData) (solution : List ℕ) where
     given : duals ≡ Some prices
     continuous : Continuous (meaning program)
     verdict : PairVerdict Number
-    decides : DecidesPair program.sense (meaning program) (vector_of point) (vector_of prices) verdict
+    decides : DecidesPairIn room program.sense (meaning program) (vector_of point) (vector_of prices) verdict
     answers : status_of_pair_verdict verdict ≡ s
-    line : said ≡ pair_verdict_text program verdict
+    line : said ≡ pair_verdict_text text_of program verdict
 
   -- on the ray
   record OfRay (s : ℕ) (said : List ℕ) : Type 0 where
@@ -139,20 +150,18 @@ module _ (program : ProgramData) (solution : List ℕ) where
   not_asked other alone (inl (still, (prices, given))) = none_or_some prices alone given
   not_asked other alone (inr starts) = ray_or_not solution other starts
 
-  module _ (one_verdict : (M : LinearProgram) (x : Vector) (v w : Verdict Number) → Decides M x v → Decides M x w → v ≡ w)
-      (one_pair_verdict : (d : Sense) (M : LinearProgram) (x y : Vector) (v w : PairVerdict Number) → DecidesPair d M x y v → DecidesPair d M x y w → v ≡ w)
-      (one_ray_verdict : (d : ProgramData) (x : Weights) (v w : RayChecked) → DecidesRay d x v → DecidesRay d x w → v ≡ w) (s t : ℕ) (said more : List ℕ) where
+  module _ (one_ray_verdict : (d : ProgramData) (x : Weights) (v w : RayChecked) → DecidesRay d x v → DecidesRay d x w → v ≡ w) (s t : ℕ) (said more : List ℕ) where
     points_same : OfPoint s said → OfPoint t more → (s ≡ t) × (said ≡ more)
     points_same a b =
-        let e : a.verdict ≡ b.verdict = one_verdict (meaning program) (vector_of point) a.verdict b.verdict a.decides b.decides in
-        (sym a.answers ∙ ap status_of_verdict e ∙ b.answers, a.line ∙ ap (verdict_text program) e ∙ sym b.line)
+        let e : a.verdict ≡ b.verdict = one_verdict room (meaning program) (vector_of point) a.verdict b.verdict a.decides b.decides in
+        (sym a.answers ∙ ap status_of_verdict e ∙ b.answers, a.line ∙ ap (verdict_text text_of program) e ∙ sym b.line)
 
     pairs_same : OfPair s said → OfPair t more → (s ≡ t) × (said ≡ more)
     pairs_same a b =
         let same : b.prices ≡ a.prices = some_same b.prices a.prices b.given a.given in
-        let e : a.verdict ≡ b.verdict = one_pair_verdict program.sense (meaning program) (vector_of point) (vector_of a.prices) a.verdict b.verdict a.decides
-        (subst (λ (ys : List Number). DecidesPair program.sense (meaning program) (vector_of point) (vector_of ys) b.verdict) same b.decides) in
-        (sym a.answers ∙ ap status_of_pair_verdict e ∙ b.answers, a.line ∙ ap (pair_verdict_text program) e ∙ sym b.line)
+        let e : a.verdict ≡ b.verdict = pair_same room (one_verdict room) program.sense (meaning program) (vector_of point) (vector_of a.prices) a.verdict b.verdict a.decides
+        (subst (λ (ys : List Number). DecidesPairIn room program.sense (meaning program) (vector_of point) (vector_of ys) b.verdict) same b.decides) in
+        (sym a.answers ∙ ap status_of_pair_verdict e ∙ b.answers, a.line ∙ ap (pair_verdict_text text_of program) e ∙ sym b.line)
 
     rays_same : OfRay s said → OfRay t more → (s ≡ t) × (said ≡ more)
     rays_same a b =
@@ -182,8 +191,12 @@ module _ (names : CheckNames) (input solution : List ℕ) where
   abbrev program : ProgramData
   program = program_in (check_form names) input
 
+  -- what texts of SOL's numbers mean
+  abbrev meant : Reading
+  meant = (texts_of names.wide).reading
+
   abbrev OfSolution : ℕ → List ℕ → Type 0
-  OfSolution s said = Layer SOLUTION_LIMIT solution solution_over (given_fault program solution) solution_line 8 s said (Told program solution s said)
+  OfSolution s said = Layer SOLUTION_LIMIT solution solution_over (given_fault meant program solution) solution_line 8 s said (Told names.wide program solution s said)
 
   abbrev OfTexts : ℕ → List ℕ → Type 0
   OfTexts s said = Layer INPUT_LIMIT input program_over (fault_in (check_form names) input) fault_text 2 s said (OfSolution s said)
@@ -202,31 +215,31 @@ module _ (names : CheckNames) (input solution : List ℕ) where
         inl (e, inr (r.0, (fault, r.1, line)))
     refused_input s said now e (inr (over, line)) = inl (e, inl (longer_held INPUT_LIMIT (before.told names.input) input at_input over.0, line))
 
-    refused_solution : (s : ℕ) (said : List ℕ) (now : Moment) → s ≡ 8 → SaysGivenFault program names.solution said before now → OfSolution s said
+    refused_solution : (s : ℕ) (said : List ℕ) (now : Moment) → s ≡ 8 → SaysGivenFault meant program names.solution said before now → OfSolution s said
     refused_solution s said now e (inl (fault, h, line)) =
-        let r = read_held SOLUTION_LIMIT (before.told names.solution) solution (λ text. given_fault program text ≡ Some (fault.kind, fault.line)) at_solution h in
+        let r = read_held SOLUTION_LIMIT (before.told names.solution) solution (λ text. given_fault meant program text ≡ Some (fault.kind, fault.line)) at_solution h in
         inl (e, inr (r.0, ((fault.kind, fault.line), r.1, line)))
     refused_solution s said now e (inr (over, line)) = inl (e, inl (longer_held SOLUTION_LIMIT (before.told names.solution) solution at_solution over.0, line))
 
     -- SOL's point and duals, or its ray
-    in_pair : (xs : List Number) (ys : Option (List Number)) → Reads SOLUTION_LIMIT (before.told names.solution) (λ text. IsSolutionOf program text xs ys)
-        → (length solution ≤ SOLUTION_LIMIT) × IsSolutionOf program solution xs ys
-    in_pair xs ys h = read_held SOLUTION_LIMIT (before.told names.solution) solution (λ text. IsSolutionOf program text xs ys) at_solution h
+    in_pair : (xs : List Number) (ys : Option (List Number)) → Reads SOLUTION_LIMIT (before.told names.solution) (λ text. IsSolutionOf meant program text xs ys)
+        → (length solution ≤ SOLUTION_LIMIT) × IsSolutionOf meant program solution xs ys
+    in_pair xs ys h = read_held SOLUTION_LIMIT (before.told names.solution) solution (λ text. IsSolutionOf meant program text xs ys) at_solution h
 
     in_ray : (x : RayData) → Reads SOLUTION_LIMIT (before.told names.solution) (λ text. IsRayOf program text x) → (length solution ≤ SOLUTION_LIMIT) × IsRayOf program solution x
     in_ray x h = read_held SOLUTION_LIMIT (before.told names.solution) solution (λ text. IsRayOf program text x) at_solution h
 
-    judged : (k s : ℕ) (said : List ℕ) → s ≡ k → IsJudged program (before.told names.solution) k said → OfSolution s said
+    judged : (k s : ℕ) (said : List ℕ) → s ≡ k → IsJudged (room_of names.wide) (texts_of names.wide) program (before.told names.solution) k said → OfSolution s said
     judged k s said e (inl a) =
         let r = in_pair a.point None a.given in
         inr (
           r.0,
-          solution_sound program solution r.1.0 r.1.1.0,
+          solution_sound meant program solution r.1.0 r.1.1.0,
           inl (record {
             other = r.1.0;
             alone = sym r.1.1.2;
             verdict = a.verdict;
-            decides = subst (λ (xs : List Number). Decides (meaning program) (vector_of xs) a.verdict) r.1.1.1 a.decides;
+            decides = subst (λ (xs : List Number). DecidesIn (room_of names.wide) (meaning program) (vector_of xs) a.verdict) r.1.1.1 a.decides;
             answers = a.answers ∙ sym e;
             line = a.said;
           }),
@@ -235,14 +248,14 @@ module _ (names : CheckNames) (input solution : List ℕ) where
         let r = in_pair a.point (Some a.duals) a.given in
         inr (
           r.0,
-          solution_sound program solution r.1.0 r.1.1.0,
+          solution_sound meant program solution r.1.0 r.1.1.0,
           inr (inl (record {
             other = r.1.0;
             prices = a.duals;
             given = sym r.1.1.2;
             continuous = a.continuous;
             verdict = a.verdict;
-            decides = subst (λ (xs : List Number). DecidesPair program.sense (meaning program) (vector_of xs) (vector_of a.duals) a.verdict) r.1.1.1 a.decides;
+            decides = subst (λ (xs : List Number). DecidesPairIn (room_of names.wide) program.sense (meaning program) (vector_of xs) (vector_of a.duals) a.verdict) r.1.1.1 a.decides;
             answers = a.answers ∙ sym e;
             line = a.said;
           })),
@@ -251,7 +264,7 @@ module _ (names : CheckNames) (input solution : List ℕ) where
         let r = in_ray a.ray a.given in
         inr (
           r.0,
-          ray_sound program solution r.1.0 r.1.1,
+          ray_sound meant program solution r.1.0 r.1.1,
           inr (inr (inl (record {
             starts = r.1.0;
             continuous = a.continuous;
@@ -262,27 +275,27 @@ module _ (names : CheckNames) (input solution : List ℕ) where
           }))),
         )
 
-    not_continuous : (s : ℕ) (said : List ℕ) → s ≡ 2 → IsNotContinuous program (before.told names.solution) said → OfSolution s said
+    not_continuous : (s : ℕ) (said : List ℕ) → s ≡ 2 → IsNotContinuous meant program (before.told names.solution) said → OfSolution s said
     not_continuous s said e a =
-        let r = read_held SOLUTION_LIMIT (before.told names.solution) solution (λ text. NeedsContinuous program text) at_solution a.given in by r.0 r.1
+        let r = read_held SOLUTION_LIMIT (before.told names.solution) solution (λ text. NeedsContinuous meant program text) at_solution a.given in by r.0 r.1
       where
-        whole : IsAsked program solution → OfWhole program solution s said
+        whole : IsAsked names.wide program solution → OfWhole names.wide program solution s said
         whole asked = record { asked = asked; refused = e; names = a.names }
 
-        by : length solution ≤ SOLUTION_LIMIT → NeedsContinuous program solution → OfSolution s said
-        by most (inl (x, ys, h)) = inr (most, solution_sound program solution h.0 h.1.0, inr (inr (inr (whole (inl (h.0, (ys, sym h.1.2)))))))
-        by most (inr (x, h)) = inr (most, ray_sound program solution h.0 h.1, inr (inr (inr (whole (inr h.0)))))
+        by : length solution ≤ SOLUTION_LIMIT → NeedsContinuous meant program solution → OfSolution s said
+        by most (inl (x, ys, h)) = inr (most, solution_sound meant program solution h.0 h.1.0, inr (inr (inr (whole (inl (h.0, (ys, sym h.1.2)))))))
+        by most (inr (x, h)) = inr (most, ray_sound meant program solution h.0 h.1, inr (inr (inr (whole (inr h.0)))))
 
     -- at each status
     checked : (k s : ℕ) (said : List ℕ) → s ≡ k → IsChecked names k said before → OfTexts s said
-    checked k s said e h = under s said (λ p. IsJudged p (before.told names.solution) k said) h (judged k s said e)
+    checked k s said e h = under s said (λ p. IsJudged (room_of names.wide) (texts_of names.wide) p (before.told names.solution) k said) h (judged k s said e)
 
     refuses_program : (s : ℕ) (said : List ℕ) (now : Moment) → s ≡ 2 → RefusesProgram names said before now → OfTexts s said
     refuses_program s said now e (inl h) = refused_input s said now e h
-    refuses_program s said now e (inr h) = under s said (λ p. IsNotContinuous p (before.told names.solution) said) h (not_continuous s said e)
+    refuses_program s said now e (inr h) = under s said (λ p. IsNotContinuous meant p (before.told names.solution) said) h (not_continuous s said e)
 
     refuses_solution : (s : ℕ) (said : List ℕ) (now : Moment) → s ≡ 8 → RefusesSolution names said before now → OfTexts s said
-    refuses_solution s said now e h = under s said (λ p. SaysGivenFault p names.solution said before now) h (refused_solution s said now e)
+    refuses_solution s said now e h = under s said (λ p. SaysGivenFault meant p names.solution said before now) h (refused_solution s said now e)
 
     told_of : (s : ℕ) (said : List ℕ) (now : Moment) → IsOfBytes s → SaysCheck names s said before now → OfTexts s said
     told_of s said now b w0 =
@@ -295,11 +308,9 @@ module _ (names : CheckNames) (input solution : List ℕ) where
         (λ w9. either (at_status s 9 _ _ w9) (λ h. checked 9 s said h.0 h.1)
         (λ none. absurd none)))))))
 
-pub check_same : ((M : LinearProgram) (x : Vector) (v w : Verdict Number) → Decides M x v → Decides M x w → v ≡ w)
-    → ((d : Sense) (M : LinearProgram) (x y : Vector) (v w : PairVerdict Number) → DecidesPair d M x y v → DecidesPair d M x y w → v ≡ w)
-    → ((d : ProgramData) (x : Weights) (v w : RayChecked) → DecidesRay d x v → DecidesRay d x w → v ≡ w) → ChecksAreOne
-check_same one pair on_ray names s t said more before now then later (input, i, j) (solution, k, l) b c x y =
+pub check_same : ((d : ProgramData) (x : Weights) (v w : RayChecked) → DecidesRay d x v → DecidesRay d x w → v ≡ w) → ChecksAreOne
+check_same on_ray names s t said more before now then later (input, i, j) (solution, k, l) b c x y =
     let p : ProgramData = program_in (check_form names) input in
     layer_same INPUT_LIMIT input program_over (fault_in (check_form names) input) fault_text 2 s t said more
     (told_of names input solution before i k s said now b x.says) (told_of names input solution then j l t more later c y.says)
-    (λ q r. layer_same SOLUTION_LIMIT solution solution_over (given_fault p solution) solution_line 8 s t said more q r (told_same p solution one pair on_ray s t said more))
+    (λ q r. layer_same SOLUTION_LIMIT solution solution_over (given_fault (texts_of names.wide).reading p solution) solution_line 8 s t said more q r (told_same names.wide p solution on_ray s t said more))

@@ -1,16 +1,21 @@
 -- A presolve, and later a postsolve of what it left.
-use Rattle.std.specs.Prelude.{◌≡◌, ℕ, List, All, Option, Some, IfSome}
+use Rattle.std.specs.Prelude.{◌≡◌, ℕ, Bool, true, List, All, Option, Some, IfSome}
 use Rattle.fractions.specs.Number.{Number}
+use Rattle.fractions.specs.Room.{in_any_width}
+use Rattle.exact_texts.specs.Kinds.{texts_of, wide_texts}
 use Rattle.file_ports.specs.Ports.{Moment}
 use Rattle.command_words.specs.Names.{PostsolveNames, PresolveNames}
 use Rattle.lp_model.specs.Names.{names_of_columns, names_of_rows}
 use Rattle.lp_model.specs.ProgramData.{ProgramData}
 use Rattle.mps_round_trip.specs.Plain.{Plain}
-use Rattle.point_text.specs.PairText.{pair_duals, pair_point}
+use Rattle.point_text.specs.PairText.{pair_duals_by, pair_point_by}
+use Rattle.record_reader.specs.Reading.{records_of}
+use Rattle.undo_records.specs.Postsolve.{Postsolve}
 use Rattle.endings.specs.Forms.{form_of}
 use Rattle.endings.specs.ProgramTexts.{program_in}
 use Rattle.presolve_command.specs.Presolved.{IsPresolved}
 use Rattle.postsolve_command.specs.Given.{reduced_form}
+use Rattle.postsolve_command.specs.Lifted.{IsLifted}
 use Rattle.postsolve_command.specs.Postsolved.{IsPostsolved}
 use Rattle.whole_way.specs.Texts.{IsUnmarked}
 
@@ -51,15 +56,25 @@ original first way = program_in (form_of first.options) way.input
 abbrev pub reduced : Way → ProgramData
 reduced way = program_in reduced_form way.output
 
--- the point that a solution's bytes give a program, and the duals, if they give duals
-abbrev pub point_in : ProgramData → List ℕ → List Number
-point_in program bytes = pair_point (names_of_columns program.columns) bytes
+-- the records of REC
+abbrev pub records_in : Way → Postsolve
+records_in way = records_of way.records
 
-abbrev pub duals_in : ProgramData → List ℕ → Option (List Number)
-duals_in program bytes = pair_duals (names_of_rows program.rows) bytes
+-- the point that a solution's bytes give a program, and the duals, if they give duals, where its numbers may have any width or not
+abbrev pub point_in : Bool → ProgramData → List ℕ → List Number
+point_in wide program bytes = pair_point_by (texts_of wide).reading (names_of_columns program.columns) bytes
+
+abbrev pub duals_in : Bool → ProgramData → List ℕ → Option (List Number)
+duals_in wide program bytes = pair_duals_by (texts_of wide).reading (names_of_rows program.rows) bytes
 
 -- The program's names can stand in OUT and in RESULT, where no column has the name of a mark, and with duals no row.
 pub record CanBeWritten (program : ProgramData) (duals : Option (List Number)) : Type 0 where
   pub plain : Plain program
   pub columns : All IsUnmarked (names_of_columns program.columns)
   pub rows : IfSome duals (λ y. All IsUnmarked (names_of_rows program.rows))
+
+-- Where SOL's numbers may have any width: the terms of each number that the records make of them have no more digits than are read.
+abbrev pub AreShort : Way → Type 0
+AreShort way = (lifted : List Number) (prices : Option (List Number))
+    → IsLifted in_any_width (records_in way) (reduced way) (point_in true (reduced way) way.solution) (duals_in true (reduced way) way.solution) lifted prices
+    → All wide_texts.IsShort lifted × IfSome prices (All wide_texts.IsShort)

@@ -8,3 +8,4 @@ pub mod Words
 pub mod Fitting
 pub mod Whole
 pub mod EndsTold
+pub mod Alike

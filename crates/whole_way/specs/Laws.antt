@@ -1,6 +1,8 @@
 -- The laws of the whole way.
-use Rattle.std.specs.Prelude.{◌≡◌, ℕ, true, List, length, slice_index, Some, None, All}
+use Rattle.std.specs.Prelude.{◌≡◌, ℕ, true, List, length, slice_index, Option, Some, None, All}
 use Rattle.fractions.specs.Number.{Number}
+use Rattle.exact_texts.specs.Kinds.{wide_texts}
+use Rattle.exact_texts.specs.Texts.{frac_texts, Texts}
 use Rattle.lp_model.specs.LinearProgram.{Feasible}
 use Rattle.lp_model.specs.Meaning.{meaning}
 use Rattle.lp_model.specs.Names.{names_of_rows}
@@ -54,39 +56,46 @@ EndsAreToldOfTexts = (options : Options) (workers : Workers) (program read : Pro
 -- Presolve reduces a program, and writes the reduced program's text `out` and the text of records `undoing`. They are read as a program
 -- and records. The text `solution` is read as a point that is feasible for the program that was read, and postsolve writes as `result` what
 -- the records make of that point. Then `result` is read as a point that is feasible for the program that presolve began with, and costs
--- the offset more.
-abbrev pub ComesBackWhole : Type 0
-ComesBackWhole = (options : Options) (workers : Workers) (program read : ProgramData) (told : Postsolve) (point : List Number) (out undoing solution result : List ℕ)
+-- the offset more. The numbers of `solution` and `result` are read and written as those of a kind are.
+abbrev pub ComesBackWhole : Texts → Type 0
+ComesBackWhole t = (options : Options) (workers : Workers) (program read : ProgramData) (told : Postsolve) (point : List Number) (out undoing solution result : List ℕ)
     → PresolveWrites options workers program out undoing
     → IsProgramText out read
     → IsRecordText undoing told
-    → IsSolutionText read solution point None
+    → IsSolutionText t read solution point None
     → Feasible (meaning read) (vector_of point)
-    → PostsolveWrites told point result
-    → (back : List Number) × IsSolutionText program result back None × ComesBack program read told.offset point back
+    → PostsolveWrites t told point result
+    → (back : List Number) × IsSolutionText t program result back None × ComesBack program read told.offset point back
 
 -- the same of a best point: if the solution is a best point of the reduced program, the result is one of the program
-abbrev pub BestComesBackWhole : Type 0
-BestComesBackWhole = (options : Options) (workers : Workers) (program read : ProgramData) (told : Postsolve) (point : List Number) (out undoing solution result : List ℕ)
+abbrev pub BestComesBackWhole : Texts → Type 0
+BestComesBackWhole t = (options : Options) (workers : Workers) (program read : ProgramData) (told : Postsolve) (point : List Number) (out undoing solution result : List ℕ)
     → PresolveWrites options workers program out undoing
     → IsProgramText out read
     → IsRecordText undoing told
-    → IsSolutionText read solution point None
+    → IsSolutionText t read solution point None
     → IsBest read.sense (meaning read) (vector_of point)
-    → PostsolveWrites told point result
-    → (back : List Number) × IsSolutionText program result back None × IsBest program.sense (meaning program) (vector_of back)
+    → PostsolveWrites t told point result
+    → (back : List Number) × IsSolutionText t program result back None × IsBest program.sense (meaning program) (vector_of back)
 
 -- The same with duals. Where presolve was asked for records that undo duals, it took only a program without whole columns; and the rows' names
 -- can be written in a solution's text too. If what `solution` gives meets the optimality conditions of the program that was read, then what
 -- `result` gives meets those of the program that presolve began with; and so it proves that no feasible point costs better.
-abbrev pub PairsComeBackWhole : Type 0
-PairsComeBackWhole = (options : Options) (workers : Workers) (program read : ProgramData) (told : Postsolve) (point duals : List Number) (out undoing solution result : List ℕ)
+abbrev pub PairsComeBackWhole : Texts → Type 0
+PairsComeBackWhole t = (options : Options) (workers : Workers) (program read : ProgramData) (told : Postsolve) (point duals : List Number) (out undoing solution result : List ℕ)
     → PresolveWrites options workers program out undoing
     → (options.dual ≡ true → Continuous (meaning program))
     → All IsUnmarked (names_of_rows program.rows)
     → IsProgramText out read
     → IsRecordText undoing told
-    → IsSolutionText read solution point (Some duals)
+    → IsSolutionText t read solution point (Some duals)
     → Meets read.sense (meaning read) (vector_of point) (vector_of duals)
-    → PostsolveWritesPair told read point duals result
-    → (back prices : List Number) × IsSolutionText program result back (Some prices) × PairComesBack program read told.offset point back prices
+    → PostsolveWritesPair t told read point duals result
+    → (back prices : List Number) × IsSolutionText t program result back (Some prices) × PairComesBack program read told.offset point back prices
+
+-- A text of a solution that is read where its numbers have to have room in a `Frac` has no fault where they may have any width, and gives the
+-- same numbers.
+abbrev pub NarrowIsWide : Type 0
+NarrowIsWide = (program : ProgramData) (text : List ℕ) (point : List Number) (duals : Option (List Number))
+    → IsSolutionText frac_texts program text point duals
+    → IsSolutionText wide_texts program text point duals

@@ -1,8 +1,8 @@
 -- The texts that pass from a presolve to a solver and to a postsolve.
-use Rattle.std.specs.Prelude.{◌≡◌, ◌≢◌, ℕ, true, List, codes, Option, Some, None, All}
+use Rattle.std.specs.Prelude.{◌≡◌, ◌≢◌, ℕ, true, List, codes, Option, Some, None, All, IfSome}
 use Rattle.fractions.specs.Number.{Number}
-use Rattle.fractions.specs.Lowest.{Fits}
 use Rattle.fractions.specs.declared.Numbers.TheVariants.{Fractions}
+use Rattle.exact_texts.specs.Texts.{Texts}
 use Rattle.lp_model.specs.Names.{names_of_columns, names_of_rows}
 use Rattle.lp_model.specs.ProgramData.{ProgramData}
 use Rattle.undo_records.specs.Postsolve.{Postsolve}
@@ -11,8 +11,9 @@ use Rattle.mps_profile.specs.Program.{program_of}
 use Rattle.mps_writer.specs.MpsText.{mps_text}
 use Rattle.mps_written_lines.specs.Formats.{free_format}
 use Rattle.mps_round_trip.specs.Plain.{Plain}
-use Rattle.point_text.specs.PairText.{pair_duals, pair_fault, pair_point, pair_text}
-use Rattle.point_text.specs.SolutionText.{solution_text}
+use Rattle.point_text.specs.PairText.{pair_duals_by, pair_fault_by, pair_point_by, pair_text_by}
+use Rattle.point_text.specs.SolutionText.{solution_text_by}
+use Rattle.point_text.specs.WrittenNames.{AreNumberedBy}
 use Rattle.record_values.specs.declared.version.TextVersion.TheVariants.{Second}
 use Rattle.record_file.specs.RecordText as files
 use Rattle.record_reader.specs.Matching.{Matches}
@@ -36,12 +37,12 @@ pub record IsRecordText (text : List ℕ) (told : Postsolve) : Type 0 where
   pub sound : records.first_fault text ≡ None
   pub same : records.records_of text ≡ told
 
--- a text of a solution has no fault for the program's columns and rows, and gives the columns these numbers, and the rows these duals, if it
--- gives duals
-pub record IsSolutionText (program : ProgramData) (text : List ℕ) (point : List Number) (duals : Option (List Number)) : Type 0 where
-  pub sound : pair_fault (names_of_columns program.columns) (names_of_rows program.rows) text ≡ None
-  pub same : pair_point (names_of_columns program.columns) text ≡ point
-  pub same_duals : pair_duals (names_of_rows program.rows) text ≡ duals
+-- a text of a solution, whose numbers are read as those of a kind are, has no fault for the program's columns and rows, and gives the columns
+-- these numbers, and the rows these duals, if it gives duals
+pub record IsSolutionText (t : Texts) (program : ProgramData) (text : List ℕ) (point : List Number) (duals : Option (List Number)) : Type 0 where
+  pub sound : pair_fault_by t.reading (names_of_columns program.columns) (names_of_rows program.rows) text ≡ None
+  pub same : pair_point_by t.reading (names_of_columns program.columns) text ≡ point
+  pub same_duals : pair_duals_by t.reading (names_of_rows program.rows) text ≡ duals
 
 -- ---- what is written
 -- not the word that a solution's text has for the objective's value
@@ -61,23 +62,34 @@ pub record PresolveWrites (options : Options) (workers : Workers) (program : Pro
   pub program_text : out ≡ mps_text reduced
   pub records_text : undoing ≡ files.record_text Second told
 
--- Postsolve undid the records at a point, and wrote the lifted point by the names of the original columns. Its numbers have room, as all
--- values of their type do.
-pub record PostsolveWrites (told : Postsolve) (point : List Number) (result : List ℕ) : Type 0 where
+-- Postsolve undid the records at a point, and wrote the lifted point by the names of the original columns, with the texts of a kind of numbers.
+-- Its numbers are short enough to be read again: all values of a `Frac` are, and of the numbers of any width those whose terms have no more
+-- digits than are read.
+pub record PostsolveWrites (t : Texts) (told : Postsolve) (point : List Number) (result : List ℕ) : Type 0 where
   pub lifted : List Number
   pub undone : IsUndone told point lifted
-  pub fits : All Fits lifted
-  pub text : result ≡ solution_text (names_in told.columns) lifted
+  pub short : All t.IsShort lifted
+  pub text : result ≡ solution_text_by t.writing (names_in told.columns) lifted
 
 -- The same of a pair, by records that undo duals too: the lifted point and the duals by the names of the original columns and rows.
-pub record PostsolveWritesPair (told : Postsolve) (reduced : ProgramData) (point duals : List Number) (result : List ℕ) : Type 0 where
+pub record PostsolveWritesPair (t : Texts) (told : Postsolve) (reduced : ProgramData) (point duals : List Number) (result : List ℕ) : Type 0 where
   pub lifted : List Number
   pub prices : List Number
   pub asked : told.duals ≡ true
   pub undone : IsPairUndone told reduced point duals lifted prices
-  pub fits : All Fits lifted
-  pub prices_fit : All Fits prices
-  pub text : result ≡ pair_text (names_in told.columns) (names_in told.rows) lifted (Some prices)
+  pub short : All t.IsShort lifted
+  pub prices_short : All t.IsShort prices
+  pub text : result ≡ pair_text_by t.writing (names_in told.columns) (names_in told.rows) lifted (Some prices)
+
+-- What is written of a pair, with the texts of a kind of numbers, is read again without a fault: the names are plain and differ, and each number
+-- is short enough.
+pub record PairsAgain (t : Texts) : Type 0 where
+  pub fault : (columns rows : List (List ℕ)) (point : List Number) (duals : Option (List Number)) → AreNumberedBy t.IsShort columns point → IfSome duals (λ d. AreNumberedBy t.IsShort rows d)
+      → pair_fault_by t.reading columns rows (pair_text_by t.writing columns rows point duals) ≡ None
+  pub point : (columns rows : List (List ℕ)) (point : List Number) (duals : Option (List Number)) → AreNumberedBy t.IsShort columns point
+      → pair_point_by t.reading columns (pair_text_by t.writing columns rows point duals) ≡ point
+  pub duals : (columns rows : List (List ℕ)) (point : List Number) (duals : Option (List Number)) → AreNumberedBy t.IsShort columns point → IfSome duals (λ d. AreNumberedBy t.IsShort rows d)
+      → pair_duals_by t.reading rows (pair_text_by t.writing columns rows point duals) ≡ duals
 
 -- the texts are read as this program and these records, and the records are those of the program
 pub record TextsFit (reduced : ProgramData) (told : Postsolve) (out undoing : List ℕ) : Type 0 where

@@ -1,3 +1,4 @@
+use Rattle.std.proofs.Common.{refl}
 use Rattle.std.proofs.lemmas.Result.{IfOk-weaker}
 use Rattle.command_words.specs.Seen.{check_names_of}
 use Rattle.endings.specs.declared.reads.TheConstants.{INPUT_LIMIT, SOLUTION_LIMIT}
@@ -16,4 +17,4 @@ returns-in-Ok-clause-ends g c =
         finds_there INPUT_LIMIT names.input before now _ c.in-Ok.ensures.input,
         finds_there SOLUTION_LIMIT names.solution before now _ c.in-Ok.ensures.solution,
       );
-    }) (c.judge.ensures names before now c.form_with-form.ensures c.in-Ok.ensures.input c.in-Ok.ensures.solution)
+    }) (c.judge.ensures names before now c.form_with-form.ensures refl c.in-Ok.ensures.input c.in-Ok.ensures.solution)

@@ -2,4 +2,4 @@ use Rattle.two_runs.proofs.OneCheck.{check_same}
 use Rattle.two_runs.proofs.same_answers.checks_are_one.Goals as goal
 
 pub returns : goal.returns
-returns c = check_same c.verdicts_are_one.ensures c.verdicts_with_duals_are_one.ensures c.verdicts_on_rays_are_one.ensures
+returns c = check_same c.verdicts_on_rays_are_one.ensures

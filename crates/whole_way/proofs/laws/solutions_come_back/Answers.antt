@@ -1,11 +1,10 @@
-use Rattle.whole_way.proofs.Whole.{best_whole, pairs_whole, whole}
 use Rattle.whole_way.proofs.laws.solutions_come_back.Goals as goal
 
 pub returns-clause-comes_back : goal.returns-clause-comes_back
-returns-clause-comes_back c = whole (record { fault = c.written_pair_is_read.ensures.fault; point = c.written_pair_is_read.ensures.point; duals = c.written_pair_is_read.ensures.duals })
+returns-clause-comes_back c = c.solutions_come_back_in_kind.ensures.comes_back
 
 pub returns-clause-best : goal.returns-clause-best
-returns-clause-best c = best_whole (record { fault = c.written_pair_is_read.ensures.fault; point = c.written_pair_is_read.ensures.point; duals = c.written_pair_is_read.ensures.duals })
+returns-clause-best c = c.solutions_come_back_in_kind.ensures.best
 
 pub returns-clause-pairs : goal.returns-clause-pairs
-returns-clause-pairs c = pairs_whole (record { fault = c.written_pair_is_read.ensures.fault; point = c.written_pair_is_read.ensures.point; duals = c.written_pair_is_read.ensures.duals })
+returns-clause-pairs c = c.solutions_come_back_in_kind.ensures.pairs
