@@ -97,6 +97,12 @@ fn better_at(sums: &RowSums, sides: &Sides, place: usize) -> Better
     ensures upper { result.upper ≡ is_tight_by sides.now sums.now (span_at sums.now place) side_of.Upper }
 {
     let quiet = sums.quiet_sides(place, &sides.lower, &sides.upper);
+    if quiet.lower && quiet.upper {
+        return Better {
+            lower: false,
+            upper: false,
+        };
+    }
     Better {
         lower: is_tight_at(sums, sides, quiet, place, Side::Lower),
         upper: is_tight_at(sums, sides, quiet, place, Side::Upper),

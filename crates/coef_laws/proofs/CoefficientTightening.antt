@@ -55,12 +55,12 @@ use Rattle.coef_laws.specs.CoefficientTightening.{Shrinks, best_bound, edits, ed
 use Rattle.problem_model.specs.Showing.{reach_low, reach_high}
 
 -- ---- what comes of a value
-record IsGiven (A B : Type 0) (o : Option A) (f : A → Option B) (b : B) : Type 0 where
-  value : A
-  there : o ≡ Some value
-  after : f value ≡ Some b
+pub record IsGiven (A B : Type 0) (o : Option A) (f : A → Option B) (b : B) : Type 0 where
+  pub value : A
+  pub there : o ≡ Some value
+  pub after : f value ≡ Some b
 
-is_given : (A B : Type 0) (o : Option A) (f : A → Option B) (b : B) → given o f ≡ Some b → IsGiven A B o f b
+pub is_given : (A B : Type 0) (o : Option A) (f : A → Option B) (b : B) → given o f ≡ Some b → IsGiven A B o f b
 is_given A B None f b e = cc
 is_given A B (Some a) f b e = record { value = a; there = refl; after = e }
 
@@ -88,7 +88,7 @@ left_is a b h x d e =
     let n = is_continued (exact_product a x) (λ r. exact_difference m.value r) d m.after in
     ap₂ (λ q r. q -ℚ r) (room_is _ (b -ℚ h) m.value m.there) (room_is _ (a *ℚ x) n.value n.there) ∙ room_is _ (m.value -ℚ n.value) d (made_is _ d n.after)
 
-slack_is : (a b h l u d : Number) → if_made (slack a b h l u) ≡ Some d → (if lt_ℚ zero_ℚ a then b -ℚ h -ℚ a *ℚ (u -ℚ one_ℚ) else b -ℚ h -ℚ a *ℚ (l +ℚ one_ℚ)) ≡ d
+pub slack_is : (a b h l u d : Number) → if_made (slack a b h l u) ≡ Some d → (if lt_ℚ zero_ℚ a then b -ℚ h -ℚ a *ℚ (u -ℚ one_ℚ) else b -ℚ h -ℚ a *ℚ (l +ℚ one_ℚ)) ≡ d
 slack_is a b h l u d e = let m = is_continued (next_best a l u) (left_at a b h) d e in by (lt_ℚ zero_ℚ a) m.value m.there ∙ left_is a b h m.value d m.after
   where
     by : (c : Bool) (x : Number) → (if c then exact_difference u one_ℚ else exact_sum l one_ℚ) ≡ Ok x → (if c then b -ℚ h -ℚ a *ℚ (u -ℚ one_ℚ) else b -ℚ h -ℚ a *ℚ (l +ℚ one_ℚ)) ≡ b -ℚ h -ℚ a *ℚ x
@@ -96,14 +96,14 @@ slack_is a b h l u d e = let m = is_continued (next_best a l u) (left_at a b h) 
     by false x f = ap (λ y. b -ℚ h -ℚ a *ℚ y) (room_is _ (l +ℚ one_ℚ) x f)
 
 -- ---- bounds and sides
-record AreBounds (l u : Option Number) (w : Bool) (b : Number × Number) : Type 0 where
-  lower : l ≡ Some b.0
-  upper : u ≡ Some b.1
-  whole : w ≡ true
-  whole_lower : IsWhole b.0
-  whole_upper : IsWhole b.1
+pub record AreBounds (l u : Option Number) (w : Bool) (b : Number × Number) : Type 0 where
+  pub lower : l ≡ Some b.0
+  pub upper : u ≡ Some b.1
+  pub whole : w ≡ true
+  pub whole_lower : IsWhole b.0
+  pub whole_upper : IsWhole b.1
 
-are_bounds : (l u : Option Number) (w : Bool) (b : Number × Number) → whole_bounds l u w ≡ Some b → AreBounds l u w b
+pub are_bounds : (l u : Option Number) (w : Bool) (b : Number × Number) → whole_bounds l u w ≡ Some b → AreBounds l u w b
 are_bounds None u w b e = cc
 are_bounds (Some x) None w b e = cc
 are_bounds (Some x) (Some y) false b e = cc
@@ -146,16 +146,16 @@ is_side None (Some b) side e = subst (IsSide None (Some b)) (same (Upper, b) sid
     same : (c d : Side × Number) → Some c ≡ Some d → c ≡ d
     same c d g = cc
 
-finite_is : (r : Result (Option Number) Past) (h : Number) → if_finite r ≡ Some h → r ≡ Ok (Some h)
+pub finite_is : (r : Result (Option Number) Past) (h : Number) → if_finite r ≡ Some h → r ≡ Ok (Some h)
 finite_is (Ok e) h f = ap Ok f
 finite_is (Err x) h f = cc
 
-record IsShort (t s : Tightening) : Type 0 where
-  same : t ≡ s
-  positive : zero_ℚ <ℚ t.slack
-  below : t.slack <ℚ abs_ℚ t.coefficient
+pub record IsShort (t s : Tightening) : Type 0 where
+  pub same : t ≡ s
+  pub positive : zero_ℚ <ℚ t.slack
+  pub below : t.slack <ℚ abs_ℚ t.coefficient
 
-is_short : (t s : Tightening) → if_short t ≡ Some s → IsShort t s
+pub is_short : (t s : Tightening) → if_short t ≡ Some s → IsShort t s
 is_short t s e = by (lt_ℚ zero_ℚ t.slack && lt_ℚ t.slack (abs_ℚ t.coefficient)) refl e
   where
     same_is : Some t ≡ Some s → t ≡ s
@@ -167,7 +167,7 @@ is_short t s e = by (lt_ℚ zero_ℚ t.slack && lt_ℚ t.slack (abs_ℚ t.coeffi
     by false f g = cc
 
 -- ---- what a tightening says of a row
-abbrev told : Side → Number → Number → Number → Number → Number → Number → Tightening
+abbrev pub told : Side → Number → Number → Number → Number → Number → Number → Tightening
 told f a b l u h d = record { side = f; coefficient = turned f a; limit = turned f b; bound = best_bound (turned f a) l u; slack = d }
 
 record Tells (j : ℕ) (l u : Option Number) (ss : List Span) (t : Tightening) : Type 0 where

@@ -1,2 +1,3 @@
 pub mod CoefficientTightening
 pub mod Changing
+pub mod Excess

@@ -17,7 +17,7 @@ use Rattle.activity_laws.specs.BoundTightening.{entry_at}
 use Rattle.activities.specs.Rows.{is_uncrossed}
 use Rattle.coef_laws.specs.CoefficientTightening.{enabled, extreme_of, given, if_finite, one_side, tightened_at, tightened_by, tightened_in, tightening_of, turned, whole_bounds}
 use Rattle.coef_laws.specs.declared.tightening.Tightening.{Tightening}
-use Rattle.coef_rules.specs.Columns.{any_whole, ids_among, is_whole_column}
+use Rattle.coef_rules.specs.Columns.{any_whole, ids_among, is_whole_column, NoneTightened}
 use Rattle.coef_rules.proofs.Looks.{enabled_is}
 
 -- ---- the entry at a place
@@ -97,6 +97,11 @@ module _ (p : Sparse) (i : ℕ) where
       not_by_side : (j : ℕ) (o : Option (Side × Number)) → given o (λ side. tightened_in side.0 side.1 j (spans_of p i)) ≡ None
       not_by_side j None = refl
       not_by_side j (Some side) = none_tightened p side.0 side.1 j (rest (extreme_of side.0) j (spans_of p i)) (row_at p i).entries e
+
+  pub none_short : (x : List ℕ) (f : Side) (b : Number) → one_side (sides_at p i).lower (sides_at p i).upper ≡ Some (f, b) → NoneTightened f b (spans_of p i) → x ≡ x ++ filter (λ j. enabled p i j) ids
+  none_short x f b e h = none_more (λ j. enabled p i j) x ids
+      (λ j. enabled_is p i j ∙ ap (λ (o : Option (Side × Number)). is_uncrossed p i && is_some (given o (λ side. tightened_in side.0 side.1 j (spans_of p i)))) e
+      ∙ ap (λ (o : Option Tightening). is_uncrossed p i && is_some o) (h j) ∙ and_none (is_uncrossed p i))
 
   -- an entry and its span are in one column
   same_ids : (ts : List Term) → map (λ (s : Span). s.id) (map (span_of p) ts) ≡ map (λ (t : Term). t.id) ts

@@ -106,7 +106,7 @@ fn slack(coefficient: &Frac, limit: &Frac, rest: &Frac, bounds: &(Frac, Frac)) -
 }
 
 /// How far a number is from 0.
-fn magnitude(number: &Frac) -> Frac
+pub fn magnitude(number: &Frac) -> Frac
     ensures { result ≡ abs_ℚ number.now }
 {
     if Frac::zero().le(number) {

@@ -3,6 +3,7 @@
 ghost use Rattle.std.specs.Prelude.{◌≡◌, ◌∷◌, ◌++◌, [], map, IfNone, IfOk, IfSome, OnOk, true};
 ghost use Rattle.std.specs.List.{filter};
 ghost use Rattle.problem_model.specs.Problems.{column_entries, row_entries};
+ghost use Rattle.problem_model.specs.Sparse.{Sparse};
 ghost use Rattle.dual_laws.specs.DominatedColumn.{pairs_of};
 ghost use Rattle.presolve_model.specs.declared.instance.Instance.TheVariants as at;
 ghost use Rattle.presolve_model.specs.declared.instance.Reduction.TheVariants as reduction;
@@ -11,7 +12,7 @@ ghost use Rattle.presolve_model.specs.Enabled.{enabled_on};
 ghost use Rattle.instances.specs.Beside.{ids_beside};
 ghost use Rattle.presolve_model.specs.Instances.{beside_at, both_orders, goes_by_groups, instances_from, sole_row as sole_row_of};
 ghost use Rattle.line_groups.specs.Groups.{AreGroupsOf};
-ghost use Rattle.presolve_model.specs.Tallies.{open_on};
+ghost use Rattle.presolve_model.specs.Tallies.{Open, open_on};
 
 use crate::tally::Tally;
 use line_groups::Parallels;
@@ -276,6 +277,35 @@ fn add_beside(
         rest = after;
     }
     Ok(())
+}
+
+/// The instance of a rule that has just one at each id.
+pub fn only_instance(rule: Rule, id: u32) -> Option<Instance>
+    ensures { IfSome result (λ instance. (opens : Open) (p : Sparse) → instances_from opens p rule id ≡ instance ∷ []) }
+{
+    match rule {
+        Rule::CrossedBounds => Some(Instance::Verdict(Verdict::CrossedBounds { column: id })),
+        Rule::CrossedSides => Some(Instance::Verdict(Verdict::CrossedSides { row: id })),
+        Rule::InfeasibleRow => Some(Instance::Verdict(Verdict::InfeasibleRow { row: id })),
+        Rule::UnboundedColumn => Some(Instance::Verdict(Verdict::UnboundedColumn { column: id })),
+        Rule::EmptyRow => Some(Instance::Reduction(Reduction::EmptyRow { row: id })),
+        Rule::SingletonRow => Some(Instance::Reduction(Reduction::SingletonRow { row: id })),
+        Rule::FixedColumn => Some(Instance::Reduction(Reduction::FixedColumn { column: id })),
+        Rule::RoundedBounds => Some(Instance::Reduction(Reduction::RoundedBounds { column: id })),
+        Rule::RedundantRow => Some(Instance::Reduction(Reduction::RedundantRow { row: id })),
+        Rule::RedundantSide => Some(Instance::Reduction(Reduction::RedundantSide { row: id })),
+        Rule::ForcingRow => Some(Instance::Reduction(Reduction::ForcingRow { row: id })),
+        Rule::DualFixing => Some(Instance::Reduction(Reduction::DualFixing { column: id })),
+        Rule::EmptyColumn => Some(Instance::Reduction(Reduction::EmptyColumn { column: id })),
+        Rule::BoundTightening
+        | Rule::CoefficientTightening
+        | Rule::DominatedColumn
+        | Rule::DoubletonEquation
+        | Rule::FreeColumnSingleton
+        | Rule::SlackColumnSingleton
+        | Rule::ParallelRows
+        | Rule::ParallelColumns => None,
+    }
 }
 
 /// Adds the enabled instances of a rule with a first id that are open, in their order. Of a rule of lines that are multiples of one another they

@@ -1,5 +1,5 @@
 -- Keys of numbers, of lines and of their multiples.
-use Rattle.std.proofs.Common.{◌≡◌, ◌≢◌, ℕ, Bool, true, false, List, [], ◌∷◌, Some, Result, Ok, Err, refl, sym, ap, ◌∙◌, subst}
+use Rattle.std.proofs.Common.{◌≡◌, ◌≢◌, ℕ, Bool, true, false, List, [], ◌∷◌, Option, Some, None, Result, Ok, Err, refl, sym, ap, ◌∙◌, subst}
 use Rattle.std.specs.Prelude.{if◌then◌else◌}
 use Rattle.std.specs.List.{All}
 use Rattle.std.proofs.lemmas.List.Elements.{All-head}
@@ -10,7 +10,7 @@ use Rattle.lp_model.specs.declared.terms.Term.{Term}
 use Rattle.problem_model.specs.declared.line.Line.{Line}
 use Rattle.problem_model.specs.Matrices.{live_only}
 use Rattle.row_spans.specs.Exact.{fits, if_room}
-use Rattle.line_groups.specs.Keys.{first_number, mixed, with_number, with_parts}
+use Rattle.line_groups.specs.Keys.{first_number, last_number, mixed, with_number, with_parts}
 
 -- ---- a number in a key, as its quotient is made
 by_room : ℕ → Number → Bool → ℕ
@@ -47,3 +47,17 @@ pub read_none_zero : (others os : List Line) (line l : Line) (ts : List Term) �
 read_none_zero others os line l ts a f g h =
     let same : ts ≡ line.entries = h ∙ ap (λ (x : Line). x.entries) g in
     subst (λ (xs : List Line). All (λ t. t.value ≢ zero_ℚ) (live_only xs ts)) (sym f) (subst (λ (us : List Term). All (λ t. t.value ≢ zero_ℚ) (live_only others us)) (sym same) a)
+
+-- ---- the last of some terms
+-- the last of these; a number that was the last so far where there are none
+abbrev pub last_behind : Option Number → List Term → Option Number
+last_behind o [] = o
+last_behind o (t ∷ ts) = last_behind (Some t.value) ts
+
+pub last_behind_is : (t : Term) (ts : List Term) → last_behind (Some t.value) ts ≡ last_number (t ∷ ts)
+last_behind_is t [] = refl
+last_behind_is t (u ∷ ts) = last_behind_is u ts
+
+pub last_begun : (ts : List Term) → last_behind None ts ≡ last_number ts
+last_begun [] = refl
+last_begun (t ∷ ts) = last_behind_is t ts

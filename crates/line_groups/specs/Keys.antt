@@ -28,20 +28,35 @@ with_parts h n d = mixed (mixed (mixed h (sign_of n)) (unsigned_abs n % 2 ^ 64))
 unfoldable pub with_number : ℕ → Number → ℕ
 with_number h q = if fits q then with_parts h (over_of q) (under_of q) else mixed h 0
 
--- a key with terms in it: of each its id, and its number over the divisor
-abbrev pub with_terms : Number → ℕ → List Term → ℕ
-with_terms d h [] = h
-with_terms d h (t ∷ ts) = with_terms d (with_number (mixed h t.id) (t.value /ℚ d)) ts
+-- a key with the ids of terms in it
+abbrev pub with_ids : ℕ → List Term → ℕ
+with_ids h [] = h
+with_ids h (t ∷ ts) = with_ids (mixed h t.id) ts
 
--- the number of the first term
+-- the number of the first term, and of the last one
 abbrev pub first_number : List Term → Option Number
 first_number [] = None
 first_number (t ∷ ts) = Some t.value
 
--- the key of a line with a cost: of all over its first entry; without entries it has none
+abbrev pub last_number : List Term → Option Number
+last_number [] = None
+last_number (t ∷ []) = Some t.value
+last_number (t ∷ u ∷ ts) = last_number (u ∷ ts)
+
+-- a key with a cost and a last number in it, both over the first one
+abbrev pub with_ends : ℕ → Number → Number → Number → ℕ
+with_ends h a b c = with_number (with_number h (c /ℚ a)) (b /ℚ a)
+
+-- where there is a first one and a last one
+abbrev pub by_ends : ℕ → Number → Option Number → Option Number → Option ℕ
+by_ends h c (Some a) (Some b) = Some (with_ends h a b c)
+by_ends h c (Some a) None = None
+by_ends h c None b = None
+
+-- The key of a line with a cost: of its ids, and of the cost and the last entry over the first one. Without entries it has none. Lines with
+-- other entries between may have the same key.
 abbrev pub key_of : Number → List Term → Option ℕ
-key_of c [] = None
-key_of c (t ∷ ts) = Some (with_terms t.value (with_number 0 (c /ℚ t.value)) (t ∷ ts))
+key_of c ts = by_ends (with_ids 0 ts) c (first_number ts) (last_number ts)
 
 -- the key of a row or a column that is there
 abbrev pub key_in : Contents → Option ℕ

@@ -1,15 +1,14 @@
 //! Keys of rows and columns.
 
-ghost use Rattle.std.specs.Prelude.{◌≡◌, ◌≢◌, ◌%◌, ◌^◌, ◌∷◌, List, true};
+ghost use Rattle.std.specs.Prelude.{◌≡◌, ◌≢◌, ◌%◌, ◌^◌, true};
 ghost use Rattle.std.specs.List.{All};
 ghost use Rattle.fractions.specs.Number.{zero_ℚ};
 ghost use Rattle.fractions.specs.Lowest.{over_of, under_of};
 ghost use Rattle.fractions.specs.Division.{◌/ℚ◌};
-ghost use Rattle.lp_model.specs.declared.terms.Term.{Term as ATerm};
 ghost use Rattle.problem_model.specs.Matrices.{live_only};
 ghost use Rattle.problem_model.specs.declared.part.Part.TheVariants as part;
-ghost use Rattle.line_groups.specs.Keys.{key_at, key_of as key_by, mixed as mixed_with, sign_of as sign_as, with_number as number_in, with_parts as parts_in, with_terms as terms_in};
-ghost use Rattle.line_groups.specs.Keys.{first_number as number_first};
+ghost use Rattle.line_groups.specs.Keys.{key_at, key_of as key_by, mixed as mixed_with, sign_of as sign_as, with_ends as ends_in, with_ids as ids_in, with_number as number_in, with_parts as parts_in};
+ghost use Rattle.line_groups.specs.Keys.{first_number as number_first, last_number as number_last};
 
 use entry_lines::Lines;
 use fractions::frac::Frac;
@@ -63,27 +62,16 @@ fn with_quotient(key: u64, number: &Frac, divisor: &Frac) -> u64
     }
 }
 
-/// A key with a term in it, if that names a line that is live.
-fn with_live(others: &Lines, key: u64, term: &Term, divisor: &Frac) -> u64
-    requires { divisor.now ≢ zero_ℚ }
-    ensures { (rest : List ATerm) → terms_in divisor.now result (live_only others.now rest) ≡ terms_in divisor.now key (live_only others.now (term.now ∷ rest)) }
-{
-    if others.is_live(term.id) {
-        with_quotient(mixed(key, u64::from(term.id)), &term.value, divisor)
-    } else {
-        key
-    }
-}
-
-/// A key with the terms in it that name a line that is live.
-fn with_terms(others: &Lines, key: u64, terms: &[Term], divisor: &Frac) -> u64
-    requires { divisor.now ≢ zero_ℚ }
-    ensures { result ≡ terms_in divisor.now key (live_only others.now terms.now) }
+/// A key with the ids in it of the live lines that terms name.
+fn with_ids(others: &Lines, key: u64, terms: &[Term]) -> u64
+    ensures { result ≡ ids_in key (live_only others.now terms.now) }
 {
     let mut made = key;
     let mut rest = terms;
     while let [term, after @ ..] = rest {
-        made = with_live(others, made, term, divisor);
+        if others.is_live(term.id) {
+            made = mixed(made, u64::from(term.id));
+        }
         rest = after;
     }
     made
@@ -103,32 +91,69 @@ fn first_number(others: &Lines, terms: &[Term]) -> Option<Frac>
     None
 }
 
+/// The number of the last one.
+#[tactic(auto, using(crate::proofs::KeyLaws::last_begun))]
+fn last_number(others: &Lines, terms: &[Term]) -> Option<Frac>
+    ensures { result ≡ number_last (live_only others.now terms.now) }
+{
+    let mut last = None;
+    let mut rest = terms;
+    while let [term, after @ ..] = rest {
+        if others.is_live(term.id) {
+            last = Some(term.value);
+        }
+        rest = after;
+    }
+    last
+}
+
+/// A key with a cost and a last number in it, both over the first one.
+fn with_ends(key: u64, first: &Frac, last: &Frac, cost: &Frac) -> u64
+    requires { first.now ≢ zero_ℚ }
+    ensures { result ≡ ends_in key first.now last.now cost.now }
+{
+    with_quotient(with_quotient(key, cost, first), last, first)
+}
+
 /// The key of a line with these terms and this cost, or none where no term names a line that is live.
 fn key_of(others: &Lines, terms: &[Term], cost: &Frac) -> Option<u64>
     requires { All (λ t. t.value ≢ zero_ℚ) (live_only others.now terms.now) }
     ensures { result ≡ key_by cost.now (live_only others.now terms.now) }
 {
-    match first_number(others, terms) {
-        Some(first) => {
-            let key = with_quotient(0, cost, &first);
-            Some(with_terms(others, key, terms, &first))
-        }
-        None => None,
-    }
+    let Some(first) = first_number(others, terms) else {
+        return None;
+    };
+    let Some(last) = last_number(others, terms) else {
+        return None;
+    };
+    Some(with_ends(with_ids(others, 0, terms), &first, &last, cost))
 }
 
-/// A key with these terms in it.
-fn with_all(key: u64, terms: &[Term], divisor: &Frac) -> u64
-    requires { divisor.now ≢ zero_ℚ }
-    ensures { result ≡ terms_in divisor.now key terms.now }
+/// A key with the ids of these terms in it.
+fn with_all_ids(key: u64, terms: &[Term]) -> u64
+    ensures { result ≡ ids_in key terms.now }
 {
     let mut made = key;
     let mut rest = terms;
     while let [term, after @ ..] = rest {
-        made = with_quotient(mixed(made, u64::from(term.id)), &term.value, divisor);
+        made = mixed(made, u64::from(term.id));
         rest = after;
     }
     made
+}
+
+/// The number of the last of some terms, if there is one.
+#[tactic(auto, using(crate::proofs::KeyLaws::last_begun))]
+fn last_of_all(terms: &[Term]) -> Option<Frac>
+    ensures { result ≡ number_last terms.now }
+{
+    let mut last = None;
+    let mut rest = terms;
+    while let [term, after @ ..] = rest {
+        last = Some(term.value);
+        rest = after;
+    }
+    last
 }
 
 /// The key of a line with these terms, all of which name a line that is live, and this cost, or none where there is no term.
@@ -136,13 +161,13 @@ fn key_of_all(terms: &[Term], cost: &Frac) -> Option<u64>
     requires { All (λ t. t.value ≢ zero_ℚ) terms.now }
     ensures { result ≡ key_by cost.now terms.now }
 {
-    match terms {
-        [] => None,
-        [first, ..] => {
-            let key = with_quotient(0, cost, &first.value);
-            Some(with_all(key, terms, &first.value))
-        }
-    }
+    let [first, ..] = terms else {
+        return None;
+    };
+    let Some(last) = last_of_all(terms) else {
+        return None;
+    };
+    Some(with_ends(with_all_ids(0, terms), &first.value, &last, cost))
 }
 
 /// The key of a row, if it is live and has an entry.

@@ -13,10 +13,13 @@ pub struct Names {
 
 impl Model for Names {
     ghost use Rattle.std.specs.Prelude.{ℕ, List, map};
+    ghost use Rattle.names.specs.Names.{AreDifferent};
 
     ghost Value = { List (List ℕ) };
 
     ghost view = { λ names. map (λ name. name.items) names.set.keys };
+
+    ghost invariant = { λ names. AreDifferent (map (λ name. name.items) names.set.keys) };
 }
 
 /// How a name was taken in, with its number.
@@ -29,7 +32,7 @@ pub enum Named {
 }
 
 impl Names {
-    ghost use Rattle.std.specs.Prelude.{◌≡◌, ◌==◌, ◌<◌, ◌≤◌, ◌+◌, [], length, map, slice_index_or, IfOk, IfSome, OnErr};
+    ghost use Rattle.std.specs.Prelude.{◌≡◌, ◌==◌, ◌<◌, ◌≤◌, ◌+◌, [], length, map, slice_index_or, IfOk, IfSome, OnErr, Some};
     ghost use Rattle.names.specs.Names.{place, IsTaken, number_of};
 
     /// A table without names.
@@ -80,13 +83,31 @@ impl Names {
         self.set.get_index_of(name)
     }
 
-    /// Takes in a name, and says its number, which is the last where the name is new. Only a new name is copied.
+    /// The number of the last name, if it is this one.
+    fn last_if(&self, name: &[u8]) -> Option<usize>
+        ensures place { IfSome result (λ id. place name.now self.now ≡ Some id) }
+        ensures within { IfSome result (λ id. id < length self.now) }
+    {
+        let _ = &self.set;
+        let count = self.len();
+        if count > 0 && self.name(count - 1) == name {
+            Some(count - 1)
+        } else {
+            None
+        }
+    }
+
+    /// Takes in a name, and says its number, which is the last where the name is new. Only a new name is copied. One that comes again and again is
+    /// compared with the last name, and not looked for.
     #[tactic(auto, using(crate::proofs::Places::place_keys))]
     pub fn insert(&mut self, alloc: Global, name: &[u8]) -> Result<Named, AllocError>
         ensures taken { IfOk result (λ named. IsTaken named name.now self.old self.new) }
         ensures within { IfOk result (λ named. number_of named < length self.new) }
         ensures err { OnErr result (self.new ≡ self.old) }
     {
+        if let Some(last) = self.last_if(name) {
+            return Ok(Named::Known(last));
+        }
         match self.set.get_index_of(name) {
             Some(id) => Ok(Named::Known(id)),
             None => {

@@ -17,9 +17,9 @@ ghost use Rattle.place_laws.specs.Choosing.{ids_of, instances_of, visited};
 ghost use Rattle.place_laws.specs.Standing.{IsFresh};
 ghost use Rattle.round_laws.specs.Passing.{Follows};
 ghost use Rattle.presolve_rounds.specs.Lines.{has_line};
-ghost use Rattle.presolve_rounds.specs.Walking.{any_bound as some_bound, AreAlike, AreFresh, begun, is_applied as applies, IsGoing, IsMet, IsPassed, IsWalk, open_bounds};
+ghost use Rattle.presolve_rounds.specs.Walking.{any_bound, AreAlike, AreFresh, begun, is_applied as applies, IsGoing, IsMet, IsPassed, IsWalk, open_bounds};
 
-use instances::{add_enabled, instance_beside, lines_beside};
+use instances::{add_enabled, instance_beside, lines_beside, only_instance};
 use line_groups::Parallels;
 use presolve_model::{Instance, Outcome, Reduction, Rule};
 use round_marks::around::Around;
@@ -35,7 +35,6 @@ use round_marks::watch::Watch;
 use sparse_problem::Problem;
 use std::alloc::{AllocError, Global};
 use std::snapshot::Snapshot;
-use undo_records::Side;
 
 /// What a pass looks at beside the book: how the round began, and so the book, how many instances had been applied to it, how often each part
 /// had changed, and the groups of lines.
@@ -189,15 +188,16 @@ fn visit_alike(
     meet_alike(alloc, book, walk, found, watch)
 }
 
-/// An instance that reads what each of those reads that tighten bounds by a row.
-fn any_bound(row: u32) -> Instance
-    ensures { result ≡ some_bound row }
+/// Whether what each instance reads that tightens a bound by a row stands as it stood when the round began: the row, its sides, and the bounds of
+/// its columns.
+fn is_row_fresh(book: &Book, walk: &Walk<'_>, row: u32) -> bool
+    requires follows { Follows (open_on (begun walk.now).tally) (begun walk.now).problem book.now }
+    requires walk { IsWalk walk.now }
+    ensures fresh { result ≡ true → IsFresh (begun walk.now).problem book.now.problem (any_bound row) }
+    ensures stale { result ≡ false → IsFresh (begun walk.now).problem book.now.problem (any_bound row) → ⊥ }
 {
-    Instance::Reduction(Reduction::BoundTightening {
-        row,
-        column: 0,
-        side: Side::Lower,
-    })
+    let _ = walk;
+    walk.stamps.row_stands(book.problem(), row)
 }
 
 /// The bounds that a row tightens, those that are open in turn, its parts as they stood when the round began: up to the first one that is
@@ -243,7 +243,7 @@ fn visit_bounds(
     if !may_be_tightened(book.problem(), row) {
         return Ok(());
     }
-    if !is_fresh(alloc, book, walk, any_bound(row))? {
+    if !is_row_fresh(book, walk, row) {
         return Ok(());
     }
     let bounds = TightenedBounds::of_row(alloc, book.problem(), row)?;
@@ -300,6 +300,10 @@ fn visit_at(
     requires walk { IsWalk walk.now }
     ensures { OnOk result (IsPassed (begun walk.now) (instances_from (open_on (begun walk.now).tally) (begun walk.now).problem rule id) watch.old book.old watch.new book.new) }
 {
+    if let Some(instance) = only_instance(rule, id) {
+        visit(alloc, book, walk, instance, watch)?;
+        return Ok(());
+    }
     if goes_by_groups(rule) {
         let others = lines_beside(walk.groups, rule, id);
         visit_beside(alloc, book, walk, rule, id, others, watch)?;

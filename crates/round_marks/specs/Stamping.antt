@@ -2,8 +2,13 @@
 use Rattle.std.specs.Prelude.{◌≡◌, ℕ, List, [], ◌∷◌, length, map, slice_index_or, slice_set}
 use Rattle.problem_model.specs.declared.part.Part.{Part}
 use Rattle.problem_model.specs.declared.part.Part.TheVariants as part
-use Rattle.problem_model.specs.Parts.{changes_of}
+use Rattle.problem_model.specs.Parts.{changes_of, contents_of}
 use Rattle.problem_model.specs.Sparse.{Sparse}
+use Rattle.undo_records.specs.declared.side.Side.TheVariants.{Lower}
+use Rattle.presolve_model.specs.declared.instance.Instance.TheVariants as at
+use Rattle.presolve_model.specs.declared.instance.Reduction.TheVariants.{BoundTightening}
+use Rattle.presolve_model.specs.Enabled.{reads}
+use Rattle.presolve_model.specs.Tables.{more}
 
 -- by row and by column
 pub record Stamped : Type 0 where
@@ -45,3 +50,11 @@ pub record AreStampsOf (s : Stamped) (p : Sparse) : Type 0 where
   pub sides : length s.sides ≡ length p.sides
   pub columns : length s.columns ≡ length p.matrix.columns
   pub bounds : length s.bounds ≡ length p.bounds
+
+-- the parts that each instance reads that tightens a bound by row i: the row, its sides, and the bounds of its columns
+abbrev pub tightening_parts : Sparse → ℕ → List Part
+tightening_parts p i = reads p (at.Reduction (BoundTightening i 0 Lower))
+
+-- the last of these
+abbrev pub bounds_beside : Sparse → ℕ → List Part
+bounds_beside p i = more (at.Reduction (BoundTightening i 0 Lower)) (contents_of p (part.Row i) ∷ contents_of p (part.Sides i) ∷ [])

@@ -1,10 +1,13 @@
 //! How often the parts of a problem had changed when a round began.
 
-ghost use Rattle.std.specs.Prelude.{◌≡◌, nat_eq, length, slice_index_or, slice_set, IfOk};
+ghost use Rattle.std.specs.Prelude.{◌≡◌, nat_eq, length, map, slice_index_or, slice_set, IfOk};
+ghost use Rattle.problem_model.specs.Matrices.{live_only};
 ghost use Rattle.problem_model.specs.Parts.{changes_of};
+ghost use Rattle.problem_model.specs.declared.part.Part.TheVariants as part;
 ghost use Rattle.round_laws.specs.Passing.{are_unchanged};
-ghost use Rattle.round_marks.specs.Stamping.{restamped, stamp_at, stamp_put, stamps_of};
+ghost use Rattle.round_marks.specs.Stamping.{bounds_beside, restamped, stamp_at, stamp_put, stamps_of, tightening_parts};
 
+use lp_model::Term;
 use presolve_model::Part;
 use sparse_problem::Problem;
 use std::alloc::{AllocError, Global};
@@ -101,6 +104,40 @@ impl Stamps {
             rest = after;
         }
         true
+    }
+
+    /// Whether none of the bounds of the live columns of terms has changed since.
+    fn bounds_stand(&self, problem: &Problem, terms: &[Term]) -> bool
+        ensures { result ≡ are_unchanged (stamp_at self.now) problem.now (map (λ t. part.Bounds t.id) (live_only problem.now.matrix.columns terms.now)) }
+    {
+        let mut rest = terms;
+        while let [term, after @ ..] = rest {
+            if problem.is_column_live(term.id) && !self.stands(problem, Part::Bounds(term.id)) {
+                return false;
+            }
+            rest = after;
+        }
+        true
+    }
+
+    /// Whether none of the bounds of a row's columns has changed since. It has none where it isn't live.
+    fn columns_stand(&self, problem: &Problem, row: u32) -> bool
+        ensures { result ≡ are_unchanged (stamp_at self.now) problem.now (bounds_beside problem.now row) }
+    {
+        if problem.is_row_live(row) {
+            self.bounds_stand(problem, problem.row_line(row).entries.as_slice())
+        } else {
+            true
+        }
+    }
+
+    /// Whether nothing has changed since of what each instance reads that tightens a bound by a row: the row, its sides, and the bounds of its columns.
+    pub fn row_stands(&self, problem: &Problem, row: u32) -> bool
+        ensures { result ≡ are_unchanged (stamp_at self.now) problem.now (tightening_parts problem.now row) }
+    {
+        self.stands(problem, Part::Row(row))
+            && self.stands(problem, Part::Sides(row))
+            && self.columns_stand(problem, row)
     }
 
     /// Puts right how often these parts have changed.

@@ -1,6 +1,6 @@
 use Rattle.std.proofs.Common.{sym, ap, ◌∙◌, ◌++◌, ◌∷◌, []}
 use Rattle.names.specs.Names.{place}
-use Rattle.names.proofs.Places.{place_keys, taken_last, last_within}
+use Rattle.names.proofs.Places.{items_differ, last_within, place_keys, taken_last}
 use Rattle.names.proofs.Names.insert.Goals as goal
 
 pub returns-in_ok-insert-in-None-clause-taken : goal.returns-in_ok-insert-in-None-clause-taken
@@ -14,3 +14,6 @@ returns-in_ok-insert-in-None-clause-taken c = (
 pub returns-in_ok-insert-in-None-clause-within : goal.returns-in_ok-insert-in-None-clause-within
 returns-in_ok-insert-in-None-clause-within c =
     let taken : _ = returns-in_ok-insert-in-None-clause-taken c in last_within _ _ _ _ taken.1 taken.2
+
+pub invariant_of-self-in-None : goal.invariant_of-self-in-None
+invariant_of-self-in-None c = items_differ c.insert.new.self.keys c.insert.ensures.unique

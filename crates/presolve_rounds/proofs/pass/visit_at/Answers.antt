@@ -59,3 +59,8 @@ returns-then-goes_by_groups c =
     let b : Ledger = c.args.book.now in
     passed_lines a c.args.walk.now.groups.now c.args.rule c.args.id c.args.watch.now c.visit_beside.new.watch b c.visit_beside.new.book c.requires.walk.groups (sym c.goes_by_groups.ensures ∙ c.if-goes_by_groups.true) c.requires.going
     (subst (λ (ks : List ℕ). IsPassed a (map (beside_at c.args.rule c.args.id) ks) c.args.watch.now b c.visit_beside.new.watch c.visit_beside.new.book) c.lines_beside-others.ensures c.in_ok-visit_beside.ensures)
+
+pub returns-in-Some : goal.returns-in-Some
+returns-in-Some c =
+    let a : Ledger = c.args.walk.now.frozen.now.value in
+    subst (λ (es : List Instance). IsPassed a es c.args.watch.now c.args.book.now c.visit.new.watch c.visit.new.book) (sym (c.only_instance.ensures (open_on a.tally) a.problem)) c.in_ok-visit.ensures

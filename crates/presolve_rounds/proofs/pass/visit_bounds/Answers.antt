@@ -1,7 +1,5 @@
-use Rattle.std.proofs.Common.{◌≡◌, [], sym, ◌∙◌, subst}
-use Rattle.presolve_model.specs.declared.instance.Instance.{Instance}
+use Rattle.std.proofs.Common.{◌≡◌, [], sym, ◌∙◌}
 use Rattle.presolve_model.specs.Ledger.{Ledger}
-use Rattle.place_laws.specs.Standing.{IsFresh}
 use Rattle.presolve_rounds.proofs.RowBounds.{all_stale_bounds, bounds_alike, bounds_fresh, bounds_passed, none_tight, tight}
 use Rattle.presolve_rounds.proofs.pass.visit_bounds.Goals as goal
 
@@ -11,11 +9,11 @@ returns-then-not-may_be_tightened c =
     let none : tight b c.args.row ≡ [] = sym (λ t. tight (record b { problem = c.problem.ensures t }) c.args.row) ∙ c.may_be_tightened.ensures.none c.if-not-may_be_tightened.true in
     none_tight c.args.walk.now.frozen.now.value c.args.watch.now b c.args.row c.requires.going none
 
-pub returns-then-not-branch : goal.returns-then-not-branch
-returns-then-not-branch c =
+pub returns-then-not-is_row_fresh : goal.returns-then-not-is_row_fresh
+returns-then-not-is_row_fresh c =
     let a : Ledger = c.args.walk.now.frozen.now.value in
     let b : Ledger = c.args.book.now in
-    all_stale_bounds a c.args.watch.now b c.args.row c.requires.going (subst (λ (e : Instance). IsFresh a.problem b.problem e → ⊥) c.any_bound.ensures (c.in_ok-is_fresh.ensures.stale c.if-not-branch.true))
+    all_stale_bounds a c.args.watch.now b c.args.row c.requires.going (c.is_row_fresh.ensures.stale c.if-not-is_row_fresh.true)
 
 pub meet_bounds-requires-clause-alike : goal.meet_bounds-requires-clause-alike
 meet_bounds-requires-clause-alike c =
@@ -26,7 +24,7 @@ pub meet_bounds-requires-clause-fresh : goal.meet_bounds-requires-clause-fresh
 meet_bounds-requires-clause-fresh c =
     let a : Ledger = c.args.walk.now.frozen.now.value in
     let b : Ledger = c.args.book.now in
-    bounds_fresh a b c.args.row c.in_ok-bounds.bounds (subst (λ (e : Instance). IsFresh a.problem b.problem e) c.any_bound.ensures (c.in_ok-is_fresh.ensures.fresh c.if-not-branch.false))
+    bounds_fresh a b c.args.row c.in_ok-bounds.bounds (c.is_row_fresh.ensures.fresh c.if-not-is_row_fresh.false)
 
 pub returns : goal.returns
 returns c =
