@@ -17,7 +17,7 @@ use Rattle.problem_laws.proofs.Entries.{has-live_only, row_entries-tell}
 use Rattle.problem_laws.proofs.Terms.{dense-absent, dense-cons_other, dense-cons_same, has-cons_other, has-cons_same, not_both}
 use Rattle.lp_model.specs.EndTests.{is_in_order}
 use Rattle.row_spans.specs.declared.span.Span.{Span}
-use Rattle.row_spans.specs.Spans.{AreSpans, span_of, spans_of}
+use Rattle.row_spans.specs.Spans.{AreSpans, span_at, span_of, spans_of}
 use Rattle.activity_laws.specs.Rows.{all_in_order}
 use Rattle.activity_laws.specs.BoundTightening.{bounds_of, enabled, entry_at, has_two, implied, is_better, is_tightened_at, is_bound_tightening, old_bound}
 use Rattle.activity_laws.proofs.Rows.{tested}
@@ -95,6 +95,11 @@ pub none_zero : (m : ℕ) (ss : List Span) (k : ℕ) (s : Span) → AreSpans m s
 none_zero m [] k s a l e = absurd (omega (arith, l))
 none_zero m (t ∷ ss) zero s a l e = λ z. a.1 (sym (ap (λ (x : Span). x.value) e) ∙ z)
 none_zero m (t ∷ ss) (suc k) s a l e = none_zero (suc t.id) ss k s a.2 (omega (arith, l)) e
+
+pub none_zero_at : (m : ℕ) (ss : List Span) (k : ℕ) → AreSpans m ss → k < length ss → (span_at ss k).value ≢ zero_ℚ
+none_zero_at m [] k a l = absurd (omega (arith, l))
+none_zero_at m (t ∷ ss) zero a l = a.1
+none_zero_at m (t ∷ ss) (suc k) a l = none_zero_at (suc t.id) ss k a.2 (omega (arith, l))
 
 -- ---- the bounds of a row that is looked at
 two_kept : (j : ℕ) (a b : Bool) → cond a ((j, Lower) ∷ cond b ((j, Upper) ∷ []) []) (cond b ((j, Upper) ∷ []) []) ≡ bound_if a j Lower ++ bound_if b j Upper

@@ -4,3 +4,4 @@ pub mod Orders
 pub mod Pairs
 pub mod Remaining
 pub mod SidesOfBoth
+pub mod KeptFootprints

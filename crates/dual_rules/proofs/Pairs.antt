@@ -1,10 +1,11 @@
 -- Pairs of columns.
-use Rattle.std.proofs.Common.{◌≡◌, ℕ, zero, suc, ◌+◌, ◌<◌, Bool, true, false, not, ◌&&◌, ◌||◌, cond, nat_eq, nat_le, List, [], ◌∷◌, ◌++◌, length, map, take, drop, get_or, append-nil, Option, is_none, refl, sym, ap, ap₂, ◌∙◌, subst, arith}
+use Rattle.std.proofs.Common.{◌≡◌, ℕ, zero, suc, ◌+◌, ◌-◌, ◌<◌, ◌≤◌, Bool, true, false, not, ◌&&◌, ◌||◌, cond, nat_eq, nat_le, List, [], ◌∷◌, ◌++◌, length, map, take, drop, get_or, append-nil, append_assoc, Option, is_none, refl, sym, ap, ap₂, ◌∙◌, subst, arith}
 use Rattle.std.specs.Prelude.{if◌then◌else◌}
 use Rattle.std.specs.List.{All, filter, flat_map}
 use Rattle.std.proofs.lemmas.Bool.{and_parts}
 use Rattle.std.proofs.lemmas.List.Elements.{All-append, All-nil, All-cons, All-head, All-tail, filter-append}
-use Rattle.std.proofs.lemmas.List.{map-append, take_more}
+use Rattle.std.proofs.lemmas.List.{map-append}
+use Rattle.std.proofs.Math.Seq.{take-length}
 use Rattle.fractions.specs.Number.{Number}
 use Rattle.fractions.specs.Compare.{le_ℚ}
 use Rattle.lp_model.specs.declared.terms.Term.{Term}
@@ -128,13 +129,37 @@ among_more p us ss i s x y z l e h g =
     ∙ filter-append (λ (q : Pair). dominates p q.0 q.1) (map (λ (u : Term). (s.entry.id, u.id)) us) (flat_map (λ (v : Term). map (λ (u : Term). (v.id, u.id)) us) (entries_of (drop (i + 1) ss)))) g
 
 -- ---- columns of a row
--- one more
-pub standing_more : (p : Sparse) (ss new : List Standing) (ts : List Term) (i : ℕ) (s : Standing) (t : Term) → i < length ts → t ≡ get_or ts i t → new ≡ ss ++ s ∷ [] → IsStanding p s → s.entry ≡ t
-    → All (IsStanding p) ss × (entries_of ss ≡ take i ts) → All (IsStanding p) new × (entries_of new ≡ take (i + 1) ts)
-standing_more p ss new ts i s t l at is own same h = (
-  subst (All (IsStanding p)) (sym is) (All-append (IsStanding p) ss (s ∷ []) h.0 (All-cons (IsStanding p) s [] own (All-nil (IsStanding p)))),
-  ap entries_of is ∙ map-append (λ (x : Standing). x.entry) ss (s ∷ []) ∙ ap₂ (λ (us : List Term) (u : Term). us ++ u ∷ []) h.1 (same ∙ at) ∙ sym (take_more ts i t l),
-)
+-- the next live column, of the terms that are left
+pub standing_next : (p : Sparse) (ss new : List Standing) (t : Term) (rs all : List Term) (s : Standing) → 1 ≤ length rs → t ≡ get_or rs 0 t → (column_at p t.id).live ≡ true → new ≡ ss ++ s ∷ [] → IsStanding p s → s.entry ≡ t
+    → All (IsStanding p) ss → entries_of ss ++ live_only p.matrix.columns rs ≡ all
+    → All (IsStanding p) new × (entries_of new ++ live_only p.matrix.columns (take (length rs - 1) (drop 1 rs)) ≡ all)
+standing_next p ss new t [] all s l e live is own same h g = absurd (omega (arith, l))
+standing_next p ss new t (v ∷ rs) all s l e live is own same h g =
+    let n : length rs ≡ length (v ∷ rs) - 1 = omega arith in
+    let r : take (length (v ∷ rs) - 1) rs ≡ rs = ap (λ m. take m rs) (sym n) ∙ take-length rs in
+    let first : t ∷ live_only p.matrix.columns rs ≡ live_only p.matrix.columns (t ∷ rs) = ap (λ (b : Bool). cond b (t ∷ live_only p.matrix.columns rs) (live_only p.matrix.columns rs)) (sym live) in (
+      subst (All (IsStanding p)) (sym is) (All-append (IsStanding p) ss (s ∷ []) h (All-cons (IsStanding p) s [] own (All-nil (IsStanding p)))),
+      ap (λ (xs : List Term). entries_of new ++ live_only p.matrix.columns xs) r
+          ∙ ap (λ (us : List Term). us ++ live_only p.matrix.columns rs) (ap entries_of is ∙ map-append (λ (x : Standing). x.entry) ss (s ∷ []))
+          ∙ append_assoc (entries_of ss) (s.entry ∷ []) (live_only p.matrix.columns rs)
+          ∙ ap (λ (w : Term). entries_of ss ++ w ∷ live_only p.matrix.columns rs) same
+          ∙ ap (λ (us : List Term). entries_of ss ++ us) first
+          ∙ ap (λ (w : Term). entries_of ss ++ live_only p.matrix.columns (w ∷ rs)) e
+          ∙ g,
+    )
+
+-- one that isn't live is passed over
+pub standing_past : (p : Sparse) (ss : List Standing) (t : Term) (rs all : List Term) → 1 ≤ length rs → t ≡ get_or rs 0 t → (column_at p t.id).live ≡ false
+    → entries_of ss ++ live_only p.matrix.columns rs ≡ all → entries_of ss ++ live_only p.matrix.columns (take (length rs - 1) (drop 1 rs)) ≡ all
+standing_past p ss t [] all l e gone g = absurd (omega (arith, l))
+standing_past p ss t (v ∷ rs) all l e gone g =
+    let n : length rs ≡ length (v ∷ rs) - 1 = omega arith in
+    let r : take (length (v ∷ rs) - 1) rs ≡ rs = ap (λ m. take m rs) (sym n) ∙ take-length rs in
+    let first : live_only p.matrix.columns rs ≡ live_only p.matrix.columns (t ∷ rs) = ap (λ (b : Bool). cond b (t ∷ live_only p.matrix.columns rs) (live_only p.matrix.columns rs)) (sym gone) in
+    ap (λ (xs : List Term). entries_of ss ++ live_only p.matrix.columns xs) r
+    ∙ ap (λ (us : List Term). entries_of ss ++ us) first
+    ∙ ap (λ (w : Term). entries_of ss ++ live_only p.matrix.columns (w ∷ rs)) e
+    ∙ g
 
 -- what holds of the entries holds of the columns
 pub of_entries : (P : Term → Type 0) (ss : List Standing) → All P (entries_of ss) → All (λ s. P s.entry) ss

@@ -1,12 +1,13 @@
 -- What a column asks of all that stand beside it, in a set of 64 bits each way.
-use Rattle.std.specs.Prelude.{◌≡◌, ℕ, ◌+◌, ◌*◌, ◌/◌, ◌%◌, ◌^◌, Bool, not, ◌&&◌, ◌||◌, List, [], ◌∷◌, Option, is_none, if◌then◌else◌, unsigned_abs, bit_or}
+use Rattle.std.specs.Prelude.{◌≡◌, ℕ, ◌+◌, ◌*◌, ◌/◌, ◌%◌, ◌^◌, Bool, not, ◌&&◌, ◌||◌, nat_eq, List, [], ◌∷◌, slice_index_or, Option, None, Some, IfSome, is_none, if◌then◌else◌, unsigned_abs, bit_or}
 use Rattle.fractions.specs.Number.{Number, zero_ℚ}
 use Rattle.fractions.specs.Compare.{lt_ℚ}
 use Rattle.fractions.specs.Lowest.{over_of}
 use Rattle.lp_model.specs.declared.terms.Term.{Term}
-use Rattle.problem_model.specs.Problems.{sides_at}
+use Rattle.problem_model.specs.Problems.{column_entries, sides_at}
 use Rattle.problem_model.specs.Sparse.{Sparse}
 use Rattle.dual_rules.specs.declared.footprints.Footprint.{Footprint}
+use Rattle.dual_rules.specs.declared.footprints.Kept.{Kept}
 
 -- a row of these sides asks something of a column with this entry: it doesn't take it for one without
 abbrev pub asks : Option Number → Option Number → Number → Bool
@@ -44,3 +45,11 @@ IsWithin a b = bit_or a b ≡ b
 pub record IsFootprint (p : Sparse) (ts : List Term) (f : Footprint) : Type 0 where
   pub asked : f.asked ≡ bits_of (asked p) ts
   pub offered : f.offered ≡ bits_of (offered p) ts
+
+-- the footprint that is kept, if it was made in this turn
+abbrev pub kept_in : ℕ → Kept → Option Footprint
+kept_in n k = if nat_eq k.turn n then Some k.footprint else None
+
+-- footprints by column: those that are kept are what the columns' entries add
+abbrev pub AreFootprints : Sparse → List (Option Footprint) → Type 0
+AreFootprints p fs = (j : ℕ) → IfSome (slice_index_or fs j None) (λ f. IsFootprint p (column_entries p j) f)

@@ -10,12 +10,13 @@ ghost use Rattle.problem_model.specs.Problems.{bounds_at, column_at, column_entr
 ghost use Rattle.rule_words.specs.Answers.{Changes};
 ghost use Rattle.rule_words.specs.Reading.{terms_in};
 ghost use Rattle.dual_laws.specs.DominatedColumn.{enabled, edits, pairs_of, record_of, rows_of_both, Computes};
+ghost use Rattle.dual_rules.specs.Footprints.{AreFootprints};
 ghost use Rattle.dual_rules.specs.Merging.{all_admit};
 ghost use Rattle.dual_rules.specs.Pairs.{IsStanding, Tells, are_live, dominates, entries_of, is_better, is_endless, is_short, may_stay, pair_if, pairs_among, pairs_beside};
 
 use crate::both_columns::{add_sides_besides, add_sides_of, rows_admit, takes_over};
 use crate::directions::{entries, entries_if_live};
-use crate::footprints::{Footprint, footprint_of, footprints_admit};
+use crate::footprints::{Footprint, Footprints, footprints_admit};
 use fractions::frac::Frac;
 use lp_model::ends::{apart, place};
 use lp_model::{Term, has_id};
@@ -170,10 +171,12 @@ struct Standing {
 }
 
 /// What is asked of a column by itself.
-fn standing_of(problem: &Problem, entry: &Term) -> Standing
-    requires { (column_at problem.now entry.now.id).live ≡ true }
+fn standing_of(problem: &Problem, entry: &Term, footprints: &mut Footprints) -> Standing
+    requires column { (column_at problem.now entry.now.id).live ≡ true }
+    requires kept { AreFootprints problem.now footprints.old }
     ensures standing { IsStanding problem.now result }
     ensures entry { result.entry ≡ entry.now }
+    ensures kept { AreFootprints problem.now footprints.new }
 {
     let bounds = problem.bounds(entry.id);
     Standing {
@@ -184,19 +187,29 @@ fn standing_of(problem: &Problem, entry: &Term) -> Standing
         placed: !bounds.semi
             && apart(&bounds.lower, &bounds.upper)
             && place(&bounds.lower, bounds.whole),
-        footprint: footprint_of(problem, entry.id),
+        footprint: footprints.of(problem, entry.id),
     }
 }
 
-/// The same of each of the columns that terms name, once: so a pair of them is tested by what is in hand.
-fn standings(alloc: Global, problem: &Problem, terms: &[Term]) -> Result<Vec<Standing>, AllocError>
-    requires { All (λ t. (column_at problem.now t.id).live ≡ true) terms.now }
+/// The same of each live column that terms name, once: so a pair of them is tested by what is in hand.
+fn standings(
+    alloc: Global,
+    problem: &Problem,
+    terms: &[Term],
+    footprints: &mut Footprints,
+) -> Result<Vec<Standing>, AllocError>
+    requires { AreFootprints problem.now footprints.old }
     ensures standing { IfOk result (λ found. All (IsStanding problem.now) found.items) }
-    ensures entries { IfOk result (λ found. entries_of found.items ≡ terms.now) }
+    ensures entries { IfOk result (λ found. entries_of found.items ≡ live_only problem.now.matrix.columns terms.now) }
+    ensures kept { AreFootprints problem.now footprints.new }
 {
     let mut found = Vec::with_capacity(alloc, terms.len())?;
-    for term in terms {
-        found.push(standing_of(problem, term))?;
+    let mut rest = terms;
+    while let [term, after @ ..] = rest {
+        if problem.is_column_live(term.id) {
+            found.push(standing_of(problem, term, footprints))?;
+        }
+        rest = after;
     }
     Ok(found)
 }
@@ -314,24 +327,31 @@ fn some_endless(problem: &Problem, terms: &[Term]) -> bool
 }
 
 /// All pairs of columns of a row of which the first can stand in for the second, in the order of the row's entries. None are looked at in
-/// a row of more than 64 entries, or where each column has an upper bound.
+/// a row of more than 64 entries, or where each column has an upper bound. Footprints that are kept are not made again.
 ///
 /// # Errors
 /// Memory ran out.
-pub fn pairs_at(alloc: Global, problem: &Problem, row: u32) -> Result<Vec<(u32, u32)>, AllocError>
-    ensures { IfOk result (λ found. found.items ≡ filter (λ x. enabled problem.now row x.0 x.1) (pairs_of (row_entries problem.now row))) }
+pub fn pairs_at(
+    alloc: Global,
+    problem: &Problem,
+    row: u32,
+    footprints: &mut Footprints,
+) -> Result<Vec<(u32, u32)>, AllocError>
+    requires { AreFootprints problem.now footprints.old }
+    ensures found { IfOk result (λ found. found.items ≡ filter (λ x. enabled problem.now row x.0 x.1) (pairs_of (row_entries problem.now row))) }
+    ensures kept { AreFootprints problem.now footprints.new }
 {
     let mut found = Vec::new(alloc);
     if !is_short(problem, row) {
         return Ok(found);
     }
-    if !some_endless(problem, entries_of_row(problem, row)) {
+    let terms = entries_of_row(problem, row);
+    if !some_endless(problem, terms) {
         return Ok(found);
     }
     problem.is_sparse();
     let sides = problem.sides(row);
-    let terms = problem.row_terms(alloc, row)?;
-    let columns = standings(alloc, problem, terms.as_slice())?;
+    let columns = standings(alloc, problem, terms, footprints)?;
     add_pairs(problem, &sides, columns.as_slice(), &mut found)?;
     Ok(found)
 }

@@ -1,12 +1,12 @@
 //! What a column asks of all that stand beside it, in a set of 64 bits each way: most pairs, of which neither dominates the other, differ there.
 
-ghost use Rattle.std.specs.Prelude.{◌≡◌, ℕ, true, false, bit_or, nat_eq, IfSome, List, ◌∷◌, []};
+ghost use Rattle.std.specs.Prelude.{◌≡◌, ℕ, true, false, bit_or, nat_eq, slice_index_or, slice_set, IfOk, IfSome, List, ◌∷◌, [], None, Some};
 ghost use Rattle.lp_model.specs.declared.terms.Term.{Term};
 ghost use Rattle.lp_model.specs.Sparse.{Ascends};
 ghost use Rattle.problem_model.specs.Matrices.{live_only};
 ghost use Rattle.problem_model.specs.Problems.{column_at, column_entries, row_at};
 ghost use Rattle.problem_model.specs.Sparse.{Sparse};
-ghost use Rattle.dual_rules.specs.Footprints.{IsFootprint, asked as asked_of, asks as asks_of, bit_of, bits_of, mark as mark_of, offered as offered_of, offers as offers_of};
+ghost use Rattle.dual_rules.specs.Footprints.{AreFootprints, IsFootprint, asked as asked_of, asks as asks_of, bit_of, bits_of, mark as mark_of, offered as offered_of, offers as offers_of};
 ghost use Rattle.dual_rules.specs.Merging.{all_admit};
 
 use crate::directions::entries;
@@ -14,6 +14,8 @@ use fractions::frac::Frac;
 use lp_model::Term;
 use problem_model::Sides;
 use sparse_problem::Problem;
+use std::alloc::{AllocError, Global};
+use std::marker::Model;
 
 /// Sets of the live rows of a column, each row a bit by its hash. Where one column stands in for another, it asks in no row in which the other
 /// does not, and offers in each in which the other does.
@@ -107,7 +109,7 @@ fn footprint_by(problem: &Problem, entries: &[Term]) -> Footprint
 }
 
 /// The footprint of a column. None is made where it has more than 64 entries.
-pub fn footprint_of(problem: &Problem, column: u32) -> Option<Footprint>
+fn footprint_of(problem: &Problem, column: u32) -> Option<Footprint>
     requires { (column_at problem.now column).live ≡ true }
     ensures { IfSome result (λ f. IsFootprint problem.now (column_entries problem.now column) f) }
 {
@@ -116,6 +118,101 @@ pub fn footprint_of(problem: &Problem, column: u32) -> Option<Footprint>
         return None;
     }
     Some(footprint_by(problem, terms))
+}
+
+/// A footprint, and the turn in which it was made.
+#[derive(Clone, Copy)]
+struct Kept {
+    turn: u64,
+    footprint: Footprint,
+}
+
+/// Footprints of columns, each made where it is first asked for. In a contract they are a list by column, none where it isn't kept.
+#[derive(Drop)]
+pub struct Footprints {
+    /// Those of earlier turns are forgotten.
+    turn: u64,
+    kept: Vec<Kept>,
+}
+
+impl Model for Footprints {
+    ghost use Rattle.std.specs.Prelude.{◌≤◌, List, map, Option};
+    ghost use Rattle.std.specs.List.{All};
+    ghost use Rattle.dual_rules.specs.declared.footprints.Footprint.{Footprint};
+    ghost use Rattle.dual_rules.specs.Footprints.{kept_in};
+
+    ghost Value = { List (Option Footprint) };
+
+    ghost view = { λ f. map (kept_in f.turn) f.kept.items };
+
+    ghost invariant = { λ f. All (λ k. k.turn ≤ f.turn) f.kept.items };
+}
+
+impl Footprints {
+    /// None yet, with room for those of so many columns. Of further ones none is kept.
+    ///
+    /// # Errors
+    /// Memory ran out.
+    pub fn new(alloc: Global, columns: usize) -> Result<Footprints, AllocError>
+        ensures { IfOk result (λ made. (p : Sparse) → AreFootprints p made) }
+    {
+        let none = Kept {
+            turn: 0,
+            footprint: Footprint {
+                asked: 0,
+                offered: 0,
+            },
+        };
+        let kept = vec![in alloc; none; columns]?;
+        Ok(Footprints { turn: 1, kept })
+    }
+
+    /// Forgets all of them, as the problem changes.
+    pub fn forget(&mut self)
+        ensures { (p : Sparse) → AreFootprints p self.new }
+    {
+        match self.turn.checked_add(1) {
+            Some(turn) => self.turn = turn,
+            None => self.kept.clear(),
+        }
+    }
+
+    /// The footprint of a column, if it is kept.
+    fn found(&self, column: u32) -> Option<Footprint>
+        ensures { result ≡ slice_index_or self.now column None }
+    {
+        match self.kept.as_slice().get(column as usize) {
+            Some(kept) if kept.turn == self.turn => Some(kept.footprint),
+            _ => None,
+        }
+    }
+
+    /// Keeps the footprint of a column, if there is room for it.
+    fn keep(&mut self, column: u32, footprint: Footprint)
+        ensures { self.new ≡ slice_set self.old column (Some footprint) }
+    {
+        let turn = self.turn;
+        if (column as usize) < self.kept.len() {
+            self.kept[column as usize] = Kept { turn, footprint };
+        }
+    }
+
+    /// The footprint of a column. None is made where it has more than 64 entries.
+    pub fn of(&mut self, problem: &Problem, column: u32) -> Option<Footprint>
+        requires column { (column_at problem.now column).live ≡ true }
+        requires kept { AreFootprints problem.now self.old }
+        ensures footprint { IfSome result (λ f. IsFootprint problem.now (column_entries problem.now column) f) }
+        ensures kept { AreFootprints problem.now self.new }
+    {
+        if let Some(footprint) = self.found(column) {
+            return Some(footprint);
+        }
+        let Some(footprint) = footprint_of(problem, column) else {
+            return None;
+        };
+        self.keep(column, footprint);
+        Some(footprint)
+    }
 }
 
 /// Whether no bit stands in the first set alone.

@@ -6,7 +6,7 @@ mod both_columns;
 mod directions;
 pub mod dominated_column;
 pub mod dual_fixing;
-mod footprints;
+pub mod footprints;
 pub mod form;
 pub mod sides;
 pub mod unbounded_column;

@@ -5,6 +5,7 @@ ghost use Rattle.std.specs.List.{filter};
 ghost use Rattle.problem_model.specs.Problems.{column_entries, row_entries};
 ghost use Rattle.problem_model.specs.Sparse.{Sparse};
 ghost use Rattle.dual_laws.specs.DominatedColumn.{pairs_of};
+ghost use Rattle.dual_rules.specs.Footprints.{AreFootprints};
 ghost use Rattle.presolve_model.specs.declared.instance.Instance.TheVariants as at;
 ghost use Rattle.presolve_model.specs.declared.instance.Reduction.TheVariants as reduction;
 ghost use Rattle.presolve_model.specs.declared.instance.Rule.TheVariants as rule;
@@ -20,6 +21,7 @@ use lp_model::Term;
 use presolve_model::{Instance, Reduction, Rule, Verdict};
 use rule_table::activity_rules::tightened_bounds::add_tightened;
 use rule_table::dual_rules::dominated_column::pairs_at;
+use rule_table::dual_rules::footprints::Footprints;
 use rule_table::is_enabled;
 use sparse_problem::Problem;
 use std::alloc::{AllocError, Global};
@@ -55,8 +57,28 @@ fn add_pairs(row: u32, pairs: &[(u32, u32)], found: &mut Vec<Instance>) -> Resul
     Ok(())
 }
 
-/// Adds the enabled dominated columns of a row.
-fn add_dominated(
+/// Adds the enabled dominated columns of a row. Footprints of columns that are kept are not made again.
+///
+/// # Errors
+/// Memory ran out.
+pub fn add_dominated(
+    alloc: Global,
+    problem: &Problem,
+    row: u32,
+    footprints: &mut Footprints,
+    found: &mut Vec<Instance>,
+) -> Result<(), AllocError>
+    requires { AreFootprints problem.now footprints.old }
+    ensures found { OnOk result (found.new.items ≡ found.old.items ++ filter (enabled_on problem.now) (map (λ x. at.Reduction (reduction.DominatedColumn row x.0 x.1)) (pairs_of (row_entries problem.now row)))) }
+    ensures kept { AreFootprints problem.now footprints.new }
+{
+    let pairs = pairs_at(alloc, problem, row, footprints)?;
+    add_pairs(row, pairs.as_slice(), found)?;
+    Ok(())
+}
+
+/// The same where no footprints are kept.
+fn add_dominated_once(
     alloc: Global,
     problem: &Problem,
     row: u32,
@@ -64,9 +86,8 @@ fn add_dominated(
 ) -> Result<(), AllocError>
     ensures { OnOk result (found.new.items ≡ found.old.items ++ filter (enabled_on problem.now) (map (λ x. at.Reduction (reduction.DominatedColumn row x.0 x.1)) (pairs_of (row_entries problem.now row)))) }
 {
-    let pairs = pairs_at(alloc, problem, row)?;
-    add_pairs(row, pairs.as_slice(), found)?;
-    Ok(())
+    let mut footprints = Footprints::new(alloc, 0)?;
+    add_dominated(alloc, problem, row, &mut footprints, found)
 }
 
 /// Adds those of some bounds that may be tightened.
@@ -337,7 +358,7 @@ pub fn add_enabled(
         Rule::BoundTightening => return add_open(alloc, problem, tally, id, found),
         Rule::CoefficientTightening => return add_shrinking(alloc, problem, id, found),
         Rule::DualFixing => Instance::Reduction(Reduction::DualFixing { column: id }),
-        Rule::DominatedColumn => return add_dominated(alloc, problem, id, found),
+        Rule::DominatedColumn => return add_dominated_once(alloc, problem, id, found),
         Rule::DoubletonEquation => return add_substituted(alloc, problem, id, found),
         Rule::FreeColumnSingleton => return add_free(alloc, problem, id, found),
         Rule::SlackColumnSingleton => return add_slack(alloc, problem, id, found),

@@ -13,7 +13,7 @@ mod tally;
 mod version;
 
 pub use chunk::Chunk;
-pub use finding::{add_enabled, instance_beside, lines_beside, only_instance};
+pub use finding::{add_dominated, add_enabled, instance_beside, lines_beside, only_instance};
 pub use line_groups;
 pub use looking::look;
 pub use proposal::Proposal;

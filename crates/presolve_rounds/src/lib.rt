@@ -1,6 +1,7 @@
 //! Presolve: rounds on a book, each a pass over the instances that may be enabled, until nothing more can be done or the limit is reached.
 #![tactic(auto)]
 
+mod dominated;
 mod labels;
 mod onlooker;
 mod outcome;

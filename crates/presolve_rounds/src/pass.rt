@@ -19,6 +19,7 @@ ghost use Rattle.round_laws.specs.Passing.{Follows};
 ghost use Rattle.presolve_rounds.specs.Lines.{has_line};
 ghost use Rattle.presolve_rounds.specs.Walking.{any_bound, AreAlike, AreFresh, begun, is_applied as applies, IsGoing, IsMet, IsPassed, IsWalk, open_bounds};
 
+use crate::dominated::visit_dominated;
 use instances::{add_enabled, instance_beside, lines_beside, only_instance};
 use line_groups::Parallels;
 use presolve_model::{Instance, Outcome, Reduction, Rule};
@@ -99,27 +100,27 @@ pub fn is_fresh(
     Ok(walk.stamps.stand_for(book.problem(), parts.as_slice()))
 }
 
-/// An instance at its turn. Where it is stale a part of it is marked: it is left to the next round.
-fn visit(
+/// An instance at its turn. Where it is stale a part of it is marked: it is left to the next round. Returns whether it was applied.
+pub fn visit(
     alloc: Global,
     book: &mut Book,
     walk: &Walk<'_>,
     instance: Instance,
     watch: &mut Watch,
-) -> Result<(), AllocError>
+) -> Result<bool, AllocError>
     requires going { IsGoing (begun walk.now) watch.old book.old }
     requires walk { IsWalk walk.now }
-    ensures { OnOk result (IsPassed (begun walk.now) (instance ∷ []) watch.old book.old watch.new book.new) }
+    ensures passed { OnOk result (IsPassed (begun walk.now) (instance ∷ []) watch.old book.old watch.new book.new) }
+    ensures still { IfOk result (λ applied. applied ≡ false → book.new ≡ book.old) }
 {
     if !is_enabled(book.problem(), instance) {
-        return Ok(());
+        return Ok(false);
     }
     if !is_fresh(alloc, book, walk, instance)? {
         watch.leave(instance, head(instance))?;
-        return Ok(());
+        return Ok(false);
     }
-    meet(alloc, book, walk, instance, watch)?;
-    Ok(())
+    meet(alloc, book, walk, instance, watch)
 }
 
 /// Instances in turn.
@@ -363,8 +364,11 @@ fn visit_rule(
     requires walk { IsWalk walk.now }
     ensures { OnOk result (IsPassed (begun walk.now) (instances_at (open_on (begun walk.now).tally) (begun walk.now).problem rule (ids_of ids.now rule)) watch.old book.old watch.new book.new) }
 {
-    visit_each(alloc, book, walk, rule, ids.of(rule), watch)?;
-    Ok(())
+    let chosen = ids.of(rule);
+    match rule {
+        Rule::DominatedColumn => visit_dominated(alloc, book, walk, chosen, watch),
+        _ => visit_each(alloc, book, walk, rule, chosen, watch),
+    }
 }
 
 /// The instances of rules at these rows and columns, each rule's in turn.

@@ -8,8 +8,8 @@ use Rattle.round_laws.proofs.Turns.{met_over}
 use Rattle.presolve_rounds.proofs.Running.{stale_left}
 use Rattle.presolve_rounds.proofs.pass.visit.Goals as goal
 
-pub returns-then-not-is_enabled : goal.returns-then-not-is_enabled
-returns-then-not-is_enabled c =
+pub returns-then-not-is_enabled-clause-passed : goal.returns-then-not-is_enabled-clause-passed
+returns-then-not-is_enabled-clause-passed c =
     let a : Ledger = c.args.walk.now.frozen.now.value in
     let off : enabled_on c.args.book.now.problem c.args.instance ≡ false = ap (λ (p : Sparse). enabled_on p c.args.instance) (sym c.problem.ensures) ∙ sym c.is_enabled.ensures ∙ c.if-not-is_enabled.true in
     record {
@@ -17,8 +17,8 @@ returns-then-not-is_enabled c =
       forms = c.requires.going.forms;
     }
 
-pub returns-then-not-branch : goal.returns-then-not-branch
-returns-then-not-branch c =
+pub returns-then-not-branch-clause-passed : goal.returns-then-not-branch-clause-passed
+returns-then-not-branch-clause-passed c =
     stale_left c.args.walk.now.frozen.now.value c.args.watch.now c.leave.new.self c.args.book.now c.args.instance c.head.result c.requires.going (c.in_ok-is_fresh.ensures.stale c.if-not-branch.true) c.in_ok-leave.ensures c.head.ensures
 
 pub meet-requires-clause-fresh : goal.meet-requires-clause-fresh

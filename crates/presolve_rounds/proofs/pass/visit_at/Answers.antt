@@ -63,4 +63,4 @@ returns-then-goes_by_groups c =
 pub returns-in-Some : goal.returns-in-Some
 returns-in-Some c =
     let a : Ledger = c.args.walk.now.frozen.now.value in
-    subst (λ (es : List Instance). IsPassed a es c.args.watch.now c.args.book.now c.visit.new.watch c.visit.new.book) (sym (c.only_instance.ensures (open_on a.tally) a.problem)) c.in_ok-visit.ensures
+    subst (λ (es : List Instance). IsPassed a es c.args.watch.now c.args.book.now c.visit.new.watch c.visit.new.book) (sym (c.in-Some.ensures (open_on a.tally) a.problem)) c.in_ok-visit.ensures.passed

@@ -28,4 +28,4 @@ loop-rest-preserved c =
     let all : List Instance = map (beside_at c.args.rule c.args.id) c.args.others.now in
     underway_next a all c.args.watch.now c.args.book.now _ _ c.loop-rest.watch c.visit.new.watch c.loop-rest.book c.visit.new.book
     (subst (λ (ks : List ℕ). IsUnderway a all c.args.watch.now c.args.book.now (map (beside_at c.args.rule c.args.id) ks) c.loop-rest.watch c.loop-rest.book) (sym (first_and_rest c.loop-rest.rest.now _ c.in-len1-up.len_at_least)) c.loop-rest.invariant)
-    (subst (λ (e : Instance). IsPassed a (e ∷ []) c.loop-rest.watch c.loop-rest.book c.visit.new.watch c.visit.new.book) c.instance_beside-instance.ensures c.in_ok-visit.ensures)
+    (subst (λ (e : Instance). IsPassed a (e ∷ []) c.loop-rest.watch c.loop-rest.book c.visit.new.watch c.visit.new.book) c.instance_beside-instance.ensures c.in_ok-visit.ensures.passed)

@@ -11,4 +11,4 @@ visit-requires-clause-going c = goes_on c.args.walk.now.frozen.now.value (take c
 pub loop-instance-preserved : goal.loop-instance-preserved
 loop-instance-preserved c =
     one_instance_more c.args.walk.now.frozen.now.value c.args.found.now c.loop-instance.instance-index _ c.args.watch.now c.loop-instance.watch c.visit.new.watch c.args.book.now c.loop-instance.book c.visit.new.book
-    c.loop-instance-test.true c.loop-instance.invariant c.in_ok-visit.ensures
+    c.loop-instance-test.true c.loop-instance.invariant c.in_ok-visit.ensures.passed
