@@ -60,7 +60,7 @@ pub fn renumber(
     requires { AreRanks lines.now ids.now }
     ensures { IfOk result (λ ts. ts ≡ renumbered lines.now terms.now) }
 {
-    let mut items = Vec::new(alloc);
+    let mut items = Vec::with_capacity(alloc, terms.len())?;
     for term in terms {
         keep_renumbered(&mut items, lines, ids, *term)?;
     }

@@ -3,7 +3,7 @@ use Rattle.std.proofs.Common.{◌≡◌, ℕ, ◌<◌, ◌^◌, ℤ, pos, ◌+�
 use Rattle.std.specs.Cmp.{both_ways}
 use Rattle.std.specs.Ordering.{int_cmp}
 use Rattle.fractions.specs.Gcd.{gcd}
-use Rattle.fractions.specs.Number.{Number, zero_ℚ, ◌+ℚ◌, ◌*ℚ◌}
+use Rattle.fractions.specs.Number.{Number, zero_ℚ, ◌+ℚ◌}
 use Rattle.fractions.specs.Compare.{lt_ℚ, number_cmp, number_cmp-ratio}
 use Rattle.fractions.specs.Lowest.{ratio, IsLowest}
 use Rattle.fractions.specs.Comparisons.{lt_ℚ-is, cmp-Less}

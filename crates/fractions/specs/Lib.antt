@@ -18,6 +18,7 @@ pub mod Signs
 pub mod Comparisons
 pub mod FracWords
 pub mod Room
+pub mod ExtFields
 pub mod FracFields
 pub mod EndWords
 pub mod Fives

@@ -1,5 +1,6 @@
 -- What is said where a program has no feasible point.
-use Rattle.std.proofs.Common.{◌≡◌, ◌≤◌, ◌∙◌, ℕ, List, length, inl, inr, Option, Some, None, refl, sym, subst}
+use Rattle.std.proofs.Common.{◌≡◌, ◌≤◌, ◌∙◌, ℕ, Bool, false, List, length, inl, inr, Option, Some, None, is_some, Bor, Vec, Global, refl, sym, ap, subst}
+use Rattle.std.specs.Option.{option_map}
 use Rattle.file_ports.specs.Ports.{Moment, Told, Gives, KeepsOthers, NeverFall, Written}
 use Rattle.command_words.specs.Names.{PresolveNames}
 use Rattle.command_words.specs.declared.words.PresolveOptions.{PresolveOptions}
@@ -17,6 +18,15 @@ use Rattle.presolve_command.proofs.Before.{fails_at_earlier, only_earlier, writt
 use Rattle.presolve_command.proofs.Made.{said_read}
 
 -- by its status
+-- no ray is asked for
+pub unasked : (r : Option (Bor (List ℕ))) (asks : Bool) → asks ≡ is_some r → asks ≡ false → option_map (λ (n : Bor (List ℕ)). n.now) r ≡ None
+unasked None asks is no = refl
+unasked (Some n) asks is no = grind (is, no)
+
+-- a text that was kept is shown as it was
+pub shown_kept : (shown : List ℕ) (now held : Vec ℕ Global) → shown ≡ now.items → now ≡ held → shown ≡ held.items
+shown_kept shown now held is same = is ∙ ap (λ (text : Vec ℕ Global). text.items) same
+
 pub infeasible_ends : (names : PresolveNames) (before between now : Moment) (held text : List ℕ) (history : List Reduction) (verdict : Verdict) (ending : Ending) (ray : Option (List ℕ)) → names.ray ≡ ray
     → between.told ≡ before.told → NeverFall before.writes between.writes → Gives (before.told names.input) held → length held ≤ INPUT_LIMIT → text ≡ held
     → TextIsInfeasibleBy names.options text history verdict → EndsInfeasible names.options text ray ending between now → SaysPresolve names (status_of ending) (text_of ending) before now

@@ -74,8 +74,8 @@ fn infeasible<F: Files>(
 }
 
 /// Reads a program, writes the reduced one and its records; or its ray, where it has no feasible point and a ray is asked for; nothing where
-/// it has none of least cost, or duals are asked for and a column has to be whole or is semi-continuous. All that is written and printed is made before the first write. The gate
-/// is called by workers that race, and the onlooker is told of the rounds.
+/// it has none of least cost, or duals are asked for and a column has to be whole or is semi-continuous. All that is written and printed is made before the first write.
+/// The program's text is held for its ray alone. The gate is called by workers that race, and the onlooker is told of the rounds.
 pub fn presolve<R: Threads + Wait + Sync, F: Files, G: Gate, O: Onlooker>(
     rt: &R,
     alloc: Global,
@@ -91,7 +91,7 @@ pub fn presolve<R: Threads + Wait + Sync, F: Files, G: Gate, O: Onlooker>(
     ensures ends { IfOk result (λ e. EndsPresolve (names_of words.now) (status_of e) (text_of e) (F.moment files.old) (F.moment files.new)) }
     ensures no_memory { OnErr result (IsQuiet (F.moment files.old) (F.moment files.new)) }
 {
-    let text = match files.read(alloc, words.input, INPUT_LIMIT) {
+    let mut text = match files.read(alloc, words.input, INPUT_LIMIT) {
         Ok(text) => text,
         Err(ReadErr::Failed) => return Ok(Ending::ReadFault),
         Err(ReadErr::TooLong) => {
@@ -99,11 +99,15 @@ pub fn presolve<R: Threads + Wait + Sync, F: Files, G: Gate, O: Onlooker>(
         }
         Err(ReadErr::NoMemory) => return Err(AllocError),
     };
-    let texts = match reduce(rt, alloc, &text, words.options, gate, onlooker) {
+    let keeps = words.ray.is_some();
+    let texts = match reduce(rt, alloc, &mut text, keeps, words.options, gate, onlooker) {
         Ok(texts) => texts,
         Err(NotReduced::Fault(fault)) => return Ok(Ending::Refused(fault_line(alloc, fault)?)),
         Err(NotReduced::NotContinuous(line)) => return Ok(Ending::Refused(line)),
         Err(NotReduced::Infeasible(decided)) => {
+            if !keeps {
+                return Ok(Ending::Infeasible);
+            }
             return infeasible(alloc, words, &text, &decided, files);
         }
         Err(NotReduced::UnboundedOrInfeasible) => return Ok(Ending::UnboundedOrInfeasible),

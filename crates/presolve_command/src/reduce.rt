@@ -158,7 +158,17 @@ fn reduce_taken<R: Threads + Wait + Sync, G: Gate, O: Onlooker>(
     }
 }
 
-/// Reads a program, reduces it by as many reductions as the limit allows, and makes the texts of what is left.
+/// Lets a text go, unless it is kept.
+fn let_go(alloc: Global, text: &mut Vec<u8>, keeps: bool)
+    ensures { keeps ≡ true → text.new ≡ text.old }
+{
+    if !keeps {
+        *text = Vec::new(alloc);
+    }
+}
+
+/// Reads a program, reduces it by as many reductions as the limit allows, and makes the texts of what is left. Its text is let go once it is
+/// read, unless it is to be kept.
 ///
 /// # Errors
 /// The first fault of the text, the first column that has to be whole where duals are asked for, that the program has no feasible point,
@@ -166,15 +176,17 @@ fn reduce_taken<R: Threads + Wait + Sync, G: Gate, O: Onlooker>(
 pub fn reduce<R: Threads + Wait + Sync, G: Gate, O: Onlooker>(
     rt: &R,
     alloc: Global,
-    text: &[u8],
+    text: &mut Vec<u8>,
+    keeps: bool,
     options: PresolveOptions,
     gate: &G,
     onlooker: &mut O,
 ) -> Result<Texts, NotReduced>
-    requires few_bytes { length text.now < 2 ^ 32 }
+    requires few_bytes { length text.old.items < 2 ^ 32 }
     requires some_threads { 1 ≤ options.threads }
     requires few_threads { options.threads ≤ MOST_THREADS }
-    ensures { IsReduced options text.now result }
+    ensures reduced { IsReduced options text.old.items result }
+    ensures kept { keeps ≡ true → text.new ≡ text.old }
 {
     let form = form_of(options);
     let told = Options {
@@ -184,7 +196,10 @@ pub fn reduce<R: Threads + Wait + Sync, G: Gate, O: Onlooker>(
     };
     let workers = Workers::new(options.threads, options.ordered);
     match read_program(alloc, text, form) {
-        Ok(program) => reduce_taken(rt, alloc, program, &told, &workers, gate, onlooker),
+        Ok(program) => {
+            let_go(alloc, text, keeps);
+            reduce_taken(rt, alloc, program, &told, &workers, gate, onlooker)
+        }
         Err(ProgramError::Fault(fault)) => Err(NotReduced::Fault(fault)),
         Err(ProgramError::NoMemory) => Err(NotReduced::NoMemory),
     }

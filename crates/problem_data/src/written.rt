@@ -43,7 +43,7 @@ fn live_rows(
     requires sides { length sides.now ≡ length originals.now }
     ensures { IfOk result (λ rows. rows.items ≡ written_rows originals.now lines.now sides.now) }
 {
-    let mut rows = Vec::new(alloc);
+    let mut rows = Vec::with_capacity(alloc, originals.len())?;
     for i in 0..originals.len() {
         keep_row(&mut rows, alloc, &originals[i], &lines[i], &sides[i])?;
     }
@@ -111,7 +111,7 @@ impl ProblemData {
         ensures { IfOk result (λ columns. columns.items ≡ written_columns sense self.now.matrix.rows originals.now self.now.matrix.columns self.now.bounds self.now.costs) }
     {
         self.is_sparse();
-        let mut columns = Vec::new(alloc);
+        let mut columns = Vec::with_capacity(alloc, originals.len())?;
         for j in 0..originals.len() {
             self.keep_column(&mut columns, alloc, sense, &originals[j], ids, j)?;
         }

@@ -1,13 +1,14 @@
-use Rattle.std.proofs.Common.{Some, refl, inl, inr}
+use Rattle.std.proofs.Common.{Some, None, refl, inl, inr}
 use Rattle.std.proofs.lemmas.Result.{IfOk-weaker}
 use Rattle.command_words.specs.Seen.{names_of}
 use Rattle.endings.specs.Forms.{form_of}
+use Rattle.endings.specs.declared.ending.Ending.TheVariants.{Infeasible}
 use Rattle.endings.specs.declared.reads.TheConstants.{INPUT_LIMIT}
 use Rattle.endings.proofs.Earlier.{finds_there, program_read}
 use Rattle.presolve_command.specs.Presolved.{IsMadeOf}
 use Rattle.presolve_command.specs.Texts.{TextIsNotTaken, TextIsUnboundedOrInfeasible}
 use Rattle.presolve_command.proofs.Before.{fails_earlier, others_earlier, written_earlier}
-use Rattle.presolve_command.proofs.Proved.{infeasible_ends}
+use Rattle.presolve_command.proofs.Proved.{infeasible_ends, shown_kept, unasked}
 use Rattle.presolve_command.proofs.Made.{infeasible_said, not_taken_said, said_read, unbounded_said}
 use Rattle.presolve_command.proofs.command.presolve.Goals as goal
 
@@ -17,11 +18,11 @@ returns-in-Ok-write_both-clause-ends g c =
     let before = g.F.Files.moment c.args.files.now in
     let between = g.F.Files.moment c.read.new.self in
     let now = g.F.Files.moment c.write_both.new.files in
-    let reduced = c.in-Ok-reduce.ensures in
+    let reduced = c.in-Ok-reduce.ensures.reduced in
     let texts = c.in-Ok-reduce.texts in
     let made : IsMadeOf names texts.program.items texts.records.items texts.report.items before = record {
       outcome = reduced.0;
-      source = program_read INPUT_LIMIT (before.told names.input) (form_of names.options) (form_of names.options) c.in-Ok.text.items _ reduced.0.source c.in-Ok.ensures.bytes c.in-Ok.ensures.most refl c.deref.ensures.value reduced.1;
+      source = program_read INPUT_LIMIT (before.told names.input) (form_of names.options) (form_of names.options) c.in-Ok.text.items _ reduced.0.source c.in-Ok.ensures.bytes c.in-Ok.ensures.most refl refl reduced.1;
       concluded = reduced.2;
     } in
     record {
@@ -42,11 +43,11 @@ returns-clause-ends g c =
     let before = g.F.Files.moment c.args.files.now in
     let between = g.F.Files.moment c.read.new.self in
     let now = g.F.Files.moment c.write_both.new.files in
-    let reduced = c.in-Ok-reduce.ensures in
+    let reduced = c.in-Ok-reduce.ensures.reduced in
     let texts = c.in-Ok-reduce.texts in
     let made : IsMadeOf names texts.program.items texts.records.items texts.report.items before = record {
       outcome = reduced.0;
-      source = program_read INPUT_LIMIT (before.told names.input) (form_of names.options) (form_of names.options) c.in-Ok.text.items _ reduced.0.source c.in-Ok.ensures.bytes c.in-Ok.ensures.most refl c.deref.ensures.value reduced.1;
+      source = program_read INPUT_LIMIT (before.told names.input) (form_of names.options) (form_of names.options) c.in-Ok.text.items _ reduced.0.source c.in-Ok.ensures.bytes c.in-Ok.ensures.most refl refl reduced.1;
       concluded = reduced.2;
     } in
     record {
@@ -56,21 +57,36 @@ returns-clause-ends g c =
 
 pub infeasible-requires-clause-decided : goal.infeasible-requires-clause-decided
 infeasible-requires-clause-decided g c =
-    infeasible_said c.args.words.now.options c.deref.result.now c.deref-in-Err-Infeasible.result.now c.in-Ok.text.items c.in-Err-Infeasible.field-0 c.in-Err-Infeasible.decided c.in-Err-Infeasible.field-0-is
-    c.deref.ensures.value c.deref-in-Err-Infeasible.ensures.value c.in-Err-Infeasible.ensures
+    infeasible_said c.args.words.now.options c.in-Ok.text.items c.deref.result.now c.in-Ok.text.items c.in-Err-Infeasible.field-0 c.in-Err-Infeasible.decided c.in-Err-Infeasible.field-0-is
+    refl (shown_kept c.deref.result.now c.reduce.new.text c.in-Ok.text c.deref.ensures.value (c.in-Err-Infeasible.ensures.kept c.if-not-keeps.false)) c.in-Err-Infeasible.ensures.reduced
+
+pub returns-then-not-keeps-clause-ends : goal.returns-then-not-keeps-clause-ends
+returns-then-not-keeps-clause-ends g c =
+    let names = names_of c.args.words.now in
+    let before = g.F.Files.moment c.args.files.now in
+    let between = g.F.Files.moment c.read.new.self in
+    let held = c.in-Ok.text.items in
+    record {
+      says = infeasible_ends names before between between held held _ _ Infeasible None (unasked c.args.words.now.ray c.is_some-keeps.result c.is_some-keeps.ensures c.if-not-keeps.true) c.read.ensures.kept c.read.ensures.writes_stay c.in-Ok.ensures.bytes
+          c.in-Ok.ensures.most refl
+          (infeasible_said c.args.words.now.options held held held c.in-Err-Infeasible.field-0 c.in-Err-Infeasible.decided c.in-Err-Infeasible.field-0-is refl refl c.in-Err-Infeasible.ensures.reduced)
+          refl;
+      read = λ a b. finds_there INPUT_LIMIT names.input before before (Some held) (c.in-Ok.ensures.bytes, c.in-Ok.ensures.most);
+    }
 
 pub returns-in-Err-Infeasible-clause-ends : goal.returns-in-Err-Infeasible-clause-ends
 returns-in-Err-Infeasible-clause-ends g c =
     let names = names_of c.args.words.now in
     let before = g.F.Files.moment c.args.files.now in
-    let shown = c.deref-in-Err-Infeasible.result.now in
+    let held = c.in-Ok.text.items in
+    let shown = c.deref.result.now in
+    let same = shown_kept shown c.reduce.new.text c.in-Ok.text c.deref.ensures.value (c.in-Err-Infeasible.ensures.kept c.if-not-keeps.false) in
     IfOk-weaker c.infeasible.result _ _ (λ e ends. record {
-      says = infeasible_ends names before (g.F.Files.moment c.read.new.self) (g.F.Files.moment c.infeasible.new.files) c.in-Ok.text.items shown _ _ e names.ray refl c.read.ensures.kept c.read.ensures.writes_stay c.in-Ok.ensures.bytes
-          c.in-Ok.ensures.most c.deref-in-Err-Infeasible.ensures.value
-          (infeasible_said c.args.words.now.options c.deref.result.now shown c.in-Ok.text.items c.in-Err-Infeasible.field-0 c.in-Err-Infeasible.decided c.in-Err-Infeasible.field-0-is c.deref.ensures.value
-          c.deref-in-Err-Infeasible.ensures.value c.in-Err-Infeasible.ensures)
+      says = infeasible_ends names before (g.F.Files.moment c.read.new.self) (g.F.Files.moment c.infeasible.new.files) held shown _ _ e names.ray refl c.read.ensures.kept c.read.ensures.writes_stay c.in-Ok.ensures.bytes
+          c.in-Ok.ensures.most same
+          (infeasible_said c.args.words.now.options held shown held c.in-Err-Infeasible.field-0 c.in-Err-Infeasible.decided c.in-Err-Infeasible.field-0-is refl same c.in-Err-Infeasible.ensures.reduced)
           ends;
-      read = λ a b. finds_there INPUT_LIMIT names.input before before (Some c.in-Ok.text.items) (c.in-Ok.ensures.bytes, c.in-Ok.ensures.most);
+      read = λ a b. finds_there INPUT_LIMIT names.input before before (Some held) (c.in-Ok.ensures.bytes, c.in-Ok.ensures.most);
     }) c.infeasible.ensures.ends
 
 pub returns-in-Err-UnboundedOrInfeasible-clause-ends : goal.returns-in-Err-UnboundedOrInfeasible-clause-ends
@@ -79,8 +95,8 @@ returns-in-Err-UnboundedOrInfeasible-clause-ends g c =
     let before = g.F.Files.moment c.args.files.now in
     record {
       says = (
-        said_read (λ t. TextIsUnboundedOrInfeasible names.options t) INPUT_LIMIT (before.told names.input) c.in-Ok.text.items _ c.in-Ok.ensures.bytes c.in-Ok.ensures.most c.deref.ensures.value
-            (unbounded_said c.args.words.now.options c.deref.result.now c.in-Err-UnboundedOrInfeasible.field-0 c.in-Err-UnboundedOrInfeasible.field-0-is c.in-Err-UnboundedOrInfeasible.ensures),
+        said_read (λ t. TextIsUnboundedOrInfeasible names.options t) INPUT_LIMIT (before.told names.input) c.in-Ok.text.items _ c.in-Ok.ensures.bytes c.in-Ok.ensures.most refl
+            (unbounded_said c.args.words.now.options c.in-Ok.text.items c.in-Err-UnboundedOrInfeasible.field-0 c.in-Err-UnboundedOrInfeasible.field-0-is c.in-Err-UnboundedOrInfeasible.ensures.reduced),
         c.read.ensures.kept,
         refl,
       );
@@ -94,8 +110,8 @@ returns-in-Err-NotContinuous-clause-ends g c =
     let line = c.in-Err-NotContinuous.line in
     record {
       says = (
-        inr (said_read (λ t. TextIsNotTaken names.options t line.items) INPUT_LIMIT (before.told names.input) c.in-Ok.text.items _ c.in-Ok.ensures.bytes c.in-Ok.ensures.most c.deref.ensures.value
-            (not_taken_said c.args.words.now.options c.deref.result.now c.in-Err-NotContinuous.field-0 line c.in-Err-NotContinuous.field-0-is c.in-Err-NotContinuous.ensures)),
+        inr (said_read (λ t. TextIsNotTaken names.options t line.items) INPUT_LIMIT (before.told names.input) c.in-Ok.text.items _ c.in-Ok.ensures.bytes c.in-Ok.ensures.most refl
+            (not_taken_said c.args.words.now.options c.in-Ok.text.items c.in-Err-NotContinuous.field-0 line c.in-Err-NotContinuous.field-0-is c.in-Err-NotContinuous.ensures.reduced)),
         c.read.ensures.kept,
       );
       read = λ a b. finds_there INPUT_LIMIT names.input before before (Some c.in-Ok.text.items) (c.in-Ok.ensures.bytes, c.in-Ok.ensures.most);
