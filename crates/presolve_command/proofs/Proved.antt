@@ -1,11 +1,9 @@
 -- What is said where a program has no feasible point.
-use Rattle.std.proofs.Common.{◌≡◌, ◌≤◌, ◌∙◌, ℕ, Bool, false, List, length, inl, inr, Option, Some, None, is_some, Bor, Vec, Global, refl, sym, ap, subst}
+use Rattle.std.proofs.Common.{◌≡◌, ◌≤◌, ◌∙◌, ℕ, Bool, false, true≢false, List, length, inl, inr, Option, Some, None, is_some, Bor, Vec, Global, refl, sym, ap, subst}
 use Rattle.std.specs.Option.{option_map}
-use Rattle.file_ports.specs.Ports.{Moment, Told, Gives, KeepsOthers, NeverFall, Written}
+use Rattle.file_ports.specs.Ports.{Moment, Gives, NeverFall}
 use Rattle.command_words.specs.Names.{PresolveNames}
-use Rattle.command_words.specs.declared.words.PresolveOptions.{PresolveOptions}
 use Rattle.endings.specs.Ending.{infeasible_line, status_of, text_of}
-use Rattle.endings.specs.Moments.{IsQuiet}
 use Rattle.endings.specs.declared.ending.Ending.{Ending}
 use Rattle.endings.specs.declared.ending.Ending.TheVariants.{Done, Usage, Refused, ReadFault, WriteFault, NoMemory, NoRoom, RecordsRefused, SolutionRefused, Violated, Spent, Infeasible, RayPast, UnboundedOrInfeasible, Unbounded}
 use Rattle.endings.specs.declared.reads.TheConstants.{INPUT_LIMIT}
@@ -17,16 +15,16 @@ use Rattle.presolve_command.specs.Texts.{TextHasRay, TextIsInfeasible, TextIsInf
 use Rattle.presolve_command.proofs.Before.{fails_at_earlier, only_earlier, written_earlier}
 use Rattle.presolve_command.proofs.Made.{said_read}
 
--- by its status
 -- no ray is asked for
 pub unasked : (r : Option (Bor (List ℕ))) (asks : Bool) → asks ≡ is_some r → asks ≡ false → option_map (λ (n : Bor (List ℕ)). n.now) r ≡ None
-unasked None asks is no = refl
-unasked (Some n) asks is no = grind (is, no)
+unasked None asks is denied = refl
+unasked (Some n) asks is denied = absurd (true≢false (sym is ∙ denied))
 
 -- a text that was kept is shown as it was
 pub shown_kept : (shown : List ℕ) (now held : Vec ℕ Global) → shown ≡ now.items → now ≡ held → shown ≡ held.items
 shown_kept shown now held is same = is ∙ ap (λ (text : Vec ℕ Global). text.items) same
 
+-- by its status
 pub infeasible_ends : (names : PresolveNames) (before between now : Moment) (held text : List ℕ) (history : List Reduction) (verdict : Verdict) (ending : Ending) (ray : Option (List ℕ)) → names.ray ≡ ray
     → between.told ≡ before.told → NeverFall before.writes between.writes → Gives (before.told names.input) held → length held ≤ INPUT_LIMIT → text ≡ held
     → TextIsInfeasibleBy names.options text history verdict → EndsInfeasible names.options text ray ending between now → SaysPresolve names (status_of ending) (text_of ending) before now

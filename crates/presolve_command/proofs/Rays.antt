@@ -1,6 +1,6 @@
 -- The ray of a text's program that has no feasible point.
 use Rattle.std.proofs.Common.{◌≡◌, ℕ, List, Option, Some, ap, sym, subst, Bor, Vec, Global}
-use Rattle.std.specs.Prelude.{Result, Err, IsErrOf}
+use Rattle.std.specs.Prelude.{Err, IsErrOf}
 use Rattle.std.specs.Option.{option_map}
 use Rattle.file_ports.specs.Ports.{Moment, KeepsOthers, Written}
 use Rattle.fractions.specs.declared.Numbers.{Numbers}

@@ -1,5 +1,4 @@
 use Rattle.std.proofs.Common.{refl, sym}
-use Rattle.command_words.specs.Seen.{names_of}
 use Rattle.presolve_command.proofs.Rays.{asked, end_of, ends_past, ends_unwritten, ends_written, error_is, has_ray, lacks_ray}
 use Rattle.presolve_command.proofs.command.infeasible.Goals as goal
 
