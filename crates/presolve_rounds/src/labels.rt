@@ -1,4 +1,4 @@
-//! The records of what was reduced.
+//! The problem that is left, and the records of what was reduced.
 
 ghost use Rattle.std.specs.Prelude.{◌≡◌, length, IfOk};
 ghost use Rattle.lp_model.specs.Names.{names_of_columns, names_of_rows};
@@ -13,6 +13,7 @@ use entry_lines::Lines;
 use lp_model::{ColumnDef, RowDef};
 use problem_data::in_sense;
 use round_marks::txn_book::Book;
+use sparse_problem::Problem;
 use std::alloc::{AllocError, Global};
 use undo_records::{Label, Records};
 
@@ -52,16 +53,19 @@ fn column_labels(
     Ok(labels)
 }
 
-/// The records of a book that was opened with a program's problem, which undo duals too where that is asked for.
-pub fn records_of(
-    alloc: Global,
-    source: &Source,
-    dual: bool,
-    book: Book,
-) -> Result<Records, AllocError>
+/// What is left of a book: the problem, and the records of what was reduced.
+#[derive(Drop)]
+pub struct Left {
+    pub problem: Problem,
+    pub records: Records,
+}
+
+/// The problem and the records of a book that was opened with a program's problem, which undo duals too where that is asked for.
+pub fn left_of(alloc: Global, source: &Source, dual: bool, book: Book) -> Result<Left, AllocError>
     requires kept { IsKept source.now }
     requires start { IsProblemOf source.now.given book.start }
-    ensures { IfOk result (IsToldOf dual source.now.given book) }
+    ensures problem { IfOk result (λ left. left.problem ≡ book.problem) }
+    ensures told { IfOk result (λ left. IsToldOf dual source.now.given book left.records) }
 {
     book.stands();
     let program = source.kept();
@@ -70,7 +74,7 @@ pub fn records_of(
     let columns = column_labels(alloc, program.columns(), &book.problem().columns())?;
     let offset = in_sense(program.sense(), &book.problem().offset());
     let ended = book.close();
-    Ok(Records::new(
+    let records = Records::new(
         program.sense(),
         dual,
         columns,
@@ -78,5 +82,9 @@ pub fn records_of(
         offset,
         ended.records,
         ended.transactions,
-    ))
+    );
+    Ok(Left {
+        problem: ended.problem,
+        records,
+    })
 }

@@ -12,7 +12,7 @@ ghost use Rattle.presolve_rounds.specs.Conclusions.{Concludes};
 ghost use Rattle.presolve_rounds.specs.Running.{EndsWith};
 ghost use Rattle.presolve_rounds.specs.Sources.{IsKept};
 
-use crate::labels::records_of;
+use crate::labels::{Left, left_of};
 use crate::onlooker::Onlooker;
 use crate::outcome::{DecidedProgram, Presolved, ReducedProgram};
 use crate::passes::Passes;
@@ -42,30 +42,30 @@ pub fn opened(alloc: Global, program: &Program, options: &Options) -> Result<Boo
 /// What a program was reduced to.
 fn reduced(
     alloc: Global,
-    source: &Source,
+    source: Source,
     dual: bool,
     workers: &Workers,
     book: Book,
     end: End,
 ) -> Result<ReducedProgram, AllocError>
-    requires kept { IsKept source.now }
-    requires ascends { EntriesAscend source.now.given }
-    requires writable { Writable book.numbers source.now.given }
-    requires start { IsProblemOf source.now.given book.start }
+    requires kept { IsKept source }
+    requires ascends { EntriesAscend source.given }
+    requires writable { Writable book.numbers source.given }
+    requires start { IsProblemOf source.given book.start }
     requires end { EndsWith (Some end) book }
     requires few { (j : ℕ) (side : Side) → tightenings book.records j side ≤ 10 }
-    requires runs { IsInOrder workers.now → RunsTo (options_of dual book) source.now.given (Some end) book }
-    ensures { IfOk result (λ made. Concluded (options_of dual book) workers.now source.now.given made.program made.records made.end) }
+    requires runs { IsInOrder workers.now → RunsTo (options_of dual book) source.given (Some end) book }
+    ensures { IfOk result (λ made. Concluded (options_of dual book) workers.now source.given made.program made.records made.end) }
 {
     let _ = workers;
     book.stands();
-    let reduced = book.problem().to_program(alloc, source.kept())?;
-    let records = records_of(alloc, source, dual, book)?;
+    let Left { problem, records } = left_of(alloc, &source, dual, book)?;
     let _name = source.kept().objective();
-    let _left = reduced.objective();
+    let program = problem.into_program(alloc, source.into_kept())?;
+    let _left = program.objective();
     records.is_named();
     Ok(ReducedProgram {
-        program: reduced,
+        program,
         records,
         end,
     })
@@ -118,21 +118,21 @@ fn concluded(
 /// For want of memory.
 pub fn conclude(
     alloc: Global,
-    source: &Source,
+    source: Source,
     options: &Options,
     workers: &Workers,
     book: Book,
     end: Option<End>,
 ) -> Result<Presolved, AllocError>
-    requires kept { IsKept source.now }
-    requires ascends { EntriesAscend source.now.given }
-    requires writable { Writable options.now.numbers source.now.given }
-    requires start { IsProblemOf source.now.given book.start }
+    requires kept { IsKept source }
+    requires ascends { EntriesAscend source.given }
+    requires writable { Writable options.now.numbers source.given }
+    requires start { IsProblemOf source.given book.start }
     requires opened { options_of options.now.dual book ≡ options.now }
     requires end { EndsWith end book }
     requires few { IfSome end (λ _. (j : ℕ) (side : Side) → tightenings book.records j side ≤ 10) }
-    requires runs { IsInOrder workers.now → RunsTo options.now source.now.given end book }
-    ensures { IfOk result (λ made. Concludes options.now workers.now source.now.given made) }
+    requires runs { IsInOrder workers.now → RunsTo options.now source.given end book }
+    ensures { IfOk result (λ made. Concludes options.now workers.now source.given made) }
 {
     match end {
         Some(end) => {
@@ -140,8 +140,8 @@ pub fn conclude(
             Ok(Presolved::Reduced(made))
         }
         None => {
-            let made = decided(source, options.dual, workers, book);
-            Ok(concluded(source, options, workers, made))
+            let made = decided(&source, options.dual, workers, book);
+            Ok(concluded(&source, options, workers, made))
         }
     }
 }
@@ -171,5 +171,5 @@ pub fn presolve_by<P: Passes, O: Onlooker>(
     let end = run_by(alloc, passes, &mut book, onlooker)?;
     // The law on ten tightenings asks that the limit fits its type.
     let _ = book.limit();
-    conclude(alloc, &source, options, workers, book, end)
+    conclude(alloc, source, options, workers, book, end)
 }

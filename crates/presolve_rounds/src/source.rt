@@ -34,6 +34,13 @@ impl Source {
     {
         &self.kept
     }
+
+    /// What is kept of it, without a copy.
+    pub fn into_kept(self) -> Program
+        ensures { result ≡ self.kept }
+    {
+        self.kept
+    }
 }
 
 /// Takes the entries out of a column.

@@ -49,6 +49,17 @@ impl Model for ProblemData {
     ghost invariant = { λ p. IsSparse (record { matrix = record { rows = p.rows.items; columns = p.columns.items }; sides = p.sides.items; bounds = p.bounds.items; costs = p.costs.items; offset = p.offset; constant = p.constant }) };
 }
 
+/// What is written of a problem, each list by id, deleted lines among them.
+#[derive(Drop)]
+pub(crate) struct Parts {
+    pub rows: Vec<Line>,
+    pub columns: Vec<Line>,
+    pub sides: Vec<Sides>,
+    pub bounds: Vec<Bounds>,
+    /// In the minimizing sense.
+    pub costs: Vec<Frac>,
+}
+
 impl ProblemData {
     /// The problem of these parts.
     pub(crate) fn new(
@@ -71,6 +82,24 @@ impl ProblemData {
             costs,
             offset,
             constant,
+        }
+    }
+
+    /// Its rows, columns, sides, bounds and costs, without a copy.
+    pub(crate) fn into_parts(self) -> Parts
+        ensures rows { result.rows.items ≡ self.matrix.rows }
+        ensures columns { result.columns.items ≡ self.matrix.columns }
+        ensures sides { result.sides.items ≡ self.sides }
+        ensures bounds { result.bounds.items ≡ self.bounds }
+        ensures costs { result.costs.items ≡ self.costs }
+        ensures sparse { IsSparse self }
+    {
+        Parts {
+            rows: self.rows,
+            columns: self.columns,
+            sides: self.sides,
+            bounds: self.bounds,
+            costs: self.costs,
         }
     }
 

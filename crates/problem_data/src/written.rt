@@ -1,30 +1,37 @@
 //! Programs of problems.
 
-ghost use Rattle.std.specs.Prelude.{◌≡◌, ◌<◌, ◌++◌, ◌∷◌, [], length, if◌then◌else◌, IfOk, OnOk};
-ghost use Rattle.problem_model.specs.Problems.{bounds_at, column_at, cost_at};
+ghost use Rattle.std.specs.Prelude.{◌≡◌, ◌<◌, ◌++◌, ◌∷◌, ◌^◌, [], length, if◌then◌else◌, IfOk, OnOk};
 ghost use Rattle.problem_model.specs.Programs.{written_column, written_columns, written_program, written_rows};
 ghost use Rattle.entry_lines.specs.Ranks.{AreRanks};
 
 use crate::made::in_sense;
-use crate::problem::ProblemData;
+use crate::problem::{Parts, ProblemData};
 use entry_lines::{new_ids, renumber};
+use fractions::frac::Frac;
 use lp_model::{ColumnDef, Program, RowDef, Sense};
-use problem_model::{Line, Sides};
+use problem_model::{Bounds, Line, Sides};
 use std::alloc::{AllocError, Global};
+
+/// What columns are written for: the file's sense, and the rows with their new ids.
+#[derive(Drop)]
+struct Target<'a> {
+    sense: Sense,
+    rows: &'a [Line],
+    ids: &'a [u32],
+}
 
 /// Adds a row with its present sides if its line is live.
 fn keep_row(
     rows: &mut Vec<RowDef>,
-    alloc: Global,
-    original: &RowDef,
+    original: RowDef,
     line: &Line,
     sides: &Sides,
 ) -> Result<(), AllocError>
-    ensures { OnOk result (rows.new.items ≡ rows.old.items ++ (if line.now.live then record original.now { lower = sides.now.lower; upper = sides.now.upper } ∷ [] else [])) }
+    ensures { OnOk result (rows.new.items ≡ rows.old.items ++ (if line.now.live then record original { lower = sides.now.lower; upper = sides.now.upper } ∷ [] else [])) }
 {
     if line.live {
         rows.push(RowDef {
-            name: original.name.copy(alloc)?,
+            name: original.name,
             lower: sides.lower,
             upper: sides.upper,
         })?;
@@ -35,112 +42,138 @@ fn keep_row(
 /// The live rows, with their present sides.
 fn live_rows(
     alloc: Global,
-    originals: &[RowDef],
+    originals: Vec<RowDef>,
     lines: &[Line],
     sides: &[Sides],
 ) -> Result<Vec<RowDef>, AllocError>
-    requires lines { length lines.now ≡ length originals.now }
-    requires sides { length sides.now ≡ length originals.now }
-    ensures { IfOk result (λ rows. rows.items ≡ written_rows originals.now lines.now sides.now) }
+    requires { length sides.now ≡ length lines.now }
+    ensures { IfOk result (λ rows. rows.items ≡ written_rows originals.items lines.now sides.now) }
 {
-    let mut rows = Vec::with_capacity(alloc, originals.len())?;
-    for i in 0..originals.len() {
-        keep_row(&mut rows, alloc, &originals[i], &lines[i], &sides[i])?;
+    let mut rows = Vec::with_capacity(alloc, lines.len())?;
+    let mut left = originals.into_iter();
+    for i in 0..lines.len() {
+        if let Some(original) = left.next() {
+            keep_row(&mut rows, original, &lines[i], &sides[i])?;
+        }
     }
     Ok(rows)
 }
 
-impl ProblemData {
-    /// A live column with its present bounds, cost and live entries, by the new ids of the rows.
-    fn present_column(
-        &self,
-        alloc: Global,
-        sense: Sense,
-        original: &ColumnDef,
-        ids: &[u32],
-        j: usize,
-    ) -> Result<ColumnDef, AllocError>
-        requires ids { AreRanks self.now.matrix.rows ids.now }
-        requires inside { j < length self.now.matrix.columns }
-        ensures { IfOk result (λ c. c ≡ written_column sense self.now.matrix.rows original.now (column_at self.now j) (bounds_at self.now j) (cost_at self.now j)) }
-    {
-        let terms = self.columns()[j].entries.as_slice();
-        let entries = renumber(alloc, self.rows(), ids, terms)?;
-        let bounds = self.all_bounds()[j];
-        Ok(ColumnDef {
-            name: original.name.copy(alloc)?,
-            cost: in_sense(sense, &self.costs()[j]),
-            lower: bounds.lower,
-            upper: bounds.upper,
-            whole: bounds.whole,
-            semi: bounds.semi,
-            entries,
-        })
-    }
+/// A live column with its present bounds, cost and live entries, by the new ids of the rows.
+fn present_column(
+    alloc: Global,
+    target: &Target,
+    original: ColumnDef,
+    line: &Line,
+    bounds: &Bounds,
+    cost: &Frac,
+) -> Result<ColumnDef, AllocError>
+    requires { AreRanks target.now.rows.now target.now.ids.now }
+    ensures { IfOk result (λ c. c ≡ written_column target.now.sense target.now.rows.now original line.now bounds.now cost.now) }
+{
+    let entries = renumber(alloc, target.rows, target.ids, line.entries.as_slice())?;
+    Ok(ColumnDef {
+        name: original.name,
+        cost: in_sense(target.sense, cost),
+        lower: bounds.lower,
+        upper: bounds.upper,
+        whole: bounds.whole,
+        semi: bounds.semi,
+        entries,
+    })
+}
 
-    /// Adds a column as it is now if it is live.
-    fn keep_column(
-        &self,
-        columns: &mut Vec<ColumnDef>,
-        alloc: Global,
-        sense: Sense,
-        original: &ColumnDef,
-        ids: &[u32],
-        j: usize,
-    ) -> Result<(), AllocError>
-        requires ids { AreRanks self.now.matrix.rows ids.now }
-        requires inside { j < length self.now.matrix.columns }
-        ensures { OnOk result (columns.new.items ≡ columns.old.items ++ (if (column_at self.now j).live then written_column sense self.now.matrix.rows original.now (column_at self.now j) (bounds_at self.now j) (cost_at self.now j) ∷ [] else [])) }
-    {
-        if self.columns()[j].live {
-            columns.push(self.present_column(alloc, sense, original, ids, j)?)?;
-        }
-        Ok(())
+/// Adds a column as it is now if its line is live.
+fn keep_column(
+    columns: &mut Vec<ColumnDef>,
+    alloc: Global,
+    target: &Target,
+    original: ColumnDef,
+    line: &Line,
+    bounds: &Bounds,
+    cost: &Frac,
+) -> Result<(), AllocError>
+    requires { AreRanks target.now.rows.now target.now.ids.now }
+    ensures { OnOk result (columns.new.items ≡ columns.old.items ++ (if line.now.live then written_column target.now.sense target.now.rows.now original line.now bounds.now cost.now ∷ [] else [])) }
+{
+    if line.live {
+        columns.push(present_column(alloc, target, original, line, bounds, cost)?)?;
     }
+    Ok(())
+}
 
-    /// The live columns, as they are now, by the new ids of the rows.
-    fn live_columns(
-        &self,
-        alloc: Global,
-        sense: Sense,
-        originals: &[ColumnDef],
-        ids: &[u32],
-    ) -> Result<Vec<ColumnDef>, AllocError>
-        requires ids { AreRanks self.now.matrix.rows ids.now }
-        requires long { length originals.now ≡ length self.now.matrix.columns }
-        ensures { IfOk result (λ columns. columns.items ≡ written_columns sense self.now.matrix.rows originals.now self.now.matrix.columns self.now.bounds self.now.costs) }
-    {
-        self.is_sparse();
-        let mut columns = Vec::with_capacity(alloc, originals.len())?;
-        for j in 0..originals.len() {
-            self.keep_column(&mut columns, alloc, sense, &originals[j], ids, j)?;
-        }
-        Ok(columns)
-    }
-
-    /// The program of the live rows and columns, with new ids in the same order. Names, sense, objective and constant are those of
-    /// the program that the problem was made of.
-    pub fn to_program(&self, alloc: Global, original: &Program) -> Result<Program, AllocError>
-        requires rows { length original.now.rows ≡ length self.now.matrix.rows }
-        requires columns { length original.now.columns ≡ length self.now.matrix.columns }
-        ensures { IfOk result (λ r. r ≡ written_program original.now self.now) }
-    {
-        self.is_sparse();
-        let objective = original.objective().copy(alloc)?;
-        let rows = live_rows(alloc, original.rows(), self.rows(), self.all_sides())?;
-        let ids = new_ids(alloc, self.rows())?;
-        let columns = self.live_columns(
+/// The live columns, as they are now, by the new ids of the rows. Each line is let go once its column is made.
+fn live_columns(
+    alloc: Global,
+    target: &Target,
+    originals: Vec<ColumnDef>,
+    lines: Vec<Line>,
+    bounds: &[Bounds],
+    costs: &[Frac],
+) -> Result<Vec<ColumnDef>, AllocError>
+    requires ranks { AreRanks target.now.rows.now target.now.ids.now }
+    requires costs { length costs.now ≡ length bounds.now }
+    ensures { IfOk result (λ columns. columns.items ≡ written_columns target.now.sense target.now.rows.now originals.items lines.items bounds.now costs.now) }
+{
+    let mut columns = Vec::with_capacity(alloc, bounds.len())?;
+    let mut originals = originals.into_iter();
+    let mut lines = lines.into_iter();
+    for j in 0..bounds.len() {
+        let Some(original) = originals.next() else {
+            return Ok(columns);
+        };
+        let Some(line) = lines.next() else {
+            return Ok(columns);
+        };
+        keep_column(
+            &mut columns,
             alloc,
-            original.sense(),
-            original.columns(),
-            ids.as_slice(),
+            target,
+            original,
+            &line,
+            &bounds[j],
+            &costs[j],
         )?;
-        Ok(Program::new(
-            original.sense(),
-            objective,
-            original.constant(),
-            rows,
-            columns,
-        ))
+    }
+    Ok(columns)
+}
+
+impl ProblemData {
+    /// The program of the live rows and columns, with new ids in the same order. Names, sense, objective and constant are those of
+    /// the program that the problem was made of, and are not copied. Both are gone.
+    pub fn into_program(self, alloc: Global, original: Program) -> Result<Program, AllocError>
+        ensures { IfOk result (λ r. r ≡ written_program original self) }
+    {
+        let Parts {
+            rows: row_lines,
+            columns: column_lines,
+            sides,
+            bounds,
+            costs,
+        } = self.into_parts();
+        let sense = original.sense();
+        let constant = original.constant();
+        let (objective, row_defs, column_defs) = original.into_parts();
+        let rows = live_rows(
+            alloc,
+            row_defs.into_vec(),
+            row_lines.as_slice(),
+            sides.as_slice(),
+        )?;
+        let ids = new_ids(alloc, row_lines.as_slice())?;
+        let target = Target {
+            sense,
+            rows: row_lines.as_slice(),
+            ids: ids.as_slice(),
+        };
+        let columns = live_columns(
+            alloc,
+            &target,
+            column_defs.into_vec(),
+            column_lines,
+            bounds.as_slice(),
+            costs.as_slice(),
+        )?;
+        Ok(Program::new(sense, objective, constant, rows, columns))
     }
 }

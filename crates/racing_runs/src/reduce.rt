@@ -39,7 +39,7 @@ fn presolve_racing<R: Threads + Wait + Sync, G: Gate, O: Onlooker>(
     let run = run_racing(rt, alloc, book, gate, workers.threads(), onlooker);
     onlooker.after_run();
     let (left, end) = run?;
-    conclude(alloc, &source, options, workers, left, end)
+    conclude(alloc, source, options, workers, left, end)
 }
 
 /// Reduces a program by the rules that there are, until it is decided, or no rule is left that could be applied, or the limit is reached. Where

@@ -74,13 +74,11 @@ impl Problem {
     }
 
     /// The program of the live rows and columns, with new ids in the same order. Names, sense, objective and constant are those of
-    /// the program that the problem was made of.
-    pub fn to_program(&self, alloc: Global, original: &Program) -> Result<Program, AllocError>
-        requires rows { length original.now.rows ≡ length self.now.matrix.rows }
-        requires columns { length original.now.columns ≡ length self.now.matrix.columns }
-        ensures { IfOk result (λ r. r ≡ written_program original.now self.now) }
+    /// the program that the problem was made of, and are not copied. Both are gone.
+    pub fn into_program(self, alloc: Global, original: Program) -> Result<Program, AllocError>
+        ensures { IfOk result (λ r. r ≡ written_program original self) }
     {
-        self.parts.to_program(alloc, original)
+        self.parts.into_program(alloc, original)
     }
 
     /// What is kept of a row.

@@ -12,7 +12,7 @@ use Rattle.presolve_rounds.specs.Running.{EndsWith}
 use Rattle.presolve_rounds.proofs.reduce.conclude.Goals as goal
 
 pub reduced-requires-clause-writable : goal.reduced-requires-clause-writable
-reduced-requires-clause-writable c = subst (λ (n : Numbers). Writable n c.args.source.now.given) (sym (ap (λ (o : Options). o.numbers) c.requires.opened)) c.requires.writable
+reduced-requires-clause-writable c = subst (λ (n : Numbers). Writable n c.args.source.given) (sym (ap (λ (o : Options). o.numbers) c.requires.opened)) c.requires.writable
 
 pub reduced-requires-clause-end : goal.reduced-requires-clause-end
 reduced-requires-clause-end c = subst (λ (o : Option End). EndsWith o c.args.book) c.in-Some.is c.requires.end
@@ -22,21 +22,21 @@ reduced-requires-clause-few c = subst (λ (o : Option End). IfSome o (λ _. (j :
 
 pub reduced-requires-clause-runs : goal.reduced-requires-clause-runs
 reduced-requires-clause-runs c = λ in_order.
-    subst (λ (o : Options). RunsTo o c.args.source.now.given (Some c.in-Some.end) c.args.book) (sym c.requires.opened)
-    (subst (λ (e : Option End). RunsTo c.args.options.now c.args.source.now.given e c.args.book) c.in-Some.is (c.requires.runs in_order))
+    subst (λ (o : Options). RunsTo o c.args.source.given (Some c.in-Some.end) c.args.book) (sym c.requires.opened)
+    (subst (λ (e : Option End). RunsTo c.args.options.now c.args.source.given e c.args.book) c.in-Some.is (c.requires.runs in_order))
 
 pub returns-in_ok-made-in-Some : goal.returns-in_ok-made-in-Some
 returns-in_ok-made-in-Some c =
     let made = c.in_ok-made-in-Some.made in
-    subst (λ (o : Options). Concluded o c.args.workers.now c.args.source.now.given made.program made.records made.end) c.requires.opened c.in_ok-made-in-Some.ensures
+    subst (λ (o : Options). Concluded o c.args.workers.now c.args.source.given made.program made.records made.end) c.requires.opened c.in_ok-made-in-Some.ensures
 
 pub decided-made-requires-clause-decided : goal.decided-made-requires-clause-decided
 decided-made-requires-clause-decided c = subst (λ (o : Option End). EndsWith o c.args.book) c.in-None.is c.requires.end
 
 pub decided-made-requires-clause-runs : goal.decided-made-requires-clause-runs
 decided-made-requires-clause-runs c = λ in_order.
-    subst (λ (o : Options). RunsTo o c.args.source.now.given None c.args.book) (sym c.requires.opened)
-    (subst (λ (e : Option End). RunsTo c.args.options.now c.args.source.now.given e c.args.book) c.in-None.is (c.requires.runs in_order))
+    subst (λ (o : Options). RunsTo o c.args.source.given None c.args.book) (sym c.requires.opened)
+    (subst (λ (e : Option End). RunsTo c.args.options.now c.args.source.given e c.args.book) c.in-None.is (c.requires.runs in_order))
 
 pub concluded-requires : goal.concluded-requires
-concluded-requires c = subst (λ (o : Options). Decided o c.args.workers.now c.args.source.now.given c.decided-made.result.history.items c.decided-made.result.verdict) c.requires.opened c.decided-made.ensures
+concluded-requires c = subst (λ (o : Options). Decided o c.args.workers.now c.args.source.given c.decided-made.result.history.items c.decided-made.result.verdict) c.requires.opened c.decided-made.ensures

@@ -12,8 +12,8 @@ use Rattle.presolve_model.specs.Telling.{are_live, IsToldOf}
 use Rattle.run_laws.proofs.Telling.{are_told, problem_is_of, told_sound}
 use Rattle.presolve_rounds.specs.Sources.{emptied}
 use Rattle.presolve_rounds.proofs.Sources.{told_kept}
-use Rattle.presolve_rounds.proofs.labels.records_of.Goals as goal
-use Rattle.presolve_rounds.proofs.labels.records_of.Goals.{After-sense-2}
+use Rattle.presolve_rounds.proofs.labels.left_of.Goals as goal
+use Rattle.presolve_rounds.proofs.labels.left_of.Goals.{After-sense-2}
 
 pub row_labels-requires : goal.row_labels-requires
 row_labels-requires c =
@@ -44,21 +44,21 @@ is_told c = told_kept c.args.dual c.args.source.now.given c.args.source.now.kept
   columns = c.in_ok-columns.ensures.live ∙ ap are_live (c.columns-2.ensures ∙ ap (λ (p : Sparse). p.matrix.columns) c.problem-2.ensures);
 })
 
-pub new-requires-clause-sound : goal.new-requires-clause-sound
-new-requires-clause-sound c = told_sound c.args.dual c.args.source.now.given c.args.book (told c) c.requires.start c.stands.ensures.stands (is_told c)
+pub new-records-requires-clause-sound : goal.new-records-requires-clause-sound
+new-records-requires-clause-sound c = told_sound c.args.dual c.args.source.now.given c.args.book (told c) c.requires.start c.stands.ensures.stands (is_told c)
 
-pub new-requires-clause-told : goal.new-requires-clause-told
-new-requires-clause-told c = are_told c.args.dual c.args.source.now.given c.args.book (told c) c.requires.start c.stands.ensures.stands (is_told c)
+pub new-records-requires-clause-told : goal.new-records-requires-clause-told
+new-records-requires-clause-told c = are_told c.args.dual c.args.source.now.given c.args.book (told c) c.requires.start c.stands.ensures.stands (is_told c)
 
-pub new-requires-clause-named : goal.new-requires-clause-named
-new-requires-clause-named c = record {
+pub new-records-requires-clause-named : goal.new-records-requires-clause-named
+new-records-requires-clause-named c = record {
   rows = subst (All IsName) (sym (c.in_ok-rows.ensures.names ∙ ap names_of_rows c.rows.ensures))
       (All-tail IsName c.kept-program.result.now.objective (names_of_rows c.kept-program.result.now.rows) c.objective-name.ensures.named.row_names);
   columns = subst (All IsName) (sym (c.in_ok-columns.ensures.names ∙ ap names_of_columns c.columns.ensures)) c.objective-name.ensures.named.column_names;
 }
 
-pub returns : goal.returns
-returns c =
+pub returns-clause-told : goal.returns-clause-told
+returns-clause-told c =
     let program : ProgramData = c.args.source.now.given in
     let told : Postsolve = record { sense = c.sense-2.result; duals = c.args.dual; columns = c.in_ok-columns.columns.items; rows = c.in_ok-rows.rows.items; offset = c.in_sense-offset.result; undos = c.close-ended.result.records.items; transactions = c.close-ended.result.transactions } in
     let is : IsToldOf c.args.dual c.args.source.now.kept c.args.book told = record {
@@ -72,4 +72,4 @@ returns c =
       rows = c.in_ok-rows.ensures.live ∙ ap are_live (c.rows-2.ensures ∙ ap (λ (p : Sparse). p.matrix.rows) c.problem.ensures);
       columns = c.in_ok-columns.ensures.live ∙ ap are_live (c.columns-2.ensures ∙ ap (λ (p : Sparse). p.matrix.columns) c.problem-2.ensures);
     } in
-    subst (IsToldOf c.args.dual program c.args.book) (sym c.new.ensures) (told_kept c.args.dual program c.args.source.now.kept c.args.book told c.requires.kept is)
+    subst (IsToldOf c.args.dual program c.args.book) (sym c.new-records.ensures) (told_kept c.args.dual program c.args.source.now.kept c.args.book told c.requires.kept is)
