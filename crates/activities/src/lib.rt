@@ -15,7 +15,7 @@ mod spans;
 mod sums;
 
 pub use problem_rows::{greatest, least};
-pub use rests::{entry_of, rest_of};
+pub use rests::{entry_of, is_each_rest_infinite, rest_of};
 pub use row_sums::RowSums;
 
 #[cfg(test)]

@@ -1,6 +1,6 @@
 //! A row without one of its columns: its entry there, and the rest of its activity.
 
-ghost use Rattle.std.specs.Prelude.{◌≡◌, true};
+ghost use Rattle.std.specs.Prelude.{◌≡◌, ℕ, None, Ok, IsTrue, true};
 ghost use Rattle.lp_model.specs.Sparse.{dense};
 ghost use Rattle.problem_model.specs.Problems.{row_at, row_entries};
 ghost use Rattle.row_spans.specs.RowSums.{rest as rest_without};
@@ -36,5 +36,19 @@ pub fn rest_of(problem: &Problem, row: u32, column: u32, extreme: Extreme) -> Re
     match extreme {
         Extreme::Least => least(problem, row, Some(column)),
         Extreme::Greatest => greatest(problem, row, Some(column)),
+    }
+}
+
+/// Whether each rest of a row is infinite, because two of its terms are. `false` where no sums are kept of it.
+pub fn is_each_rest_infinite(problem: &Problem, row: u32, extreme: Extreme) -> bool
+    ensures { IsTrue result → (j : ℕ) → rest_without extreme j (spans_of problem.now row) ≡ Ok None }
+{
+    problem.is_sparse();
+    match problem.kept_sums(row) {
+        None => false,
+        Some(kept) => match extreme {
+            Extreme::Least => kept.least.infinite > 1,
+            Extreme::Greatest => kept.greatest.infinite > 1,
+        },
     }
 }

@@ -1,5 +1,5 @@
 -- K13: what its condition asks and says.
-use Rattle.std.proofs.Common.{◌≡◌, ◌≢◌, ◌⊎◌, inl, inr, ℕ, Bool, true, ◌&&◌, List, [], ◌∷◌, map, Option, Some, sym, ap, ap₂, ◌∙◌}
+use Rattle.std.proofs.Common.{◌≡◌, ◌≢◌, ◌⊎◌, inl, inr, ℕ, Bool, true, false, not, ◌&&◌, List, [], ◌∷◌, map, Option, Some, None, refl, sym, ap, ap₂, ◌∙◌}
 use Rattle.std.specs.Prelude.{if◌then◌else◌}
 use Rattle.std.proofs.lemmas.Bool.{cases_eq, eq-eqb, ne_eqb}
 use Rattle.fractions.specs.Number.{Number}
@@ -17,7 +17,7 @@ use Rattle.activity_laws.specs.BoundTightening.{entry_at}
 use Rattle.activities.specs.Rows.{is_uncrossed}
 use Rattle.activities.proofs.RowLooks.{split}
 use Rattle.column_laws.specs.SoleEntry.{entry_of, is_sole_at}
-use Rattle.column_laws.specs.FreeColumnSingleton.{enabled, is_free_column_singleton}
+use Rattle.column_laws.specs.FreeColumnSingleton.{enabled, is_free, is_free_column_singleton, is_implied, is_implied_at, side_for}
 use Rattle.column_laws.proofs.FreeColumnSingleton.{said}
 use Rattle.column_rules.proofs.SoleEntries.{row_has, sole_of}
 
@@ -38,6 +38,19 @@ found_at p j (t ∷ ts) e = by (cases_eq t.id j) (λ h. found_at p j ts h)
 pub entry_there : (p : Sparse) (j i : ℕ) → IsSparse p → (row_at p i).live ≡ true → (column_at p j).live ≡ true → is_sole_at i (column_entries p j) ≡ true
     → entry_at j (spans_of p i) ≡ Some (span_of p (record { id = j; value = entry_of p j i }))
 entry_there p j i s row column e = found_at p j (row_entries p i) (row_has p j i s row column e)
+
+-- ---- where no value of the row implies the bounds, no side frees the column
+neither : (a b : Bool) → (a && (b && false)) ≡ false
+neither true true = refl
+neither true false = refl
+neither false b = refl
+
+pub never_free : (j : ℕ) (c : Number) (l u : Option Number) (ss : List Span) (s : Span) → ((v : Number) → is_implied j ss s v ≡ false) → is_free j c l u ss (Some s) ≡ false
+never_free j c l u ss s f = ap (λ (b : Bool). not s.whole && (not s.semi && b)) (by (side_for c s.value l u)) ∙ neither (not s.whole) (not s.semi)
+  where
+    by : (side : Option Number) → is_implied_at j ss s side ≡ false
+    by None = refl
+    by (Some v) = f v
 
 -- ---- what the condition asks and says
 pub enabled_is : (p : Sparse) (j i : ℕ) → enabled p j i ≡ (is_uncrossed p i && is_free_column_singleton j i (contents_of p (part.Col j)) (sides_at p i).lower (sides_at p i).upper (spans_of p i))

@@ -1,7 +1,8 @@
 //! K13: a continuous column with one entry, whose bounds its row implies at the side where it is cheapest, leaves with the row.
 
-ghost use Rattle.std.specs.Prelude.{◌≡◌, ◌≢◌, ◌++◌, ◌∷◌, [], Some, true, IfOk, OnOk};
-ghost use Rattle.fractions.specs.Number.{zero_ℚ};
+ghost use Rattle.std.specs.Prelude.{◌≡◌, ◌≢◌, ℕ, ◌++◌, ◌∷◌, [], None, Some, true, false, IfOk, IsTrue, OnOk};
+ghost use Rattle.fractions.specs.Number.{Number, zero_ℚ};
+ghost use Rattle.fractions.specs.Compare.{lt_ℚ};
 ghost use Rattle.fractions.specs.Ends.{same_end};
 ghost use Rattle.lp_substitutions.specs.FreeColumnSingleton.{cheapest_side as cheapest_by};
 ghost use Rattle.problem_model.specs.Parts.{contents_of};
@@ -12,18 +13,20 @@ ghost use Rattle.undo_records.specs.declared.side.Side.TheVariants as side_of_bo
 ghost use Rattle.undo_records.specs.declared.undo.Undo.TheVariants as undone;
 ghost use Rattle.rule_words.specs.Answers.{Changes};
 ghost use Rattle.row_spans.specs.Spans.{span_of, spans_of};
+ghost use Rattle.activities.specs.Rows.{source_of};
 ghost use Rattle.activity_laws.specs.Rows.{keeps_lower as lower_is_kept, keeps_upper as upper_is_kept};
 ghost use Rattle.activity_laws.specs.BoundTightening.{entry_at, implied as implied_by};
 ghost use Rattle.column_laws.specs.SoleEntry.{entry_of, is_sole_at as is_sole_there};
 ghost use Rattle.column_laws.specs.FreeColumnSingleton.{edits, enabled, is_free as is_free_by, is_free_column_singleton as is_free_column_singleton_by, is_implied as is_implied_by, record_of, side_for as side_by, value_of as value_by, Computes};
 
 use crate::sole_entry::{SoleEntry, costs_less, is_sole_at, sole_entry, value_at};
-use activities::rest_of;
 use activities::row_bounds::{left_over, source};
 use activities::rows::{is_uncrossed, keeps_lower, keeps_upper};
+use activities::{is_each_rest_infinite, rest_of};
 use fractions::ext::Ext;
 use fractions::frac::Frac;
 use problem_model::{Edit, Refusal, Sides};
+use row_spans::Extreme;
 use row_spans::exact::quotient;
 use rule_words::Change;
 use sparse_problem::Problem;
@@ -160,7 +163,45 @@ fn is_implied(problem: &Problem, column: u32, row: u32, value: &Frac) -> bool
         && implies_upper(problem, column, row, &entry, value, &bounds.reach_upper())
 }
 
-/// Whether a column is continuous and not semi-continuous, and its bounds are implied at the cheapest side.
+/// The rest from which a bound of a column with this entry follows.
+fn rest_for(side: Side, entry: &Frac) -> Extreme
+    ensures { result ≡ source_of side (lt_ℚ zero_ℚ entry.now) }
+{
+    let is_lower = match side {
+        Side::Lower => entry.is_positive(),
+        Side::Upper => !entry.is_positive(),
+    };
+    if is_lower {
+        Extreme::Greatest
+    } else {
+        Extreme::Least
+    }
+}
+
+/// Whether a finite bound of a column with this entry is implied by no value of its row, because each rest is infinite from which it would
+/// follow. `false` where that is not told.
+fn is_never_implied(problem: &Problem, row: u32, side: Side, entry: &Frac, bound: &Ext) -> bool
+    ensures some { IsTrue result → bound.now ≢ None }
+    ensures none { IsTrue result → (j : ℕ) (value : Number) → implied_by side j entry.now (Some value) (Some value) (spans_of problem.now row) ≡ None }
+{
+    !bound.is_none() && is_each_rest_infinite(problem, row, rest_for(side, entry))
+}
+
+/// Whether the bounds of a column are implied by no value of its row, as far as infinite rests tell.
+fn is_never_free(problem: &Problem, column: u32, row: u32) -> bool
+    requires row { (row_at problem.now row).live ≡ true }
+    requires column { (column_at problem.now column).live ≡ true }
+    requires sole { is_sole_there row (column_entries problem.now column) ≡ true }
+    ensures { IsTrue result → (value : Number) → is_implied_by column (spans_of problem.now row) (span_of problem.now (record { id = column; value = entry_of problem.now column row })) value ≡ false }
+{
+    let bounds = problem.bounds(column);
+    let entry = value_at(problem, column, row);
+    is_never_implied(problem, row, Side::Lower, &entry, &bounds.reach_lower())
+        || is_never_implied(problem, row, Side::Upper, &entry, &bounds.reach_upper())
+}
+
+/// Whether a column is continuous and not semi-continuous, and its bounds are implied at the cheapest side. Infinite rests are looked at before
+/// a number is computed.
 #[tactic(auto, using(crate::proofs::FreeColumnSingletons::entry_there))]
 fn is_free(problem: &Problem, column: u32, row: u32) -> bool
     requires row { (row_at problem.now row).live ≡ true }
@@ -171,6 +212,9 @@ fn is_free(problem: &Problem, column: u32, row: u32) -> bool
     problem.is_sparse();
     let bounds = problem.bounds(column);
     if bounds.whole || bounds.semi {
+        return false;
+    }
+    if is_never_free(problem, column, row) {
         return false;
     }
     match side_of(problem, column, row).number() {
